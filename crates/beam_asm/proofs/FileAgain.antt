@@ -16,16 +16,16 @@ use Rattle.beam_model.specs.declared.opcode.Opcode.{Opcode}
 use Rattle.beam_model.specs.declared.opcode.Opcode.TheVariants as op
 use Rattle.beam_model.specs.Form.{Form, form_body, form_bytes, form_at}
 use Rattle.beam_model.specs.FormLaws.{read_again}
-use Rattle.beam_model.specs.Tables.{Tables, TableFault, TableChunks, tables_bytes, tables_at, form_with, wanted, found, atom_of}
+use Rattle.beam_model.specs.Tables.{Tables, TableFault, TableChunks, tables_bytes, tables_at, form_with, required_chunk, found, atom_of_index}
 use Rattle.beam_model.specs.TablesLaws.{IsReadBack, tables_again}
 use Rattle.beam_model.specs.CodeChunk.{CodeParts, is_end, code_of}
 use Rattle.beam_model.specs.File.{parts_of_form, listing_of_parts, listing_of_form, listing_of_file}
 use Rattle.beam_model.specs.Listing.{Listing, label_by}
 use Rattle.beam_model.specs.SameText.{same_text}
 use Rattle.beam_model.specs.Opcodes.{kinds_of}
-use Rattle.beam_model.specs.Loadable.{Stage, nothing, first_label, informed, body, body_label, behind, behind_first_label, behind_body, behind_body_label, function_at, functions_from, functions_of, are_functions_lawful, all_operands, is_within, are_labels_lawful, are_heads_lawful, are_exports_lawful, are_natives_known, are_limits_kept}
+use Rattle.beam_model.specs.Loadable.{Stage, start, first_label, informed, body, body_label, next_stage, after_first_label, within_body, after_body_label, function_at, functions_from, functions_of, are_functions_lawful, all_operands, is_within, are_labels_lawful, are_heads_lawful, are_exports_lawful, are_natives_known, are_limits_met}
 use Rattle.beam_model.specs.Loads.{IsLoadable}
-use Rattle.beam_model.specs.Assembly.{Numbering, noted, with_term, with_argument, with_operand, with_instruction, numbering_of, code_bytes, code_parts, tables_with, file_with, file_of, HasFile, spelled_instruction, spelled}
+use Rattle.beam_model.specs.Assembly.{Numbering, noted, with_term, with_argument, with_operand, with_instruction, numbering_of, code_bytes, code_parts, tables_with, file_with, file_of, HasFile, without_line_number, without_line_numbers}
 use Rattle.beam_model.specs.Assembly.{are_few_atoms, are_short_atoms}
 use Rattle.beam_check.specs.declared.error.CheckError.{CheckError}
 use Rattle.beam_check.specs.declared.error.CheckError.TheVariants as checks
@@ -79,8 +79,8 @@ instructions_keep name (i ∷ is) n e = instructions_keep name is (with_instruct
 first_atom : (l : Listing) → HasFirst l.name (numbering_of l)
 first_atom l = instructions_keep l.name l.instructions (record { atoms = l.name ∷ []; imports = []; literals = [] }) refl
 
-name_again : (l : Listing) → atom_of (numbering_of l).atoms 1 ≡ Ok l.name
-unfolding atom_of
+name_again : (l : Listing) → atom_of_index (numbering_of l).atoms 1 ≡ Ok l.name
+unfolding atom_of_index
 name_again l = ap found (first_atom l)
 
 -- ---- instructions of a loadable listing
@@ -93,20 +93,20 @@ label_is_no_end : {X : Type 0} (o : Opcode) (os : List Operand) (x : X) (s : X) 
 label_is_no_end op.IntCodeEnd os x s e = absurd cc
 label_is_no_end _ os x s e = refl
 
-first_is_no_end : (name : List ℕ) (o : Opcode) (os : List Operand) (s : Stage) → behind_first_label name o os ≡ Some s → is_end o ≡ false
+first_is_no_end : (name : List ℕ) (o : Opcode) (os : List Operand) (s : Stage) → after_first_label name o os ≡ Some s → is_end o ≡ false
 first_is_no_end name op.IntCodeEnd os s e = absurd cc
 first_is_no_end name _ os s e = refl
 
-body_is_no_end : (o : Opcode) (s : Stage) → behind_body o ≡ Some s → is_end o ≡ false
+body_is_no_end : (o : Opcode) (s : Stage) → within_body o ≡ Some s → is_end o ≡ false
 body_is_no_end op.IntCodeEnd s e = absurd cc
 body_is_no_end _ s e = refl
 
-body_label_is_no_end : (name : List ℕ) (o : Opcode) (os : List Operand) (s : Stage) → behind_body_label name o os ≡ Some s → is_end o ≡ false
+body_label_is_no_end : (name : List ℕ) (o : Opcode) (os : List Operand) (s : Stage) → after_body_label name o os ≡ Some s → is_end o ≡ false
 body_label_is_no_end name op.IntCodeEnd os s e = absurd cc
 body_label_is_no_end name _ os s e = refl
 
-is_no_end : (name : List ℕ) (stage : Stage) (i : Instruction) (s : Stage) → behind name stage i ≡ Some s → is_end i.opcode ≡ false
-is_no_end name nothing i s e = label_is_no_end i.opcode i.operands first_label s e
+is_no_end : (name : List ℕ) (stage : Stage) (i : Instruction) (s : Stage) → next_stage name stage i ≡ Some s → is_end i.opcode ≡ false
+is_no_end name start i s e = label_is_no_end i.opcode i.operands first_label s e
 is_no_end name first_label i s e = first_is_no_end name i.opcode i.operands s e
 is_no_end name (informed f a) i s e = label_is_no_end i.opcode i.operands body s e
 is_no_end name body i s e = body_is_no_end i.opcode s e
@@ -126,7 +126,7 @@ kinds_kept i = all_operands is_within (kinds_of i.opcode) i.operands
 all_writable : (name : List ℕ) (is : List Instruction) (stage : Stage) (fs : List Function) → functions_from name stage is ≡ Some fs → list_all kinds_kept is ≡ true → All IsWritable is
 all_writable name [] stage fs e k = All-nil IsWritable
 all_writable name (i ∷ is) stage fs e k =
-    let s = stepped (λ next. option_map (λ gs. function_at stage i ++ gs) (functions_from name next is)) (behind name stage i) fs e in
+    let s = stepped (λ next. option_map (λ gs. function_at stage i ++ gs) (functions_from name next is)) (next_stage name stage i) fs e in
     let t = none_left (λ gs. function_at stage i ++ gs) (functions_from name s.0 is) fs s.2 in
     let w = split_and (kinds_kept i) (list_all kinds_kept is) k in
     All-cons IsWritable i is (is_no_end name stage i s.0 s.1, w.0) (all_writable name is s.0 t.0 t.1 w.1)
@@ -145,17 +145,17 @@ heads_and_limits true true true true false e = absurd cc
 
 writable : (l : Listing) → IsLoadable l → All IsWritable l.instructions
 writable l e =
-    let p = heads_and_limits (are_labels_lawful l) (are_heads_lawful l) (are_exports_lawful l) (are_natives_known l) (are_limits_kept l) e.0 in
+    let p = heads_and_limits (are_labels_lawful l) (are_heads_lawful l) (are_exports_lawful l) (are_natives_known l) (are_limits_met l) e.0 in
     let fs = has_functions l.function_count (functions_of l) p.0 in
-    all_writable l.name l.instructions nothing fs.0 fs.1 p.1
+    all_writable l.name l.instructions start fs.0 fs.1 p.1
 
 -- ---- the file
 
 -- a form, its tables and its code give the listing
 spelled_by : (bytes : List ℕ) (form : Form) (t : Tables) (code name : List ℕ) (parts : CodeParts) → form_at bytes ≡ Ok form → tables_at form ≡ Ok t → form.code ≡ Some code
-    → atom_of t.atoms 1 ≡ Ok name → code_of t.atoms t.imports t.literals code ≡ Ok parts
+    → atom_of_index t.atoms 1 ≡ Ok name → code_of t.atoms t.imports t.literals code ≡ Ok parts
     → listing_of_file bytes ≡ Ok (record { name = name; exports = t.exports; label_count = parts.label_count; function_count = parts.function_count; instructions = parts.instructions })
-unfolding listing_of_file listing_of_form parts_of_form listing_of_parts wanted
+unfolding listing_of_file listing_of_form parts_of_form listing_of_parts required_chunk
 spelled_by bytes form t code name parts formed tables there named read = rw (formed, tables, there, named, read) refl
 
 abbrev fine : TableChunks → Result TableChunks TableFault
@@ -187,7 +187,7 @@ has_parts n l bytes made =
 body_fits : (form : Form) (bytes : List ℕ) → form_bytes form ≡ bytes → length bytes ≤ 8388608 → length (form_body form) < 2 ^ 32
 body_fits form bytes is small = omega (arith, length-append (codes "FOR1" ++ big_bytes 4 (length (form_body form))) (form_body form), ap length is)
 
-pub file_again : (l : Listing) (bytes : List ℕ) → IsLoadable l → All IsReadBack (numbering_of l).literals → HasFile l bytes → listing_of_file bytes ≡ Ok (spelled l)
+pub file_again : (l : Listing) (bytes : List ℕ) → IsLoadable l → All IsReadBack (numbering_of l).literals → HasFile l bytes → listing_of_file bytes ≡ Ok (without_line_numbers l)
 file_again l bytes loads back has =
     let n = numbering_of l in
     let p = has_parts n l bytes has.0 in
@@ -195,7 +195,7 @@ file_again l bytes loads back has =
     let formed : form_at bytes ≡ Ok form = ap form_at (sym p.formed) ∙ read_again form (body_fits form bytes p.formed has.1) in
     let tables : tables_at form ≡ Ok (tables_with n l.exports) = tables_again (tables_with n l.exports) p.chunks p.code back p.tables in
     let read = code_again n (code_parts l) p.code (writable l loads) p.coded in
-    spelled_by bytes form (tables_with n l.exports) p.code l.name (record (code_parts l) { instructions = map spelled_instruction l.instructions }) formed tables refl (name_again l) read
+    spelled_by bytes form (tables_with n l.exports) p.code l.name (record (code_parts l) { instructions = map without_line_number l.instructions }) formed tables refl (name_again l) read
 
 no_file : (l : Listing) (n : Numbering) → n ≡ numbering_of l → file_with n l ≡ None → (bytes : List ℕ) → HasFile l bytes → ⊥
 no_file l n is h bytes has = let none : file_of l ≡ None = ap (λ (m : Numbering). file_with m l) (sym is) ∙ h in absurd (differ none has.0)

@@ -7,7 +7,7 @@ ghost use Rattle.beam_model.specs.Loads.{IsLoadable};
 ghost use Rattle.beam_model.specs.File.{listing_of_file};
 ghost use Rattle.beam_model.specs.FileForm.{IsFile};
 ghost use Rattle.beam_model.specs.Heads.{IsWellFormed};
-ghost use Rattle.beam_model.specs.Assembly.{numbering_of, are_few_atoms, are_short_atoms, HasFile, spelled};
+ghost use Rattle.beam_model.specs.Assembly.{numbering_of, are_few_atoms, are_short_atoms, HasFile, without_line_numbers};
 ghost use Rattle.beam_asm.specs.Refusals.{Refuses};
 
 use crate::error::AsmError;
@@ -77,13 +77,13 @@ pub fn assemble(alloc: Global, listing: &Listing) -> Result<Vec<u8>, AsmError>
     // Only a well-formed listing has a file,
     ensures well_formed { IfOk result (λ _. IsWellFormed listing.now) }
     // and the file spells it, but each line with the operand 0.
-    ensures stands { IfOk result (λ v. IsFile v.items (spelled listing.now)) }
+    ensures stands { IfOk result (λ v. IsFile v.items (without_line_numbers listing.now)) }
     // The listing is also loadable by the definitions of the check; and the file, or the fault, is that of the definitions.
     ensures loadable { IfOk result (λ _. IsLoadable listing.now) }
     ensures atoms { IfOk result (λ _. (are_few_atoms listing.now ≡ true) × (are_short_atoms listing.now ≡ true)) }
     ensures file { IfOk result (λ v. HasFile listing.now v.items) }
     ensures refused { IfErr result (λ e. Refuses e listing.now) }
-    ensures spells { IfOk result (λ v. listing_of_file v.items ≡ Ok (spelled listing.now)) }
+    ensures spells { IfOk result (λ v. listing_of_file v.items ≡ Ok (without_line_numbers listing.now)) }
 {
     check(alloc, listing)?;
     let numbering = numbering(alloc, listing)?;

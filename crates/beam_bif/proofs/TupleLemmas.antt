@@ -3,7 +3,7 @@ use Rattle.std.proofs.Common.{◌≡◌, ℕ, zero, suc, ◌+◌, ◌<◌, ◌�
 use Rattle.std.specs.Prelude.{slice_set}
 use Rattle.beam_term.specs.TermValue.{TermValue, int_term, tuple_of, list_of}
 use Rattle.beam_term.specs.Elements.{elements_of-terms_of, count_of-terms_of}
-use Rattle.beam_model.specs.Native.{or_badarg, element_of, set_element_of, tuple_size_of, list_of_tuple, made}
+use Rattle.beam_model.specs.Native.{or_badarg, element_of, set_element_of, tuple_size_of, list_of_tuple, limited_term}
 use Rattle.beam_model.specs.declared.exception.Fault.{Fault}
 use Rattle.beam_model.specs.declared.exception.Fault.TheVariants.{Badarg}
 use Rattle.std.proofs.lemmas.Int.{ints}
@@ -13,8 +13,8 @@ use Rattle.std.proofs.lemmas.Bool.Decides.{nat_tests}
 pub tuple_size_of-tuple_of : (xs : List TermValue) → tuple_size_of (tuple_of xs) ≡ Ok (int_term (pos (length xs)))
 tuple_size_of-tuple_of xs = ap (λ n. Ok (int_term (pos n))) (count_of-terms_of xs)
 
-pub list_of_tuple-tuple_of : (xs : List TermValue) → list_of_tuple (tuple_of xs) ≡ made (list_of xs)
-list_of_tuple-tuple_of xs = ap (λ ys. made (list_of ys)) (elements_of-terms_of xs)
+pub list_of_tuple-tuple_of : (xs : List TermValue) → list_of_tuple (tuple_of xs) ≡ limited_term (list_of xs)
+list_of_tuple-tuple_of xs = ap (λ ys. limited_term (list_of ys)) (elements_of-terms_of xs)
 
 pub element_of-at : (n : ℤ) (i : ℕ) (xs : List TermValue) (x : TermValue) → n ≡ pos (i + 1) → i < length xs → x ≡ get_or xs i x → element_of (int_term n) (tuple_of xs) ≡ Ok x
 element_of-at n i xs x e h g = rw (e, add-one, elements_of-terms_of) (ap or_badarg (slice_get_read xs (length xs) i x refl h g))
@@ -27,8 +27,8 @@ element_of-past (pos (suc i)) xs h = rw elements_of-terms_of (ap or_badarg (slic
     past g = grind (arith, ints)
 element_of-past (negsuc i) xs h = refl
 
-pub set_element_of-at : (n : ℤ) (i : ℕ) (xs : List TermValue) (x : TermValue) → n ≡ pos (i + 1) → i < length xs → set_element_of (int_term n) (tuple_of xs) x ≡ made (tuple_of (slice_set xs i x))
-set_element_of-at n i xs x e h = rw (e, add-one, count_of-terms_of, elements_of-terms_of) (within (nat_lt i (length xs)) (made (tuple_of (slice_set xs i x))) (search rules))
+pub set_element_of-at : (n : ℤ) (i : ℕ) (xs : List TermValue) (x : TermValue) → n ≡ pos (i + 1) → i < length xs → set_element_of (int_term n) (tuple_of xs) x ≡ limited_term (tuple_of (slice_set xs i x))
+set_element_of-at n i xs x e h = rw (e, add-one, count_of-terms_of, elements_of-terms_of) (within (nat_lt i (length xs)) (limited_term (tuple_of (slice_set xs i x))) (search rules))
   where
     within : (b : Bool) (y : Result TermValue Fault) → b ≡ true → (if b then y else Err Badarg) ≡ y
     within b y g = rw g

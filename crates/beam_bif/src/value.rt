@@ -2,7 +2,7 @@
 
 ghost use Rattle.std.specs.Prelude.{◌≡◌, ◌≤◌, Ok, Err, length};
 ghost use Rattle.beam_term.specs.TermValue.{atom_term, list_before, tuple_of};
-ghost use Rattle.beam_model.specs.Native.{truth, made, faulting};
+ghost use Rattle.beam_model.specs.Native.{truth, limited_term, faulting};
 ghost use Rattle.beam_model.specs.declared.exception.Exception.TheVariants as exception;
 ghost use Rattle.beam_bif.specs.Gives.{Gives};
 
@@ -64,7 +64,7 @@ pub fn truth(alloc: Global, value: bool) -> Result<Term, NativeError>
 /// The list of these terms and then the tail. SystemLimit where it would be too deep.
 #[tactic(auto, using(crate::proofs::MadeLemmas::made_terms))]
 pub fn make_list(alloc: Global, items: Vec<Term>, tail: Term) -> Result<Term, NativeError>
-    ensures { Gives result (faulting (made (list_before items.items tail))) }
+    ensures { Gives result (faulting (limited_term (list_before items.items tail))) }
 {
     match list_with_tail(alloc, items, tail) {
         Ok(list) => {
@@ -79,7 +79,7 @@ pub fn make_list(alloc: Global, items: Vec<Term>, tail: Term) -> Result<Term, Na
 /// The tuple of these terms. SystemLimit where it would be too deep or have 2^32 elements or more.
 #[tactic(auto, using(crate::proofs::MadeLemmas::made_terms))]
 pub fn make_tuple(alloc: Global, items: Vec<Term>) -> Result<Term, NativeError>
-    ensures { Gives result (faulting (made (tuple_of items.items))) }
+    ensures { Gives result (faulting (limited_term (tuple_of items.items))) }
 {
     match tuple(alloc, items) {
         Ok(made) => {

@@ -10,11 +10,11 @@ use Rattle.beam_model.specs.declared.instruction.Instruction.{Instruction}
 use Rattle.beam_model.specs.declared.opcode.Opcode.{Opcode}
 use Rattle.beam_model.specs.declared.opcode.Opcode.TheVariants as op
 use Rattle.beam_model.specs.SameText.{same_text}
-use Rattle.beam_model.specs.Loadable.{Stage, nothing, first_label, informed, body, body_label, behind_first_label, behind_body, behind_body_label, behind, function_at, functions_from}
+use Rattle.beam_model.specs.Loadable.{Stage, start, first_label, informed, body, body_label, after_first_label, within_body, after_body_label, next_stage, function_at, functions_from}
 use Rattle.beam_model.specs.Heads.{label, func_info, IsLine, IsInBody, IsFunction, AreFunctions}
 
 -- an instruction with which no function begins
-passes : (name : List ℕ) (s next : Stage) (i : Instruction) (rest : List Instruction) → behind name s i ≡ Some next → function_at s i ≡ []
+passes : (name : List ℕ) (s next : Stage) (i : Instruction) (rest : List Instruction) → next_stage name s i ≡ Some next → function_at s i ≡ []
     → functions_from name s (i ∷ rest) ≡ functions_from name next rest
 passes name s next i rest e none = rw (e, none) (same (functions_from name next rest))
   where
@@ -30,15 +30,15 @@ Waits first_label = Unit {0}
 Waits body_label = Unit {0}
 Waits _ = ⊥
 
-line_stays : (name : List ℕ) (s : Stage) (i : Instruction) → Waits s → IsLine i → behind name s i ≡ Some s
-line_stays name nothing i w e = absurd w
+line_stays : (name : List ℕ) (s : Stage) (i : Instruction) → Waits s → IsLine i → next_stage name s i ≡ Some s
+line_stays name start i w e = absurd w
 line_stays name (informed f a) i w e = absurd w
 line_stays name body i w e = absurd w
-line_stays name first_label i w e = ap (λ (o : Opcode). behind_first_label name o i.operands) e
-line_stays name body_label i w e = ap (λ (o : Opcode). behind_body_label name o i.operands) e
+line_stays name first_label i w e = ap (λ (o : Opcode). after_first_label name o i.operands) e
+line_stays name body_label i w e = ap (λ (o : Opcode). after_body_label name o i.operands) e
 
 waits_alone : (s : Stage) (i : Instruction) → Waits s → function_at s i ≡ []
-waits_alone nothing i w = refl
+waits_alone start i w = refl
 waits_alone first_label i w = refl
 waits_alone (informed f a) i w = absurd w
 waits_alone body i w = refl
@@ -55,8 +55,8 @@ lines_passed name s w (i ∷ lines) more are =
 same_as_itself : (text : List ℕ) → same_text text text ≡ true
 same_as_itself text = (bytes_eq-Decides text text).1 refl
 
-informs : (name : List ℕ) (s : Stage) (f : Function) → Waits s → behind name s (func_info name f.name f.arity) ≡ Some (informed f.name f.arity)
-informs name nothing f w = absurd w
+informs : (name : List ℕ) (s : Stage) (f : Function) → Waits s → next_stage name s (func_info name f.name f.arity) ≡ Some (informed f.name f.arity)
+informs name start f w = absurd w
 informs name (informed g a) f w = absurd w
 informs name body f w = absurd w
 informs name first_label f w = rw (same_as_itself name) refl
@@ -80,7 +80,7 @@ Inside body_label = Unit {0}
 Inside _ = ⊥
 
 inside_alone : (s : Stage) (i : Instruction) → Inside s → function_at s i ≡ []
-inside_alone nothing i w = refl
+inside_alone start i w = refl
 inside_alone first_label i w = refl
 inside_alone (informed f a) i w = absurd w
 inside_alone body i w = refl
@@ -91,21 +91,21 @@ record Goes (o : Option Stage) : Type 0 where
   inside : Inside next
   is : o ≡ Some next
 
-from_body : (o : Opcode) → o ≢ op.FuncInfo → o ≢ op.IntCodeEnd → Goes (behind_body o)
+from_body : (o : Opcode) → o ≢ op.FuncInfo → o ≢ op.IntCodeEnd → Goes (within_body o)
 from_body op.Label n m = record { next = body_label; inside = tt; is = refl }
 from_body op.FuncInfo n m = absurd (n refl)
 from_body op.IntCodeEnd n m = absurd (m refl)
 from_body _ n m = record { next = body; inside = tt; is = refl }
 
-from_label : (name : List ℕ) (o : Opcode) (os : List Operand) → o ≢ op.FuncInfo → o ≢ op.IntCodeEnd → Goes (behind_body_label name o os)
+from_label : (name : List ℕ) (o : Opcode) (os : List Operand) → o ≢ op.FuncInfo → o ≢ op.IntCodeEnd → Goes (after_body_label name o os)
 from_label name op.Label os n m = record { next = body_label; inside = tt; is = refl }
 from_label name op.Line os n m = record { next = body_label; inside = tt; is = refl }
 from_label name op.FuncInfo os n m = absurd (n refl)
 from_label name op.IntCodeEnd os n m = absurd (m refl)
 from_label name _ os n m = record { next = body; inside = tt; is = refl }
 
-goes : (name : List ℕ) (s : Stage) (i : Instruction) → Inside s → IsInBody i → Goes (behind name s i)
-goes name nothing i w is = absurd w
+goes : (name : List ℕ) (s : Stage) (i : Instruction) → Inside s → IsInBody i → Goes (next_stage name s i)
+goes name start i w is = absurd w
 goes name first_label i w is = absurd w
 goes name (informed f a) i w is = absurd w
 goes name body i w is = from_body i.opcode is.0 is.1
@@ -127,18 +127,18 @@ body_passed name s (i ∷ code) more w are =
 
 -- stages in front of a function
 abbrev Ready : Stage → Type 0
-Ready nothing = Unit {0}
+Ready start = Unit {0}
 Ready s = Inside s
 
 ready : (s : Stage) → Inside s → Ready s
-ready nothing w = absurd w
+ready start w = absurd w
 ready first_label w = w
 ready (informed f a) w = w
 ready body w = w
 ready body_label w = w
 
 may_stop : (name : List ℕ) (s : Stage) → Ready s → functions_from name s [] ≡ Some []
-may_stop name nothing r = refl
+may_stop name start r = refl
 may_stop name first_label r = absurd r
 may_stop name (informed f a) r = absurd r
 may_stop name body r = refl
@@ -152,7 +152,7 @@ record Labelled (name : List ℕ) (whole : Option (List Function)) (more : List 
 label_passed : (name : List ℕ) (s : Stage) (n : ℕ) (more : List Instruction) → Ready s → Labelled name (functions_from name s (label n ∷ more)) more
 label_passed name first_label n more r = absurd r
 label_passed name (informed f a) n more r = absurd r
-label_passed name nothing n more r = record { next = first_label; waits = tt; is = passes name nothing first_label (label n) more refl refl }
+label_passed name start n more r = record { next = first_label; waits = tt; is = passes name start first_label (label n) more refl refl }
 label_passed name body n more r = record { next = body_label; waits = tt; is = passes name body body_label (label n) more refl refl }
 label_passed name body_label n more r = record { next = body_label; waits = tt; is = passes name body_label body_label (label n) more refl refl }
 
@@ -175,5 +175,5 @@ found name s (f ∷ fs) code r (front, rest, parts, h, others) =
     ∙ ap (led f) (b.is ∙ again)
 
 -- the stages find the functions that stand in the code
-pub functions_found : (name : List ℕ) (fs : List Function) (code : List Instruction) → AreFunctions name fs code → functions_from name nothing code ≡ Some fs
-functions_found name fs code are = found name nothing fs code tt are
+pub functions_found : (name : List ℕ) (fs : List Function) (code : List Instruction) → AreFunctions name fs code → functions_from name start code ≡ Some fs
+functions_found name fs code are = found name start fs code tt are

@@ -7,7 +7,7 @@ use Rattle.beam_model.specs.declared.instruction.Operand.{Operand}
 use Rattle.beam_model.specs.declared.opcode.Kind.{Kind}
 use Rattle.beam_model.specs.Listing.{Listing}
 use Rattle.beam_model.specs.Opcodes.{kinds_of}
-use Rattle.beam_model.specs.Loadable.{labels_in, are_new, is_known, is_within, all_operands, are_targets, are_labels_lawful, are_natives_known, are_limits_kept}
+use Rattle.beam_model.specs.Loadable.{defined_labels, are_new, is_known, is_within, all_operands, are_targets, are_labels_lawful, are_natives_known, are_limits_met}
 use Rattle.beam_check.specs.Marked.{is_target, are_marked_targets}
 use Rattle.beam_check.proofs.Marks.{Tells, all_targets_same}
 use Rattle.beam_check.specs.KeptOperands.{are_kept, are_operands_kept}
@@ -61,16 +61,16 @@ one_fails true false t n w e = refl
 one_fails false b t n w e = refl
 
 abbrev below : Listing → Bool
-below l = list_all (λ n. nat_lt n l.label_count) (labels_in l.instructions)
+below l = list_all (λ n. nat_lt n l.label_count) (defined_labels l.instructions)
 
-pub kept_where_lawful : (l : Listing) (marked : ℕ → Bool) → Tells marked (labels_in l.instructions) → are_new [] (labels_in l.instructions) ≡ true → below l ≡ true → list_all (are_kept marked) l.instructions ≡ are_operands_kept l
+pub kept_where_lawful : (l : Listing) (marked : ℕ → Bool) → Tells marked (defined_labels l.instructions) → are_new [] (defined_labels l.instructions) ≡ true → below l ≡ true → list_all (are_kept marked) l.instructions ≡ are_operands_kept l
 kept_where_lawful l marked tells new below_all =
-    let parted = all_parted marked l.instructions ∙ ap (λ b. b && are_natives_known l && are_limits_kept l) (all_targets_same marked (labels_in l.instructions) tells l.instructions) in
-    both_hold (are_new [] (labels_in l.instructions)) (below l) (list_all (are_targets (labels_in l.instructions)) l.instructions) (are_natives_known l) (are_limits_kept l) (list_all (are_kept marked) l.instructions) new below_all parted
+    let parted = all_parted marked l.instructions ∙ ap (λ b. b && are_natives_known l && are_limits_met l) (all_targets_same marked (defined_labels l.instructions) tells l.instructions) in
+    both_hold (are_new [] (defined_labels l.instructions)) (below l) (list_all (are_targets (defined_labels l.instructions)) l.instructions) (are_natives_known l) (are_limits_met l) (list_all (are_kept marked) l.instructions) new below_all parted
 
-pub broken_where_unlawful : (l : Listing) → (are_new [] (labels_in l.instructions) && below l) ≡ false → false ≡ are_operands_kept l
+pub broken_where_unlawful : (l : Listing) → (are_new [] (defined_labels l.instructions) && below l) ≡ false → false ≡ are_operands_kept l
 broken_where_unlawful l e =
-    one_fails (are_new [] (labels_in l.instructions)) (below l) (list_all (are_targets (labels_in l.instructions)) l.instructions) (are_natives_known l) (are_limits_kept l) e
+    one_fails (are_new [] (defined_labels l.instructions)) (below l) (list_all (are_targets (defined_labels l.instructions)) l.instructions) (are_natives_known l) (are_limits_met l) e
 
 three : (a b c : Bool) → (a && b && c) ≡ true → (a ≡ true) × (b ≡ true) × (c ≡ true)
 three true true true e = (refl, refl, refl)
@@ -79,10 +79,10 @@ three true false c e = absurd cc
 three false b c e = absurd cc
 
 pub labels_of_kept : (l : Listing) (kept : Bool) → kept ≡ are_operands_kept l → kept ≡ true → are_labels_lawful l ≡ true
-labels_of_kept l kept e t = (three (are_labels_lawful l) (are_natives_known l) (are_limits_kept l) (sym e ∙ t)).0
+labels_of_kept l kept e t = (three (are_labels_lawful l) (are_natives_known l) (are_limits_met l) (sym e ∙ t)).0
 
 pub natives_of_kept : (l : Listing) (kept : Bool) → kept ≡ are_operands_kept l → kept ≡ true → are_natives_known l ≡ true
-natives_of_kept l kept e t = (three (are_labels_lawful l) (are_natives_known l) (are_limits_kept l) (sym e ∙ t)).1
+natives_of_kept l kept e t = (three (are_labels_lawful l) (are_natives_known l) (are_limits_met l) (sym e ∙ t)).1
 
-pub limits_of_kept : (l : Listing) (kept : Bool) → kept ≡ are_operands_kept l → kept ≡ true → are_limits_kept l ≡ true
-limits_of_kept l kept e t = (three (are_labels_lawful l) (are_natives_known l) (are_limits_kept l) (sym e ∙ t)).2
+pub limits_of_kept : (l : Listing) (kept : Bool) → kept ≡ are_operands_kept l → kept ≡ true → are_limits_met l ≡ true
+limits_of_kept l kept e t = (three (are_labels_lawful l) (are_natives_known l) (are_limits_met l) (sym e ∙ t)).2

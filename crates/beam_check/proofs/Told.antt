@@ -14,7 +14,7 @@ use Rattle.beam_model.specs.declared.opcode.Opcode.{Opcode}
 use Rattle.beam_model.specs.declared.opcode.Opcode.TheVariants as op
 use Rattle.beam_model.specs.Listing.{label_by, label_of}
 use Rattle.beam_model.specs.SameText.{same_text}
-use Rattle.beam_model.specs.Loadable.{Stage, nothing, first_label, informed, body, body_label, atom_in, number_in, informed_from, informed_by, behind_first_label, behind_body, behind_body_label, behind, function_at, functions_from}
+use Rattle.beam_model.specs.Loadable.{Stage, start, first_label, informed, body, body_label, atom_in, number_in, informed_from, informed_by, after_first_label, within_body, after_body_label, next_stage, function_at, functions_from}
 use Rattle.beam_model.specs.Heads.{label, func_info, IsLine, IsInBody, IsFunction, AreFunctions}
 
 -- ---- options
@@ -68,7 +68,7 @@ record AfterInfo (name : List ℕ) (text : List ℕ) (arity : ℕ) (fs : List Fu
   others : AreFunctions name gs rest
 
 abbrev Told : List ℕ → Stage → List Function → List Instruction → Type 0
-Told name nothing fs code = AreFunctions name fs code
+Told name start fs code = AreFunctions name fs code
 Told name first_label fs code = AfterLabel name fs code
 Told name (informed f a) fs code = AfterInfo name f a fs code
 Told name body fs code = AfterBody name fs code
@@ -236,7 +236,7 @@ from_nothing : (name : List ℕ) (i : Instruction) (o : Option ℕ) (next : Stag
 from_nothing name i (Some n) next fs code e is h = begins_at name i n fs code (label_is i n e) (at_stage name first_label next fs code is h)
 from_nothing name i None next fs code e is h = absurd cc
 
-from_first : (name : List ℕ) (o : Opcode) (os : List Operand) (next : Stage) (fs : List Function) (code : List Instruction) → behind_first_label name o os ≡ Some next → Told name next fs code
+from_first : (name : List ℕ) (o : Opcode) (os : List Operand) (next : Stage) (fs : List Function) (code : List Instruction) → after_first_label name o os ≡ Some next → Told name next fs code
     → AfterLabel name fs (made o os ∷ code)
 from_first name op.Line os next fs code e h = more_lines name (made op.Line os) fs code refl (at_stage name first_label next fs code e h)
 from_first name op.FuncInfo os next fs code e h = from_info name os next fs code e h
@@ -263,14 +263,14 @@ from_label : (name : List ℕ) (i : Instruction) (fs : List Function) (code : Li
 from_label name i fs code o is in_body (inl h) = more_body name i fs code in_body h
 from_label name i fs code o is in_body (inr h) = let n = is o in no_body name fs (i ∷ code) (begins_at name i n.0 fs code n.1 h)
 
-from_body : (name : List ℕ) (o : Opcode) (os : List Operand) (next : Stage) (fs : List Function) (code : List Instruction) → IsNumbered (made o os) → behind_body o ≡ Some next → Told name next fs code
+from_body : (name : List ℕ) (o : Opcode) (os : List Operand) (next : Stage) (fs : List Function) (code : List Instruction) → IsNumbered (made o os) → within_body o ≡ Some next → Told name next fs code
     → AfterBody name fs (made o os ∷ code)
 from_body name op.Label os next fs code is e h = from_label name (made op.Label os) fs code refl is (λ q. cc, λ q. cc) (at_stage name body_label next fs code e h)
 from_body name op.FuncInfo os next fs code is e h = absurd cc
 from_body name op.IntCodeEnd os next fs code is e h = absurd cc
 from_body name o os next fs code is e h = more_body name (made o os) fs code (λ q. cc, λ q. cc) (at_stage name body next fs code e h)
 
-from_body_label : (name : List ℕ) (o : Opcode) (os : List Operand) (next : Stage) (fs : List Function) (code : List Instruction) → IsNumbered (made o os) → behind_body_label name o os ≡ Some next
+from_body_label : (name : List ℕ) (o : Opcode) (os : List Operand) (next : Stage) (fs : List Function) (code : List Instruction) → IsNumbered (made o os) → after_body_label name o os ≡ Some next
     → Told name next fs code → AfterBody name fs (made o os ∷ code) ⊎ AfterLabel name fs (made o os ∷ code)
 from_body_label name op.Label os next fs code is e h = inl (from_label name (made op.Label os) fs code refl is (λ q. cc, λ q. cc) (at_stage name body_label next fs code e h))
 from_body_label name op.Line os next fs code is e h =
@@ -284,9 +284,9 @@ from_body_label name o os next fs code is e h = inl (more_body name (made o os) 
 
 -- ---- all instructions
 
-step : (name : List ℕ) (s next : Stage) (i : Instruction) (fs : List Function) (code : List Instruction) → IsNumbered i → behind name s i ≡ Some next → Told name next fs code
+step : (name : List ℕ) (s next : Stage) (i : Instruction) (fs : List Function) (code : List Instruction) → IsNumbered i → next_stage name s i ≡ Some next → Told name next fs code
     → Told name s (function_at s i ++ fs) (i ∷ code)
-step name nothing next i fs code is e h = from_nothing name i (label_of i) next fs code refl e h
+step name start next i fs code is e h = from_nothing name i (label_of i) next fs code refl e h
 step name first_label next i fs code is e h = from_first name i.opcode i.operands next fs code e h
 step name (informed f a) next i fs code is e h = from_informed name f a i (label_of i) next fs code refl e h
 step name body next i fs code is e h = from_body name i.opcode i.operands next fs code is e h
@@ -302,16 +302,16 @@ no_functions : (name : List ℕ) (fs : List Function) → these [] ≡ these fs 
 no_functions name fs e = subst (λ (gs : List Function). AreFunctions name gs []) (sym (none_left fs e)) refl
 
 told : (name : List ℕ) (s : Stage) (code : List Instruction) (fs : List Function) → AreNumbered code → functions_from name s code ≡ Some fs → Told name s fs code
-told name nothing [] fs are e = no_functions name fs e
+told name start [] fs are e = no_functions name fs e
 told name first_label [] fs are e = absurd cc
 told name (informed f a) [] fs are e = absurd cc
 told name body [] fs are e = no_body name fs [] (no_functions name fs e)
 told name body_label [] fs are e = inl (no_body name fs [] (no_functions name fs e))
 told name s (i ∷ code) fs are e =
-    let n = stepped (λ next. option_map (λ gs. function_at s i ++ gs) (functions_from name next code)) (behind name s i) fs e in
+    let n = stepped (λ next. option_map (λ gs. function_at s i ++ gs) (functions_from name next code)) (next_stage name s i) fs e in
     let t = mapped (λ gs. function_at s i ++ gs) (functions_from name n.0 code) fs n.2 in
     subst (λ (gs : List Function). Told name s gs (i ∷ code)) t.2 (step name s n.0 i t.0 code are.0 n.1 (told name n.0 code t.0 are.1 t.1))
 
 -- the functions that the stages find stand in the code
-pub functions_told : (name : List ℕ) (code : List Instruction) (fs : List Function) → AreNumbered code → functions_from name nothing code ≡ Some fs → AreFunctions name fs code
-functions_told name code fs are e = told name nothing code fs are e
+pub functions_told : (name : List ℕ) (code : List Instruction) (fs : List Function) → AreNumbered code → functions_from name start code ≡ Some fs → AreFunctions name fs code
+functions_told name code fs are e = told name start code fs are e

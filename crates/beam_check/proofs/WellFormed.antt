@@ -14,7 +14,7 @@ use Rattle.beam_model.specs.declared.opcode.Kind.{Kind}
 use Rattle.beam_model.specs.declared.opcode.Kind.TheVariants as kind
 use Rattle.beam_model.specs.Listing.{Listing}
 use Rattle.beam_model.specs.Opcodes.{kinds_of}
-use Rattle.beam_model.specs.Loadable.{are_labels_lawful, are_heads_lawful, are_exports_lawful, are_natives_known, are_limits_kept, are_functions_lawful, functions_of, signature_of, exported_signature, are_signatures_new, is_entry_of, is_number, is_within, all_operands}
+use Rattle.beam_model.specs.Loadable.{are_labels_lawful, are_heads_lawful, are_exports_lawful, are_natives_known, are_limits_met, are_functions_lawful, functions_of, signature_of, exported_signature, are_signatures_new, is_entry_of, is_number_operand, is_within, all_operands}
 use Rattle.beam_model.specs.Loads.{IsLoadable}
 use Rattle.beam_model.specs.Heads.{label, AreFunctions, IsWellFormed}
 use Rattle.beam_check.proofs.Found.{functions_found}
@@ -29,7 +29,7 @@ split_and false b e = absurd cc
 abbrev made : Opcode → List Operand → Instruction
 made o os = record { opcode = o; operands = os }
 
-numbered_operand : (o : Operand) → is_number o ≡ true → (n : ℕ) × (o ≡ operand.One (argument.Number n))
+numbered_operand : (o : Operand) → is_number_operand o ≡ true → (n : ℕ) × (o ≡ operand.One (argument.Number n))
 numbered_operand (operand.One (argument.Number n)) e = (n, refl)
 numbered_operand (operand.One (argument.Term t)) e = absurd cc
 numbered_operand (operand.One (argument.X n)) e = absurd cc
@@ -46,7 +46,7 @@ counted os e =
 numbered_label : (os : List Operand) → all_operands is_within (kind.Number ∷ []) os ≡ true → (n : ℕ) × (made op.Label os ≡ label n)
 numbered_label [] e = absurd (omega (arith, (counted [] e).0))
 numbered_label (o ∷ []) e =
-    let n = numbered_operand o (split_and (is_number o) true (counted (o ∷ []) e).1).0 in
+    let n = numbered_operand o (split_and (is_number_operand o) true (counted (o ∷ []) e).1).0 in
     (n.0, ap (λ (p : Operand). made op.Label (p ∷ [])) n.1)
 numbered_label (o ∷ p ∷ os) e = absurd (omega (arith, (counted (o ∷ p ∷ os) e).0))
 
@@ -106,7 +106,7 @@ together a b c d f e1 e2 e3 e4 e5 = rw (e1, e2, e3, e4, e5) refl
 
 pub well_formed : (l : Listing) → IsLoadable l → IsWellFormed l
 well_formed l e =
-    let p = parts (are_labels_lawful l) (are_heads_lawful l) (are_exports_lawful l) (are_natives_known l) (are_limits_kept l) e.0 in
+    let p = parts (are_labels_lawful l) (are_heads_lawful l) (are_exports_lawful l) (are_natives_known l) (are_limits_met l) e.0 in
     let h = lawful l.function_count (functions_of l) p.heads in
     let entries : list_all (is_entry_of (unwrap_or (functions_of l) [])) l.exports ≡ list_all (is_entry_of h.functions) l.exports =
     ap (λ (o : Option (List Function)). list_all (is_entry_of (unwrap_or o [])) l.exports) h.found in
@@ -131,13 +131,13 @@ loadable l w =
     let heads : are_heads_lawful l ≡ true = ap (are_functions_lawful l.function_count) found ∙ both_true (length w.functions == l.function_count) (are_signatures_new [] (map signature_of w.functions)) count w.distinct in
     let entries : list_all (is_entry_of (unwrap_or (functions_of l) [])) l.exports ≡ true = ap (λ (o : Option (List Function)). list_all (is_entry_of (unwrap_or o [])) l.exports) found ∙ w.entries in
     let exports : are_exports_lawful l ≡ true = both_true (list_all (is_entry_of (unwrap_or (functions_of l) [])) l.exports) (are_signatures_new [] (map exported_signature l.exports)) entries w.exports in
-    (together (are_labels_lawful l) (are_heads_lawful l) (are_exports_lawful l) (are_natives_known l) (are_limits_kept l) w.labels heads exports w.natives w.limits, w.framed)
+    (together (are_labels_lawful l) (are_heads_lawful l) (are_exports_lawful l) (are_natives_known l) (are_limits_met l) w.labels heads exports w.natives w.limits, w.framed)
 
 pub heads_lawful : (l : Listing) → IsWellFormed l → are_heads_lawful l ≡ true
-heads_lawful l w = (parts (are_labels_lawful l) (are_heads_lawful l) (are_exports_lawful l) (are_natives_known l) (are_limits_kept l) (loadable l w).0).heads
+heads_lawful l w = (parts (are_labels_lawful l) (are_heads_lawful l) (are_exports_lawful l) (are_natives_known l) (are_limits_met l) (loadable l w).0).heads
 
 pub exports_lawful : (l : Listing) → IsWellFormed l → are_exports_lawful l ≡ true
-exports_lawful l w = (parts (are_labels_lawful l) (are_heads_lawful l) (are_exports_lawful l) (are_natives_known l) (are_limits_kept l) (loadable l w).0).exports
+exports_lawful l w = (parts (are_labels_lawful l) (are_heads_lawful l) (are_exports_lawful l) (are_natives_known l) (are_limits_met l) (loadable l w).0).exports
 
 -- ---- functions and faults
 
@@ -146,7 +146,7 @@ pub found_functions : (l : Listing) (functions : List Function) → AreFunctions
 found_functions l functions are = functions_found l.name functions l.instructions are
 
 -- the functions that are found stand in the code, where labels have numbers
-pub standing_functions : (l : Listing) (functions : List Function) → are_limits_kept l ≡ true → functions_of l ≡ Some functions → AreFunctions l.name functions l.instructions
+pub standing_functions : (l : Listing) (functions : List Function) → are_limits_met l ≡ true → functions_of l ≡ Some functions → AreFunctions l.name functions l.instructions
 standing_functions l functions limits e = functions_told l.name l.instructions functions (numbered l.instructions limits) e
 
 abbrev these : List Function → Option (List Function)

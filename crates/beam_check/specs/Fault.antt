@@ -1,7 +1,7 @@
 -- The fault of a listing: the first one that stands there, in the order of their numbers.
 use Rattle.std.specs.Prelude.{◌≡◌, ℕ, if◌then◌else◌, Option, Some, None}
 use Rattle.beam_model.specs.Listing.{Listing}
-use Rattle.beam_model.specs.Loadable.{are_labels_lawful, are_heads_lawful, are_exports_lawful, are_natives_known, are_limits_kept}
+use Rattle.beam_model.specs.Loadable.{are_labels_lawful, are_heads_lawful, are_exports_lawful, are_natives_known, are_limits_met}
 use Rattle.beam_model.specs.Framed.{IsFramed}
 use Rattle.beam_check.specs.declared.error.CheckError.{CheckError}
 use Rattle.beam_check.specs.declared.error.CheckError.TheVariants.{BadLabel, BadHead, BadExport, UnknownBif, LimitExceeded, FrameMismatch, NoMemory}
@@ -22,7 +22,7 @@ fault_of l =
     (if are_heads_lawful l then
     (if are_exports_lawful l then
     (if are_natives_known l then
-    (if are_limits_kept l then None else Some LimitExceeded)
+    (if are_limits_met l then None else Some LimitExceeded)
     else Some UnknownBif)
     else Some BadExport)
     else Some BadHead)

@@ -5,7 +5,7 @@ use Rattle.beam_model.specs.declared.instruction.Instruction.{Instruction}
 use Rattle.beam_model.specs.declared.opcode.Kind.{Kind}
 use Rattle.beam_model.specs.Listing.{Listing}
 use Rattle.beam_model.specs.Opcodes.{kinds_of}
-use Rattle.beam_model.specs.Loadable.{is_known, is_within, all_operands, are_labels_lawful, are_natives_known, are_limits_kept}
+use Rattle.beam_model.specs.Loadable.{is_known, is_within, all_operands, are_labels_lawful, are_natives_known, are_limits_met}
 use Rattle.beam_check.specs.Marked.{is_target}
 
 abbrev pub is_kept : (ℕ → Bool) → Kind → Operand → Bool
@@ -16,4 +16,4 @@ are_kept marked i = all_operands (is_kept marked) (kinds_of i.opcode) i.operands
 
 -- the three rules of operands; labels that are defined twice, or are no less than the count, break the first
 abbrev pub are_operands_kept : Listing → Bool
-are_operands_kept l = are_labels_lawful l && are_natives_known l && are_limits_kept l
+are_operands_kept l = are_labels_lawful l && are_natives_known l && are_limits_met l

@@ -1,7 +1,7 @@
 //! The functions of a listing, one after the other.
 ghost use Rattle.std.specs.Prelude.{◌≡◌, ◌++◌, option_map, IfOk};
 ghost use Rattle.std.specs.Option.{option_copied};
-ghost use Rattle.beam_model.specs.Loadable.{atom_text, atom_in, number_in, behind, behind_nothing, behind_first_label, behind_func_info, behind_body, behind_body_label, informed_by, functions_of, functions_from, function_at, may_end};
+ghost use Rattle.beam_model.specs.Loadable.{atom_of_term, atom_in, number_in, next_stage, at_start, after_first_label, after_func_info, within_body, after_body_label, informed_by, functions_of, functions_from, function_at, may_end};
 ghost use Rattle.beam_check.specs.Stage.{shown};
 
 use beam_model::function::Function;
@@ -56,14 +56,14 @@ fn informed_by<'a>(owner: &Atom, operands: &'a [Operand]) -> Option<Stage<'a>>
 }
 
 fn behind_nothing<'a>(instruction: &'a Instruction) -> Option<Stage<'a>>
-    ensures { option_map shown result ≡ behind_nothing instruction.now }
+    ensures { option_map shown result ≡ at_start instruction.now }
 {
     instruction.label()?;
     Some(Stage::FirstLabel)
 }
 
 fn behind_first_label<'a>(owner: &Atom, instruction: &'a Instruction) -> Option<Stage<'a>>
-    ensures { option_map shown result ≡ behind_first_label owner.now instruction.now.opcode instruction.now.operands }
+    ensures { option_map shown result ≡ after_first_label owner.now instruction.now.opcode instruction.now.operands }
 {
     match instruction.opcode {
         Opcode::Line => Some(Stage::FirstLabel),
@@ -73,14 +73,14 @@ fn behind_first_label<'a>(owner: &Atom, instruction: &'a Instruction) -> Option<
 }
 
 fn behind_func_info<'a>(instruction: &'a Instruction) -> Option<Stage<'a>>
-    ensures { option_map shown result ≡ behind_func_info instruction.now }
+    ensures { option_map shown result ≡ after_func_info instruction.now }
 {
     instruction.label()?;
     Some(Stage::Body)
 }
 
 fn behind_body<'a>(instruction: &'a Instruction) -> Option<Stage<'a>>
-    ensures { option_map shown result ≡ behind_body instruction.now.opcode }
+    ensures { option_map shown result ≡ within_body instruction.now.opcode }
 {
     match instruction.opcode {
         Opcode::Label => Some(Stage::BodyLabel),
@@ -90,7 +90,7 @@ fn behind_body<'a>(instruction: &'a Instruction) -> Option<Stage<'a>>
 }
 
 fn behind_body_label<'a>(owner: &Atom, instruction: &'a Instruction) -> Option<Stage<'a>>
-    ensures { option_map shown result ≡ behind_body_label owner.now instruction.now.opcode instruction.now.operands }
+    ensures { option_map shown result ≡ after_body_label owner.now instruction.now.opcode instruction.now.operands }
 {
     match instruction.opcode {
         Opcode::Label | Opcode::Line => Some(Stage::BodyLabel),
@@ -103,7 +103,7 @@ fn behind_body_label<'a>(owner: &Atom, instruction: &'a Instruction) -> Option<S
 impl<'a> Stage<'a> {
     /// The stage after an instruction, if the instruction may stand here.
     fn behind(self, owner: &Atom, instruction: &'a Instruction) -> Option<Stage<'a>>
-        ensures { option_map shown result ≡ behind owner.now (shown self.entry) instruction.now }
+        ensures { option_map shown result ≡ next_stage owner.now (shown self.entry) instruction.now }
     {
         match self {
             Stage::Nothing => behind_nothing(instruction),

@@ -1,7 +1,7 @@
 //! All that is asked of operands, in one pass: that their labels are defined, their natives known, and their limits kept.
 ghost use Rattle.std.specs.Prelude.{◌≡◌, IfOk};
 ghost use Rattle.std.specs.List.{list_all, zip};
-ghost use Rattle.beam_model.specs.Loadable.{are_labels_lawful, are_natives_known, are_limits_kept};
+ghost use Rattle.beam_model.specs.Loadable.{are_labels_lawful, are_natives_known, are_limits_met};
 ghost use Rattle.beam_check.specs.Marked.{is_marked};
 ghost use Rattle.beam_check.specs.KeptOperands.{is_kept, are_kept, are_operands_kept};
 
@@ -95,7 +95,7 @@ pub fn are_natives_known_where(listing: &Listing, kept: bool) -> bool
 #[tactic(auto, using(crate::proofs::KeptOperands::limits_of_kept))]
 pub fn are_limits_kept_where(listing: &Listing, kept: bool) -> bool
     requires { kept ≡ are_operands_kept listing.now }
-    ensures { result ≡ are_limits_kept listing.now }
+    ensures { result ≡ are_limits_met listing.now }
 {
     kept || are_limits_kept(listing)
 }

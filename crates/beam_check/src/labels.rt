@@ -1,7 +1,7 @@
 //! Labels: each is defined once, below the label count, and each one that is named is defined.
 ghost use Rattle.std.specs.Prelude.{◌≡◌, ℕ, ◌==◌, ◌&&◌, not, if◌then◌else◌, nat_lt, true, false, [], ◌∷◌, ◌++◌, ◌||◌, IfOk, OnOk, IfSome, IfNone};
 ghost use Rattle.std.specs.List.{list_all, zip};
-ghost use Rattle.beam_model.specs.Loadable.{labels_in, is_among, are_new, is_none_label, all_operands, are_labels_lawful};
+ghost use Rattle.beam_model.specs.Loadable.{defined_labels, is_among, are_new, is_none_label, all_operands, are_labels_lawful};
 ghost use Rattle.beam_check.specs.Marked.{is_marked, AreMarked, is_argument_marked, is_marked_in, is_target, are_marked_targets};
 
 use beam_genop::kinds;
@@ -82,9 +82,9 @@ pub fn defined(
     instructions: &[Instruction],
     limit: u32,
 ) -> Result<Option<Labels>, AllocError>
-    ensures some { IfOk result (λ o. IfSome o (λ s. AreMarked (labels_in instructions.now) s × (are_new [] (labels_in instructions.now) ≡ true)
-        × (list_all (λ n. nat_lt n limit) (labels_in instructions.now) ≡ true))) }
-    ensures none { IfOk result (λ o. IfNone o ((are_new [] (labels_in instructions.now) && list_all (λ n. nat_lt n limit) (labels_in instructions.now))
+    ensures some { IfOk result (λ o. IfSome o (λ s. AreMarked (defined_labels instructions.now) s × (are_new [] (defined_labels instructions.now) ≡ true)
+        × (list_all (λ n. nat_lt n limit) (defined_labels instructions.now) ≡ true))) }
+    ensures none { IfOk result (λ o. IfNone o ((are_new [] (defined_labels instructions.now) && list_all (λ n. nat_lt n limit) (defined_labels instructions.now))
         ≡ false)) }
 {
     let mut labels = Labels::new(alloc, instructions.len())?;

@@ -5,7 +5,7 @@ ghost use Rattle.beam_model.specs.declared.function.Function.{Function};
 ghost use Rattle.beam_model.specs.declared.instruction.Instruction.{Instruction};
 ghost use Rattle.beam_model.specs.declared.opcode.Opcode.TheVariants as op;
 ghost use Rattle.beam_model.specs.Listing.{Listing};
-ghost use Rattle.beam_model.specs.Loadable.{functions_of, are_limits_kept};
+ghost use Rattle.beam_model.specs.Loadable.{functions_of, are_limits_met};
 ghost use Rattle.beam_model.specs.Loads.{IsLoadable};
 ghost use Rattle.beam_model.specs.Heads.{label, func_info, AreFunctions, IsWellFormed};
 
@@ -18,7 +18,7 @@ pub fn loadable_is_well_formed()
 /// limits say that each label instruction has a number.
 pub fn functions_are_found()
     ensures found { (l : Listing) (functions : List Function) → AreFunctions l.name functions l.instructions → functions_of l ≡ Some functions }
-    ensures told { (l : Listing) (functions : List Function) → IsTrue (are_limits_kept l) → functions_of l ≡ Some functions
+    ensures told { (l : Listing) (functions : List Function) → IsTrue (are_limits_met l) → functions_of l ≡ Some functions
         → AreFunctions l.name functions l.instructions }
 {}
 

@@ -2,7 +2,7 @@
 ghost use Rattle.std.specs.Prelude.{◌≡◌};
 ghost use Rattle.std.specs.List.{list_all, zip};
 ghost use Rattle.beam_model.specs.Opcodes.{kinds_of};
-ghost use Rattle.beam_model.specs.Loadable.{is_argument_within, is_number, is_arity, is_frame_size, is_label_operand, is_atom, is_register, is_source, is_import, is_list, is_within, all_operands, are_limits_kept};
+ghost use Rattle.beam_model.specs.Loadable.{is_argument_within, is_number_operand, is_arity, is_frame_size, is_label_operand, is_atom_operand, is_register_operand, is_source_operand, is_import_operand, is_list_operand, is_within, all_operands, are_limits_met};
 
 use crate::functions::atom_in;
 use beam_genop::kinds;
@@ -27,7 +27,7 @@ fn are_arguments_within(arguments: &[Argument]) -> bool
 }
 
 fn is_number(operand: &Operand) -> bool
-    ensures { result ≡ is_number operand.now }
+    ensures { result ≡ is_number_operand operand.now }
 {
     matches!(operand, Operand::One(Argument::Number(_)))
 }
@@ -57,7 +57,7 @@ fn is_label_operand(operand: &Operand) -> bool
 }
 
 fn is_register(operand: &Operand) -> bool
-    ensures { result ≡ is_register operand.now }
+    ensures { result ≡ is_register_operand operand.now }
 {
     match operand {
         Operand::One(Argument::X(number)) => *number < 1024,
@@ -67,7 +67,7 @@ fn is_register(operand: &Operand) -> bool
 }
 
 fn is_source(operand: &Operand) -> bool
-    ensures { result ≡ is_source operand.now }
+    ensures { result ≡ is_source_operand operand.now }
 {
     match operand {
         Operand::One(Argument::Term(_)) => true,
@@ -76,7 +76,7 @@ fn is_source(operand: &Operand) -> bool
 }
 
 fn is_import(operand: &Operand) -> bool
-    ensures { result ≡ is_import operand.now }
+    ensures { result ≡ is_import_operand operand.now }
 {
     match operand {
         Operand::Import(import) => import.arity <= 255,
@@ -85,7 +85,7 @@ fn is_import(operand: &Operand) -> bool
 }
 
 fn is_list(operand: &Operand) -> bool
-    ensures { result ≡ is_list operand.now }
+    ensures { result ≡ is_list_operand operand.now }
 {
     match operand {
         Operand::List(arguments) => are_arguments_within(arguments.as_slice()),
@@ -136,7 +136,7 @@ fn are_instructions_within(instructions: &[Instruction]) -> bool
 
 /// Whether operands are of their kinds, and registers and arities within their limits.
 pub fn are_limits_kept(listing: &Listing) -> bool
-    ensures { result ≡ are_limits_kept listing.now }
+    ensures { result ≡ are_limits_met listing.now }
 {
     are_instructions_within(&listing.instructions)
 }

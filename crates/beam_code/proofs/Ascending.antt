@@ -5,7 +5,7 @@ use Rattle.std.specs.Map.{lookup}
 use Rattle.std.proofs.lemmas.Bool.{ltb-false, lt-ltb, le-ltb, eqb-true, eqb-false, eq-eqb, ne_eqb}
 use Rattle.std.proofs.lemmas.List.{append-nil, drop_more, drop_all}
 use Rattle.beam_model.specs.declared.instruction.Instruction.{Instruction}
-use Rattle.beam_model.specs.Listing.{is_number, label_of}
+use Rattle.beam_model.specs.Listing.{is_this_number, label_of}
 use Rattle.beam_code.specs.Bytes.{byte_after, AreAscending}
 use Rattle.beam_code.specs.Ascending.{bound_after, with_label, ascending_from}
 
@@ -125,7 +125,7 @@ same_test a b = by (eqb b a) refl
     by false e = ne_eqb a b (λ same. absurd (eqb-false _ _ e (sym same)))
 
 abbrev after_label : ℕ → Option ℕ → (ℕ → Option ℕ) → ℕ → Option ℕ
-after_label end o after label = cond (is_number label o) (Some end) (after label)
+after_label end o after label = cond (is_this_number label o) (Some end) (after label)
 
 with_more : (least end m : ℕ) (after : ℕ → Option ℕ) (ls : Labels) → least ≤ m → AreFrom (m + 1) after ls → AreFrom least (after_label end (Some m) after) ((m, end) ∷ ls)
 with_more least end m after ls le h = record {

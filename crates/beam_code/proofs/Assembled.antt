@@ -14,9 +14,9 @@ use Rattle.beam_model.specs.declared.opcode.Opcode.{Opcode}
 use Rattle.beam_model.specs.declared.opcode.Opcode.TheVariants as op
 use Rattle.beam_model.specs.Opcodes.{number_of, kinds_of, opcode_of}
 use Rattle.beam_model.specs.Compact.{operand_at}
-use Rattle.beam_model.specs.CodeChunk.{CodeParts, CodeFault, spelled_at, meant_at, operands_at, known, opcode_in, opcode_at, is_end, listed, instruction_at, instructions_at, word_at, expected_at, code_of}
+use Rattle.beam_model.specs.CodeChunk.{CodeParts, CodeFault, spelled_at, meant_at, operands_at, or_unsupported_opcode, opcode_in, opcode_at, is_end, listed_operands, instruction_after_opcode, instructions_at, word_at, expected_at, code_of}
 use Rattle.beam_model.specs.Loadable.{all_operands, is_within}
-use Rattle.beam_model.specs.Assembly.{Numbering, both, operand_bytes, operands_bytes, instruction_bytes, instructions_bytes, greatest_opcode, word, words_bytes, code_bytes, spelled_instruction}
+use Rattle.beam_model.specs.Assembly.{Numbering, both, operand_bytes, operands_bytes, instruction_bytes, instructions_bytes, greatest_opcode, word, words_bytes, code_bytes, without_line_number}
 use Rattle.beam_operand.proofs.Again.{operand_again}
 use Rattle.beam_code.proofs.Meaning.{mapped, word_is, operand_spelled}
 
@@ -109,11 +109,11 @@ operands_there n (k ∷ ks) (o ∷ os) bytes rest code at w e s =
 abbrev pub IsWritable : Instruction → Type 0
 IsWritable i = (is_end i.opcode ≡ false) × (all_operands is_within (kinds_of i.opcode) i.operands ≡ true)
 
-listed_within : (o : Opcode) (os : List Operand) → AllWithin (kinds_of o) os → AllWithin (kinds_of o) (listed o os)
+listed_within : (o : Opcode) (os : List Operand) → AllWithin (kinds_of o) os → AllWithin (kinds_of o) (listed_operands o os)
 listed_within op.Line os w = (refl, tt)
 listed_within _ os w = w
 
-listed_once : (o : Opcode) (os : List Operand) → listed o (listed o os) ≡ listed o os
+listed_once : (o : Opcode) (os : List Operand) → listed_operands o (listed_operands o os) ≡ listed_operands o os
 listed_once op.Line os = refl
 listed_once _ os = refl
 
@@ -124,37 +124,37 @@ opcode_again _ = refl
 opcode_there : (o : Opcode) (bytes code : List ℕ) (at : ℕ) → Stands code at (number_of o ∷ bytes) → opcode_at code at ≡ Ok o
 unfolding opcode_at
 opcode_there o bytes code at s =
-    ap (opcode_in at) (first_there code at (number_of o) bytes s.there) ∙ ap (known at (number_of o)) (opcode_again o)
+    ap (opcode_in at) (first_there code at (number_of o) bytes s.there) ∙ ap (or_unsupported_opcode at (number_of o)) (opcode_again o)
 
 stands_next : (code : List ℕ) (at x : ℕ) (bytes : List ℕ) → Stands code at (x ∷ bytes) → Stands code (at + 1) bytes
 stands_next code at x bytes s = stands_behind code at (x ∷ []) bytes s
 
 -- the operands of an instruction stand after its opcode
-instruction_there : (n : Numbering) (i : Instruction) (bytes rest code : List ℕ) (at : ℕ) → IsWritable i → operands_bytes n (listed i.opcode i.operands) ≡ Some bytes → Stands code at (bytes ++ rest)
-    → instruction_at n.atoms n.imports n.literals code i.opcode at ≡ Ok (spelled_instruction i, at + length bytes)
-unfolding instruction_at
+instruction_there : (n : Numbering) (i : Instruction) (bytes rest code : List ℕ) (at : ℕ) → IsWritable i → operands_bytes n (listed_operands i.opcode i.operands) ≡ Some bytes → Stands code at (bytes ++ rest)
+    → instruction_after_opcode n.atoms n.imports n.literals code i.opcode at ≡ Ok (without_line_number i, at + length bytes)
+unfolding instruction_after_opcode
 instruction_there n i bytes rest code at w e s =
     let within = listed_within i.opcode i.operands (all_within (kinds_of i.opcode) i.operands w.1) in
-    let read = operands_there n (kinds_of i.opcode) (listed i.opcode i.operands) bytes rest code at within e s in
+    let read = operands_there n (kinds_of i.opcode) (listed_operands i.opcode i.operands) bytes rest code at within e s in
     let once = listed_once i.opcode i.operands in
     rw (read, once) refl
 
 -- the bytes of an instruction: its opcode, and its operands
 record HasOpcode (n : Numbering) (i : Instruction) (bytes : List ℕ) : Type 0 where
   operands : List ℕ
-  spelled : operands_bytes n (listed i.opcode i.operands) ≡ Some operands
+  spelled : operands_bytes n (listed_operands i.opcode i.operands) ≡ Some operands
   are : number_of i.opcode ∷ operands ≡ bytes
 
 has_opcode : (n : Numbering) (i : Instruction) (bytes : List ℕ) → instruction_bytes n i ≡ Some bytes → HasOpcode n i bytes
 unfolding instruction_bytes
 has_opcode n i bytes e =
-    let b = both_is (Some (number_of i.opcode ∷ [])) (operands_bytes n (listed i.opcode i.operands)) bytes e in
+    let b = both_is (Some (number_of i.opcode ∷ [])) (operands_bytes n (listed_operands i.opcode i.operands)) bytes e in
     let front : number_of i.opcode ∷ [] ≡ b.0 = cc (b.2) in
     record { operands = b.1; spelled = b.3; are = ap (λ (f : List ℕ). f ++ b.1) front ∙ b.4 }
 
 -- instructions up to int_code_end, fewer than the limit
 instructions_there : (n : Numbering) (limit : ℕ) (is : List Instruction) (bytes rest code : List ℕ) (at : ℕ) → All IsWritable is → instructions_bytes n is ≡ Some bytes
-    → Stands code at (bytes ++ (3 ∷ rest)) → length is < limit → instructions_at n.atoms n.imports n.literals code limit at ≡ Ok (map spelled_instruction is)
+    → Stands code at (bytes ++ (3 ∷ rest)) → length is < limit → instructions_at n.atoms n.imports n.literals code limit at ≡ Ok (map without_line_number is)
 unfolding instructions_at instructions_bytes
 instructions_there n zero is bytes rest code at w e s few = absurd (omega arith)
 instructions_there n (suc limit) [] bytes rest code at w e s few =
@@ -223,7 +223,7 @@ words_long (m ∷ ns) bytes e =
 -- ---- the chunk
 
 pub code_again : (n : Numbering) (p : CodeParts) (bytes : List ℕ) → All IsWritable p.instructions → code_bytes n p ≡ Some bytes
-    → code_of n.atoms n.imports n.literals bytes ≡ Ok (record p { instructions = map spelled_instruction p.instructions })
+    → code_of n.atoms n.imports n.literals bytes ≡ Ok (record p { instructions = map without_line_number p.instructions })
 unfolding code_bytes code_of expected_at
 code_again n p bytes writable e =
     let ns = 16 ∷ 0 ∷ greatest_opcode p.instructions ∷ p.label_count ∷ p.function_count ∷ [] in

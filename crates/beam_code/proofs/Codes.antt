@@ -14,7 +14,7 @@ use Rattle.beam_model.specs.declared.opcode.Kind.{Kind}
 use Rattle.beam_model.specs.Opcodes.{number_of, kinds_of, opcode_of, opcodes}
 use Rattle.beam_model.specs.Compact.{OperandFault, ◌>>=◌, operand_at}
 use Rattle.beam_model.specs.CompactForm.{IsSpelling}
-use Rattle.beam_model.specs.CodeChunk.{CodeParts, CodeFault, truncated, bad_operand, meaning_of, behind, spelled_at, wanted, meant_at, operands_at, known, opcode_in, opcode_at, is_end, listed, instruction_at, instructions_at, word_at, expected_at, code_of}
+use Rattle.beam_model.specs.CodeChunk.{CodeParts, CodeFault, truncated, bad_operand, meaning_of, position_after, spelled_at, or_bad_operand, meant_at, operands_at, or_unsupported_opcode, opcode_in, opcode_at, is_end, listed_operands, instruction_after_opcode, instructions_at, word_at, expected_at, code_of}
 use Rattle.beam_model.specs.Tables.{Tables}
 use Rattle.beam_operand.proofs.Spelled.{operand_spelled}
 use Rattle.beam_operand.proofs.Told.{operand_told}
@@ -78,11 +78,11 @@ next_rest code at n rest e = sym (drop-drop 1 at code) ∙ ap (drop 1) e
 
 -- ---- operands
 
-pub wanted_is : {A : Type 0} (at : ℕ) (o : Option A) (y : A) → wanted at o ≡ Ok y → o ≡ Some y
+pub wanted_is : {A : Type 0} (at : ℕ) (o : Option A) (y : A) → or_bad_operand at o ≡ Ok y → o ≡ Some y
 wanted_is at None y e = absurd cc
 wanted_is at (Some x) y e = ap (λ z. Some z) (ok_is x y e)
 
-pub behind_is : (code : List ℕ) (at : ℕ) (r : Result (CompactOperand × List ℕ) OperandFault) (p : CompactOperand × ℕ) → behind code at r ≡ Ok p
+pub behind_is : (code : List ℕ) (at : ℕ) (r : Result (CompactOperand × List ℕ) OperandFault) (p : CompactOperand × ℕ) → position_after code at r ≡ Ok p
     → (rest : List ℕ) × (r ≡ Ok (p.0, rest)) × (p.1 ≡ length code - length rest)
 behind_is code at (Ok x) p e =
     let same : (x.0, length code - length x.1) ≡ p = ok_is (x.0, length code - length x.1) p e in
@@ -101,13 +101,13 @@ spelled_read : (code front rest : List ℕ) (at : ℕ) (v : CompactOperand) → 
 unfolding spelled_at
 spelled_read code front rest at v e is =
     let read : operand_at (drop at code) ≡ Ok (v, rest) = ap operand_at e ∙ operand_spelled v front rest is in
-    ap (behind code at) read
+    ap (position_after code at) read
 
 meant_told : (t : Tables) (code : List ℕ) (kind : Kind) (at : ℕ) (p : Operand × ℕ) → meant_at t.atoms t.imports t.literals code kind at ≡ Ok p → Between (IsOperand t kind p.0) code at p.1
 unfolding meant_at
 meant_told t code kind at p e =
-    let s = bind_ok (spelled_at code at) (λ (spelled : CompactOperand × ℕ). wanted at (meaning_of kind t.atoms t.imports t.literals spelled.0) >>= λ meant. done (meant, spelled.1)) p e in
-    let m = bind_ok (wanted at (meaning_of kind t.atoms t.imports t.literals s.0.0)) (λ (meant : Operand). done (meant, s.0.1)) p s.2 in
+    let s = bind_ok (spelled_at code at) (λ (spelled : CompactOperand × ℕ). or_bad_operand at (meaning_of kind t.atoms t.imports t.literals spelled.0) >>= λ meant. done (meant, spelled.1)) p e in
+    let m = bind_ok (or_bad_operand at (meaning_of kind t.atoms t.imports t.literals s.0.0)) (λ (meant : Operand). done (meant, s.0.1)) p s.2 in
     let b = spelled_told code at s.0 s.1 in
     let front : Between (IsOperand t kind m.0) code at s.0.1 = record {
       front = b.front;
@@ -177,7 +177,7 @@ found n (p ∷ os) o e = by (number_of p == n) refl e (λ f. found n os o f)
     by true t f others = let same : p ≡ o = cc (f) in ap number_of (sym same) ∙ eqb-true (number_of p) n t
     by false t f others = others f
 
-pub known_is : (at n : ℕ) (r : Option Opcode) (o : Opcode) → known at n r ≡ Ok o → r ≡ Some o
+pub known_is : (at n : ℕ) (r : Option Opcode) (o : Opcode) → or_unsupported_opcode at n r ≡ Ok o → r ≡ Some o
 known_is at n None o e = absurd cc
 known_is at n (Some p) o e = ap (λ (q : Opcode). Some q) (ok_is p o e)
 
@@ -193,7 +193,7 @@ opcode_told code at o e =
 
 opcode_read : (code : List ℕ) (at : ℕ) (o : Opcode) (rest : List ℕ) → drop at code ≡ number_of o ∷ rest → opcode_at code at ≡ Ok o
 unfolding opcode_at
-opcode_read code at o rest e = ap (opcode_in at) (first_at code at (number_of o) rest e) ∙ ap (known at (number_of o)) (opcode_again o)
+opcode_read code at o rest e = ap (opcode_in at) (first_at code at (number_of o) rest e) ∙ ap (or_unsupported_opcode at (number_of o)) (opcode_again o)
 
 pub end_is : (o : Opcode) → is_end o ≡ true → o ≡ op.IntCodeEnd
 end_is op.IntCodeEnd e = refl
@@ -209,12 +209,12 @@ goes_on _ n = refl
 -- ---- instructions
 
 pub instruction_told : (t : Tables) (code : List ℕ) (o : Opcode) (at : ℕ) (p : Instruction × ℕ) → opcode_at code at ≡ Ok o → is_end o ≡ false
-    → instruction_at t.atoms t.imports t.literals code o (at + 1) ≡ Ok p → Between (IsInstruction t p.0) code at p.1
-unfolding instruction_at
+    → instruction_after_opcode t.atoms t.imports t.literals code o (at + 1) ≡ Ok p → Between (IsInstruction t p.0) code at p.1
+unfolding instruction_after_opcode
 instruction_told t code o at p e goes f =
-    let b = bind_ok (operands_at t.atoms t.imports t.literals code (kinds_of o) (at + 1)) (λ (operands : List Operand × ℕ). done (record { opcode = o; operands = listed o operands.0 }, operands.1)) p f in
+    let b = bind_ok (operands_at t.atoms t.imports t.literals code (kinds_of o) (at + 1)) (λ (operands : List Operand × ℕ). done (record { opcode = o; operands = listed_operands o operands.0 }, operands.1)) p f in
     let operands = operands_told t code (kinds_of o) (at + 1) b.0 b.1 in
-    let made : Instruction = record { opcode = o; operands = listed o b.0.0 } in
+    let made : Instruction = record { opcode = o; operands = listed_operands o b.0.0 } in
     let front : Between (IsInstruction t made) code at b.0.1 = record {
       front = number_of o ∷ operands.front;
       parts = opcode_told code at o e ∙ ap (λ (u : List ℕ). number_of o ∷ u) operands.parts;
@@ -230,7 +230,7 @@ record Ended (t : Tables) (is : List Instruction) (bytes : List ℕ) : Type 0 wh
 
 abbrev Rest : Tables → List ℕ → ℕ → ℕ → Opcode → Result (List Instruction) CodeFault
 Rest t code limit at o =
-    instruction_at t.atoms t.imports t.literals code o (at + 1) >>= λ first. instructions_at t.atoms t.imports t.literals code limit first.1 >>= λ others. done (first.0 ∷ others)
+    instruction_after_opcode t.atoms t.imports t.literals code o (at + 1) >>= λ first. instructions_at t.atoms t.imports t.literals code limit first.1 >>= λ others. done (first.0 ∷ others)
 
 ended : (t : Tables) (code : List ℕ) (limit at : ℕ) (is : List Instruction) (o : Opcode) → opcode_at code at ≡ Ok o → (b : Bool) → is_end o ≡ b → cond b (done []) (Rest t code limit at o) ≡ Ok is
     → ((next : ℕ) (js : List Instruction) → instructions_at t.atoms t.imports t.literals code limit next ≡ Ok js → Ended t js (drop next code)) → Ended t is (drop at code)
@@ -243,7 +243,7 @@ ended t code limit at is o e true end f others =
       are = refl;
     })
 ended t code limit at is o e false goes f others =
-    let a = bind_ok (instruction_at t.atoms t.imports t.literals code o (at + 1)) (λ (first : Instruction × ℕ). instructions_at t.atoms t.imports t.literals code limit first.1 >>= λ rest. done (first.0 ∷ rest)) is f in
+    let a = bind_ok (instruction_after_opcode t.atoms t.imports t.literals code o (at + 1)) (λ (first : Instruction × ℕ). instructions_at t.atoms t.imports t.literals code limit first.1 >>= λ rest. done (first.0 ∷ rest)) is f in
     let b = bind_ok (instructions_at t.atoms t.imports t.literals code limit a.0.1) (λ (rest : List Instruction). done (a.0.0 ∷ rest)) is a.2 in
     let first = instruction_told t code o at a.0 e goes a.1 in
     let rest = others a.0.1 b.0 b.1 in
@@ -263,7 +263,7 @@ instructions_told t code (suc limit) at is e =
 
 instructions_read : (t : Tables) (code : List ℕ) (limit : ℕ) (is : List Instruction) (body rest : List ℕ) (at : ℕ) → drop at code ≡ body ++ (number_of op.IntCodeEnd ∷ rest) → InSequence (IsInstruction t) is body
     → length body < limit → instructions_at t.atoms t.imports t.literals code limit at ≡ Ok is
-unfolding instructions_at instruction_at
+unfolding instructions_at instruction_after_opcode
 instructions_read t code zero is body rest at e are few = absurd (omega arith)
 instructions_read t code (suc limit) [] body rest at e are few =
     let end = opcode_read code at op.IntCodeEnd rest (e ∙ ap (λ (u : List ℕ). u ++ (number_of op.IntCodeEnd ∷ rest)) are) in
@@ -277,7 +277,7 @@ instructions_read t code (suc limit) (i ∷ is) body rest at e (front, others, p
     let r = operands_read t code (kinds_of i.opcode) h.operands h.rest last (at + 1) (next_rest code at (number_of i.opcode) (h.rest ++ last) here) h.are_operands in
     let operands = r.is in
     let again = instructions_read t code limit is others rest r.next r.stands are (omega (arith, few, ap length parts, length-append front others, ap length h.parts)) in
-    let made : Instruction = record { opcode = i.opcode; operands = listed i.opcode h.operands } in
+    let made : Instruction = record { opcode = i.opcode; operands = listed_operands i.opcode h.operands } in
     let same : made ≡ i = ap (λ (os : List Operand). record { opcode = i.opcode; operands = os }) (sym h.in_listing) in
     rw (opcode, on, operands, again) (ap (λ (j : Instruction). done (j ∷ is)) same)
 

@@ -17,8 +17,8 @@ use Rattle.beam_model.specs.declared.instruction.Operand.{Operand}
 use Rattle.beam_model.specs.declared.instruction.Operand.TheVariants as operand
 use Rattle.beam_model.specs.declared.opcode.Kind.{Kind}
 use Rattle.beam_model.specs.declared.opcode.Kind.TheVariants as kind
-use Rattle.beam_model.specs.Compact.{OperandFault, ◌>>=◌, value_at, tag_of, atom_of, is_one, number_at, members_at, list_at, extended_of, single_of, single_at, one, operand_of, operand_at}
-use Rattle.beam_model.specs.CodeChunk.{CodeFault, argument_of, source_of, member_of, import_of, meaning_of, spelled_at, wanted, meant_at, operands_at}
+use Rattle.beam_model.specs.Compact.{OperandFault, ◌>>=◌, value_at, compact_tag, atom_or_nil, is_one, number_at, members_at, compact_list_at, extended_of, single_of_tag, single_at, as_operand, operand_of_tag, operand_at}
+use Rattle.beam_model.specs.CodeChunk.{CodeFault, argument_of, argument_of_source, argument_of_member, import_of_index, meaning_of, spelled_at, or_bad_operand, meant_at, operands_at}
 use Rattle.beam_operand.specs.declared.error.OperandError.{OperandError}
 use Rattle.beam_operand.specs.declared.error.OperandError.TheVariants.{NoMemory}
 use Rattle.beam_operand.specs.Faults.{Fails}
@@ -132,13 +132,13 @@ atom_inside (text ∷ atoms) zero h = omega arith
 atom_inside (text ∷ atoms) (suc n) h = let more : n < length atoms = atom_inside atoms n h in omega arith
 
 pub atom_within : (v c : CodeBytes) → v ≡ c → (terms : List TermValue) → terms ≡ map (λ text. atom_term text) v.tables.atoms → (number : ℕ) → number ≢ 0
-    → IsSome (meant_in c (atom_of number)) → number - 1 < length terms
+    → IsSome (meant_in c (atom_or_nil number)) → number - 1 < length terms
 atom_within v c same terms are zero not h = absurd (not refl)
 atom_within v c same terms are (suc n) not h =
     omega (arith, atom_inside c.tables.atoms n h, ap length are, length-map v.tables.atoms (λ text. atom_term text), ap (λ (b : CodeBytes). length b.tables.atoms) same)
 
 pub atom_lent : (v c : CodeBytes) → v ≡ c → (terms : List TermValue) → terms ≡ map (λ text. atom_term text) v.tables.atoms → (number : ℕ) → number ≢ 0 → (t : TermValue) → t ≡ get_or terms (number - 1) t
-    → IsSome (meant_in c (atom_of number)) → meant_in c (atom_of number) ≡ Some (argument.Term t)
+    → IsSome (meant_in c (atom_or_nil number)) → meant_in c (atom_or_nil number) ≡ Some (argument.Term t)
 atom_lent v c same terms are zero not t e h = absurd (not refl)
 atom_lent v c same terms are (suc n) not t e h =
     let before : suc n - 1 ≡ n = omega arith in
@@ -147,7 +147,7 @@ atom_lent v c same terms are (suc n) not t e h =
 
 -- ---- operands that are no lists
 
-one_is : (r : Result (Compact × List ℕ) OperandFault) (x : Compact) (rest : List ℕ) → one r ≡ Ok (compact_operand.One x, rest) → r ≡ Ok (x, rest)
+one_is : (r : Result (Compact × List ℕ) OperandFault) (x : Compact) (rest : List ℕ) → as_operand r ≡ Ok (compact_operand.One x, rest) → r ≡ Ok (x, rest)
 one_is (Ok y) x rest e =
     let same : (compact_operand.One y.0, y.1) ≡ (compact_operand.One x, rest) = read_is {F = OperandFault} (compact_operand.One y.0, y.1) (compact_operand.One x, rest) e in
     let ones : compact_operand.One y.0 ≡ compact_operand.One x = ap (λ (p : CompactOperand × List ℕ). p.0) same in
@@ -156,8 +156,8 @@ one_is (Ok y) x rest e =
     ap (λ (z : Compact). Ok (z, y.1)) first ∙ ap (λ (w : List ℕ). Ok (x, w)) second
 one_is (Err f) x rest e = absurd cc
 
-no_list : (bytes : List ℕ) (x : Compact) (rest : List ℕ) → list_at bytes ≡ Ok (compact_operand.One x, rest) → ⊥
-unfolding list_at
+no_list : (bytes : List ℕ) (x : Compact) (rest : List ℕ) → compact_list_at bytes ≡ Ok (compact_operand.One x, rest) → ⊥
+unfolding compact_list_at
 no_list bytes x rest e =
     let n = bind_read (number_at bytes) (λ (count : ℕ × List ℕ). members_at count.0 count.1 >>= λ members. Ok (compact_operand.List members.0, members.1)) (compact_operand.One x, rest) e in
     let m = bind_read (members_at n.0.0 n.0.1) (λ (members : List Compact × List ℕ). Ok (compact_operand.List members.0, members.1)) (compact_operand.One x, rest) n.2 in
@@ -165,31 +165,31 @@ no_list bytes x rest e =
     let kinds : compact_operand.List m.0.0 ≡ compact_operand.One x = ap (λ (p : CompactOperand × List ℕ). p.0) same in
     cc (kinds)
 
-extended_is : (b : Bool) (bytes : List ℕ) (r : Result (Compact × List ℕ) OperandFault) (x : Compact) (rest : List ℕ) → cond b (list_at bytes) (one r) ≡ Ok (compact_operand.One x, rest) → r ≡ Ok (x, rest)
+extended_is : (b : Bool) (bytes : List ℕ) (r : Result (Compact × List ℕ) OperandFault) (x : Compact) (rest : List ℕ) → cond b (compact_list_at bytes) (as_operand r) ≡ Ok (compact_operand.One x, rest) → r ≡ Ok (x, rest)
 extended_is true bytes r x rest e = absurd (no_list bytes x rest e)
 extended_is false bytes r x rest e = one_is r x rest e
 
-single_is_of : (t : CompactTag) (first : ℕ) (bytes : List ℕ) (x : Compact) (rest : List ℕ) → operand_of t first bytes ≡ Ok (compact_operand.One x, rest) → single_of t first bytes ≡ Ok (x, rest)
-unfolding operand_of single_of
+single_is_of : (t : CompactTag) (first : ℕ) (bytes : List ℕ) (x : Compact) (rest : List ℕ) → operand_of_tag t first bytes ≡ Ok (compact_operand.One x, rest) → single_of_tag t first bytes ≡ Ok (x, rest)
+unfolding operand_of_tag single_of_tag
 single_is_of tag.Extended first bytes x rest e =
-    let v = bind_read (value_at first bytes) (λ v. cond (is_one v.0) (list_at v.1) (one (extended_of v.0 v.1))) (compact_operand.One x, rest) e in
+    let v = bind_read (value_at first bytes) (λ v. cond (is_one v.0) (compact_list_at v.1) (as_operand (extended_of v.0 v.1))) (compact_operand.One x, rest) e in
     let value = v.1 in
     rw value (extended_is (is_one v.0.0) v.0.1 (extended_of v.0.0 v.0.1) x rest v.2)
-single_is_of tag.Number first bytes x rest e = one_is (single_of tag.Number first bytes) x rest e
-single_is_of tag.Integer first bytes x rest e = one_is (single_of tag.Integer first bytes) x rest e
-single_is_of tag.Atom first bytes x rest e = one_is (single_of tag.Atom first bytes) x rest e
-single_is_of tag.X first bytes x rest e = one_is (single_of tag.X first bytes) x rest e
-single_is_of tag.Y first bytes x rest e = one_is (single_of tag.Y first bytes) x rest e
-single_is_of tag.Label first bytes x rest e = one_is (single_of tag.Label first bytes) x rest e
-single_is_of tag.Character first bytes x rest e = one_is (single_of tag.Character first bytes) x rest e
+single_is_of tag.Number first bytes x rest e = one_is (single_of_tag tag.Number first bytes) x rest e
+single_is_of tag.Integer first bytes x rest e = one_is (single_of_tag tag.Integer first bytes) x rest e
+single_is_of tag.Atom first bytes x rest e = one_is (single_of_tag tag.Atom first bytes) x rest e
+single_is_of tag.X first bytes x rest e = one_is (single_of_tag tag.X first bytes) x rest e
+single_is_of tag.Y first bytes x rest e = one_is (single_of_tag tag.Y first bytes) x rest e
+single_is_of tag.Label first bytes x rest e = one_is (single_of_tag tag.Label first bytes) x rest e
+single_is_of tag.Character first bytes x rest e = one_is (single_of_tag tag.Character first bytes) x rest e
 
 single_is : (bytes : List ℕ) (x : Compact) (rest : List ℕ) → operand_at bytes ≡ Ok (compact_operand.One x, rest) → single_at bytes ≡ Ok (x, rest)
 single_is [] x rest e = absurd cc
-single_is (first ∷ bytes) x rest e = single_is_of (tag_of first) first bytes x rest e
+single_is (first ∷ bytes) x rest e = single_is_of (compact_tag first) first bytes x rest e
 
 -- ---- what they mean
 
-source_member : (atoms : List (List ℕ)) (literals : List TermValue) (x : Compact) (a : Argument) → source_of atoms literals x ≡ Some a → member_of atoms literals x ≡ Some a
+source_member : (atoms : List (List ℕ)) (literals : List TermValue) (x : Compact) (a : Argument) → argument_of_source atoms literals x ≡ Some a → argument_of_member atoms literals x ≡ Some a
 source_member atoms literals (compact.Number n) a e = absurd cc
 source_member atoms literals (compact.Label n) a e = absurd cc
 source_member atoms literals (compact.X n) a e = e
@@ -200,7 +200,7 @@ source_member atoms literals (compact.Atom n) a e = e
 source_member atoms literals (compact.Literal n) a e = e
 
 -- an operand means the same under a kind as without one
-argument_member : (k : Kind) (atoms : List (List ℕ)) (literals : List TermValue) (x : Compact) (a : Argument) → argument_of k atoms literals x ≡ Some a → member_of atoms literals x ≡ Some a
+argument_member : (k : Kind) (atoms : List (List ℕ)) (literals : List TermValue) (x : Compact) (a : Argument) → argument_of k atoms literals x ≡ Some a → argument_of_member atoms literals x ≡ Some a
 argument_member kind.Number atoms literals (compact.Number n) a e = e
 argument_member kind.Number atoms literals _ a e = absurd cc
 argument_member kind.Arity atoms literals (compact.Number n) a e = e
@@ -271,8 +271,8 @@ is_meant : (k : Kind) (c : CodeBytes) (at : ℕ) (o : Operand) (next : ℕ) → 
 unfolding meant_at spelled_at
 is_meant k c at o next e =
     let t = c.tables in
-    let s = bind_ok (spelled_at c.code at) (λ (spelled : CompactOperand × ℕ). wanted at (meaning_of k t.atoms t.imports t.literals spelled.0) >>= λ meant. done (meant, spelled.1)) (o, next) e in
-    let m = bind_ok (wanted at (meaning_of k t.atoms t.imports t.literals s.0.0)) (λ (meant : Operand). done (meant, s.0.1)) (o, next) s.2 in
+    let s = bind_ok (spelled_at c.code at) (λ (spelled : CompactOperand × ℕ). or_bad_operand at (meaning_of k t.atoms t.imports t.literals spelled.0) >>= λ meant. done (meant, spelled.1)) (o, next) e in
+    let m = bind_ok (or_bad_operand at (meaning_of k t.atoms t.imports t.literals s.0.0)) (λ (meant : Operand). done (meant, s.0.1)) (o, next) s.2 in
     let b = behind_is c.code at (operand_at (drop at c.code)) s.0 s.1 in
     let same : (m.0, s.0.1) ≡ (o, next) = ok_is (m.0, s.0.1) (o, next) m.2 in
     let meant : m.0 ≡ o = ap (λ (p : Operand × ℕ). p.0) same in
@@ -305,7 +305,7 @@ record IsIndexOf (c : CodeBytes) (x : CompactOperand) (o : Operand) : Type 0 whe
   there : slice_get c.tables.imports n ≡ Some import
   operand : o ≡ operand.Import import
 
-index_of : (c : CodeBytes) (x : Compact) (o : Operand) → option_map (λ i. operand.Import i) (import_of c.tables.imports x) ≡ Some o → IsIndexOf c (compact_operand.One x) o
+index_of : (c : CodeBytes) (x : Compact) (o : Operand) → option_map (λ i. operand.Import i) (import_of_index c.tables.imports x) ≡ Some o → IsIndexOf c (compact_operand.One x) o
 index_of c (compact.Number n) o e =
     let m = mapped (λ i. operand.Import i) (slice_get c.tables.imports n) o e in
     record { n = n; import = m.0; is = refl; there = m.1; operand = m.2 }

@@ -11,7 +11,7 @@ use Rattle.beam_model.specs.declared.opcode.Opcode.{Opcode}
 use Rattle.beam_model.specs.declared.opcode.Kind.{Kind}
 use Rattle.beam_model.specs.Compact.{◌>>=◌}
 use Rattle.beam_term.specs.TermValue.{TermValue}
-use Rattle.beam_model.specs.CodeChunk.{CodeFault, in_front, member_of, members_of, meant_at, operands_at, opcode_at, is_end, instruction_at, instructions_at}
+use Rattle.beam_model.specs.CodeChunk.{CodeFault, in_front, argument_of_member, members_of, meant_at, operands_at, opcode_at, is_end, instruction_after_opcode, instructions_at}
 use Rattle.beam_code.specs.declared.error.CodeError.{CodeError}
 use Rattle.beam_code.specs.declared.error.CodeError.TheVariants.{UnsupportedOpcode, BadOperand, Truncated, NoMemory}
 use Rattle.beam_code.specs.Faults.{Fails}
@@ -32,7 +32,7 @@ members_start (Some xs) = refl
 members_start None = refl
 
 pub member_more : (atoms : List (List ℕ)) (literals : List TermValue) (xs : List Compact) (i : ℕ) (d : Compact) (front : List Argument) (a : Argument) (all : Option (List Argument)) → i < length xs
-    → Some a ≡ member_of atoms literals (get_or xs i d) → with_members front (members_of atoms literals (drop i xs)) ≡ all → with_members (front ++ a ∷ []) (members_of atoms literals (drop (i + 1) xs)) ≡ all
+    → Some a ≡ argument_of_member atoms literals (get_or xs i d) → with_members front (members_of atoms literals (drop i xs)) ≡ all → with_members (front ++ a ∷ []) (members_of atoms literals (drop (i + 1) xs)) ≡ all
 unfolding members_of
 member_more atoms literals xs i d front a all lt e so_far =
     let left : members_of atoms literals (drop i xs) ≡ in_front (Some a) (members_of atoms literals (drop (i + 1) xs)) =
@@ -40,7 +40,7 @@ member_more atoms literals xs i d front a all lt e so_far =
     sym (regroup_members front a (members_of atoms literals (drop (i + 1) xs))) ∙ ap (with_members front) (sym left) ∙ so_far
 
 pub member_none : (atoms : List (List ℕ)) (literals : List TermValue) (xs : List Compact) (i : ℕ) (d : Compact) (front : List Argument) (all : Option (List Argument)) → i < length xs
-    → None ≡ member_of atoms literals (get_or xs i d) → with_members front (members_of atoms literals (drop i xs)) ≡ all → None ≡ all
+    → None ≡ argument_of_member atoms literals (get_or xs i d) → with_members front (members_of atoms literals (drop i xs)) ≡ all → None ≡ all
 unfolding members_of
 member_none atoms literals xs i d front all lt e so_far =
     let left : members_of atoms literals (drop i xs) ≡ None =
@@ -119,7 +119,7 @@ reading_starts atoms imports literals code start low high =
 -- an instruction and the instructions after it
 abbrev from_opcode : List (List ℕ) → List Import → List TermValue → List ℕ → ℕ → ℕ → Opcode → Result (List Instruction) CodeFault
 from_opcode atoms imports literals code n at opcode =
-    cond (is_end opcode) (Ok []) (instruction_at atoms imports literals code opcode (at + 1) >>= λ first. instructions_at atoms imports literals code n first.1 >>= λ others. Ok (first.0 ∷ others))
+    cond (is_end opcode) (Ok []) (instruction_after_opcode atoms imports literals code opcode (at + 1) >>= λ first. instructions_at atoms imports literals code n first.1 >>= λ others. Ok (first.0 ∷ others))
 
 one_step : (atoms : List (List ℕ)) (imports : List Import) (literals : List TermValue) (code : List ℕ) (start at : ℕ) (front : List Instruction) → IsRead atoms imports literals code start at front → (n : ℕ) → n ≡ length code - suc (length front)
     → with_instructions front (opcode_at code at >>= from_opcode atoms imports literals code n at) ≡ instructions_at atoms imports literals code (length code) start
@@ -149,29 +149,29 @@ reading_ends atoms imports literals code start at front opcode r e ends =
     let n = length code - suc (length front) in
     sym (one_step atoms imports literals code start at front r n refl)
     ∙ ap (λ (o : Result Opcode CodeFault). with_instructions front (o >>= from_opcode atoms imports literals code n at)) e
-    ∙ ap (λ (b : Bool). with_instructions front (cond b (Ok []) (instruction_at atoms imports literals code opcode (at + 1) >>= λ first. instructions_at atoms imports literals code n first.1 >>= λ others. Ok (first.0 ∷ others)))) ends
+    ∙ ap (λ (b : Bool). with_instructions front (cond b (Ok []) (instruction_after_opcode atoms imports literals code opcode (at + 1) >>= λ first. instructions_at atoms imports literals code n first.1 >>= λ others. Ok (first.0 ∷ others)))) ends
     ∙ ap (λ (xs : List Instruction). Ok xs) (append-nil front)
 
 -- after an opcode other than int_code_end
 behind_opcode : (atoms : List (List ℕ)) (imports : List Import) (literals : List TermValue) (code : List ℕ) (start at : ℕ) (front : List Instruction) (opcode : Opcode) → IsRead atoms imports literals code start at front
     → opcode_at code at ≡ Ok opcode → is_end opcode ≡ false
-    → with_instructions front (instruction_at atoms imports literals code opcode (at + 1) >>= λ first. instructions_at atoms imports literals code (length code - suc (length front)) first.1 >>= λ others. Ok (first.0 ∷ others))
+    → with_instructions front (instruction_after_opcode atoms imports literals code opcode (at + 1) >>= λ first. instructions_at atoms imports literals code (length code - suc (length front)) first.1 >>= λ others. Ok (first.0 ∷ others))
     ≡ instructions_at atoms imports literals code (length code) start
 behind_opcode atoms imports literals code start at front opcode r e goes_on =
     let n = length code - suc (length front) in
-    let left : (opcode_at code at >>= from_opcode atoms imports literals code n at) ≡ (instruction_at atoms imports literals code opcode (at + 1) >>= λ first. instructions_at atoms imports literals code n first.1 >>= λ others. Ok (first.0 ∷ others)) =
+    let left : (opcode_at code at >>= from_opcode atoms imports literals code n at) ≡ (instruction_after_opcode atoms imports literals code opcode (at + 1) >>= λ first. instructions_at atoms imports literals code n first.1 >>= λ others. Ok (first.0 ∷ others)) =
     ap (λ (o : Result Opcode CodeFault). o >>= from_opcode atoms imports literals code n at) e
-    ∙ ap (λ (b : Bool). cond b (Ok []) (instruction_at atoms imports literals code opcode (at + 1) >>= λ first. instructions_at atoms imports literals code n first.1 >>= λ others. Ok (first.0 ∷ others))) goes_on in
+    ∙ ap (λ (b : Bool). cond b (Ok []) (instruction_after_opcode atoms imports literals code opcode (at + 1) >>= λ first. instructions_at atoms imports literals code n first.1 >>= λ others. Ok (first.0 ∷ others))) goes_on in
     ap (with_instructions front) (sym left) ∙ one_step atoms imports literals code start at front r n refl
 
 instruction_fault : (atoms : List (List ℕ)) (imports : List Import) (literals : List TermValue) (code : List ℕ) (start at : ℕ) (front : List Instruction) (opcode : Opcode) (f : CodeFault) → IsRead atoms imports literals code start at front
-    → opcode_at code at ≡ Ok opcode → is_end opcode ≡ false → instruction_at atoms imports literals code opcode (at + 1) ≡ Err f → instructions_at atoms imports literals code (length code) start ≡ Err f
+    → opcode_at code at ≡ Ok opcode → is_end opcode ≡ false → instruction_after_opcode atoms imports literals code opcode (at + 1) ≡ Err f → instructions_at atoms imports literals code (length code) start ≡ Err f
 instruction_fault atoms imports literals code start at front opcode f r e goes_on h =
     sym (behind_opcode atoms imports literals code start at front opcode r e goes_on)
     ∙ ap (λ (i : Result (Instruction × ℕ) CodeFault). with_instructions front (i >>= λ first. instructions_at atoms imports literals code (length code - suc (length front)) first.1 >>= λ others. Ok (first.0 ∷ others))) h
 
 pub instruction_fails : (e : CodeError) (atoms : List (List ℕ)) (imports : List Import) (literals : List TermValue) (code : List ℕ) (start at : ℕ) (front : List Instruction) (opcode : Opcode) → IsRead atoms imports literals code start at front
-    → opcode_at code at ≡ Ok opcode → is_end opcode ≡ false → Fails e (instruction_at atoms imports literals code opcode (at + 1)) → Fails e (instructions_at atoms imports literals code (length code) start)
+    → opcode_at code at ≡ Ok opcode → is_end opcode ≡ false → Fails e (instruction_after_opcode atoms imports literals code opcode (at + 1)) → Fails e (instructions_at atoms imports literals code (length code) start)
 instruction_fails NoMemory atoms imports literals code start at front opcode r o g h = tt
 instruction_fails Truncated atoms imports literals code start at front opcode r o g h = instruction_fault atoms imports literals code start at front opcode _ r o g h
 instruction_fails (BadOperand n) atoms imports literals code start at front opcode r o g h = instruction_fault atoms imports literals code start at front opcode _ r o g h
@@ -182,7 +182,7 @@ regroup_instructions front i (Ok xs) = ap (λ (ys : List Instruction). Ok ys) (s
 regroup_instructions front i (Err f) = refl
 
 pub instruction_more : (atoms : List (List ℕ)) (imports : List Import) (literals : List TermValue) (code : List ℕ) (start at next : ℕ) (front : List Instruction) (opcode : Opcode) (i : Instruction) → IsRead atoms imports literals code start at front
-    → opcode_at code at ≡ Ok opcode → is_end opcode ≡ false → instruction_at atoms imports literals code opcode (at + 1) ≡ Ok (i, next) → at + 1 ≤ next → next ≤ length code
+    → opcode_at code at ≡ Ok opcode → is_end opcode ≡ false → instruction_after_opcode atoms imports literals code opcode (at + 1) ≡ Ok (i, next) → at + 1 ≤ next → next ≤ length code
     → IsRead atoms imports literals code start next (front ++ i ∷ [])
 instruction_more atoms imports literals code start at next front opcode i r o goes_on e low high =
     let count : length front < at = r.count in

@@ -21,9 +21,9 @@ use Rattle.beam_model.specs.declared.instruction.Operand.TheVariants as operand
 use Rattle.beam_model.specs.declared.opcode.Kind.{Kind}
 use Rattle.beam_model.specs.declared.opcode.Kind.TheVariants as kind
 use Rattle.beam_model.specs.SameText.{same_text}
-use Rattle.beam_model.specs.Compact.{OperandFault, spelling, HasNumbers, HaveNumbers, IsOperand}
-use Rattle.beam_model.specs.CodeChunk.{atom_of, source_of, argument_of, member_of, members_of, meaning_of}
-use Rattle.beam_model.specs.Loadable.{is_number, is_arity, is_frame_size, is_label_operand, is_atom, is_source, is_register, is_within}
+use Rattle.beam_model.specs.Compact.{OperandFault, spelling, HasNumbers, HaveNumbers, HasOperandNumbers}
+use Rattle.beam_model.specs.CodeChunk.{argument_of_atom, argument_of_source, argument_of, argument_of_member, members_of, meaning_of}
+use Rattle.beam_model.specs.Loadable.{is_number_operand, is_arity, is_frame_size, is_label_operand, is_atom_operand, is_source_operand, is_register_operand, is_within}
 use Rattle.beam_model.specs.Assembly.{Numbering, same_import, word, atom_index, import_index, literal_index, compact_term, compact_argument, compact_before, compact_arguments, compact_of, operand_bytes}
 
 abbrev some : {A : Type 0} → A → Option A
@@ -77,14 +77,14 @@ import_decides i j e =
     let a = eqb-true i.arity j.arity f.1 in
     λ k. record { «module» = m k; function = n k; arity = a k }
 
-atom_again : (n : Numbering) (text : List ℕ) (index : ℕ) → atom_index n text ≡ Some index → (atom_of n.atoms index ≡ Some (argument.Term (atom_term text))) × (index < 2 ^ 32)
+atom_again : (n : Numbering) (text : List ℕ) (index : ℕ) → atom_index n text ≡ Some index → (argument_of_atom n.atoms index ≡ Some (argument.Term (atom_term text))) × (index < 2 ^ 32)
 atom_again n text index e =
     let p = chained (λ place. word (place + 1)) (position (same_text text) n.atoms) index e in
     let w = word_is (p.0 + 1) index p.2 in
     let next : suc p.0 ≡ index = sym (add-one p.0) ∙ w.0 in
     let there : slice_get n.atoms p.0 ≡ Some text = placed same_text text_decides n.atoms text p.0 p.1 in
-    let at : atom_of n.atoms (suc p.0) ≡ Some (argument.Term (atom_term text)) = ap (option_map (λ t. argument.Term (atom_term t))) there in
-    (ap (atom_of n.atoms) (sym next) ∙ at, w.1)
+    let at : argument_of_atom n.atoms (suc p.0) ≡ Some (argument.Term (atom_term text)) = ap (option_map (λ t. argument.Term (atom_term t))) there in
+    (ap (argument_of_atom n.atoms) (sym next) ∙ at, w.1)
 
 import_again : (n : Numbering) (i : Import) (index : ℕ) → import_index n i ≡ Some index → (slice_get n.imports index ≡ Some i) × (index < 2 ^ 32)
 import_again n i index e =
@@ -105,13 +105,13 @@ literal_again n t index e =
 
 -- a compact operand that means an argument, whose numbers fit
 record Means (n : Numbering) (x : Compact) (a : Argument) : Type 0 where
-  means : member_of n.atoms n.literals x ≡ Some a
+  means : argument_of_member n.atoms n.literals x ≡ Some a
   fits : HasNumbers x
 
 -- a term's meaning as a source
 record Sources (n : Numbering) (x : Compact) (t : TermValue) : Type 0 where
-  source : source_of n.atoms n.literals x ≡ Some (argument.Term t)
-  member : member_of n.atoms n.literals x ≡ Some (argument.Term t)
+  source : argument_of_source n.atoms n.literals x ≡ Some (argument.Term t)
+  member : argument_of_member n.atoms n.literals x ≡ Some (argument.Term t)
   fits : HasNumbers x
 
 abbrev at_compact : {x y : Compact} (P : Compact → Type 0) → x ≡ y → P x → P y
@@ -182,7 +182,7 @@ arguments_mean n (a ∷ as') xs e =
 -- an operand that means o under its kind, whose numbers fit
 pub record IsMeant (n : Numbering) (k : Kind) (x : CompactOperand) (o : Operand) : Type 0 where
   pub means : meaning_of k n.atoms n.imports n.literals x ≡ Some o
-  pub fits : IsOperand x
+  pub fits : HasOperandNumbers x
 
 abbrev at_operand : {x y : CompactOperand} (P : CompactOperand → Type 0) → x ≡ y → P x → P y
 at_operand P e p = subst P e p
@@ -211,7 +211,7 @@ y_is n r x e =
     let m = mapped (λ r. compact.Y r) (word r) x e in
     ap (λ (k : ℕ). compact.Y k) (word_is r m.0 m.1).0 ∙ m.2
 
-number_meant : (n : Numbering) (k : Kind) (a : Argument) (x : Compact) → is_number (operand.One a) ≡ true → compact_argument n a ≡ Some x → argument_of kind.Number n.atoms n.literals x ≡ Some a
+number_meant : (n : Numbering) (k : Kind) (a : Argument) (x : Compact) → is_number_operand (operand.One a) ≡ true → compact_argument n a ≡ Some x → argument_of kind.Number n.atoms n.literals x ≡ Some a
 number_meant n k (argument.Number u) x w e = subst (λ y. argument_of kind.Number n.atoms n.literals y ≡ Some (argument.Number u)) (number_is n u x e) refl
 number_meant n k _ x w e = absurd cc
 
@@ -237,11 +237,11 @@ text_meant n text x e =
     let m = mapped (λ index. compact.Atom index) (atom_index n text) x e in
     subst (λ y. argument_of kind.Atom n.atoms n.literals y ≡ Some (argument.Term (atom_term text))) m.2 (atom_again n text m.0 m.1).0
 
-atom_meant : (n : Numbering) (a : Argument) (x : Compact) → is_atom (operand.One a) ≡ true → compact_argument n a ≡ Some x → argument_of kind.Atom n.atoms n.literals x ≡ Some a
+atom_meant : (n : Numbering) (a : Argument) (x : Compact) → is_atom_operand (operand.One a) ≡ true → compact_argument n a ≡ Some x → argument_of kind.Atom n.atoms n.literals x ≡ Some a
 atom_meant n (argument.Term (atom_term text)) x w e = text_meant n text x e
 atom_meant n _ x w e = absurd cc
 
-source_meant : (n : Numbering) (a : Argument) (x : Compact) → is_source (operand.One a) ≡ true → compact_argument n a ≡ Some x → argument_of kind.Source n.atoms n.literals x ≡ Some a
+source_meant : (n : Numbering) (a : Argument) (x : Compact) → is_source_operand (operand.One a) ≡ true → compact_argument n a ≡ Some x → argument_of kind.Source n.atoms n.literals x ≡ Some a
 unfolding compact_argument
 source_meant n (argument.Term t) x w e = (term_means n t x e).source
 source_meant n (argument.X r) x w e = subst (λ y. argument_of kind.Source n.atoms n.literals y ≡ Some (argument.X r)) (x_is n r x e) refl
@@ -249,7 +249,7 @@ source_meant n (argument.Y r) x w e = subst (λ y. argument_of kind.Source n.ato
 source_meant n (argument.Label f) x w e = absurd cc
 source_meant n (argument.Number u) x w e = absurd cc
 
-register_meant : (n : Numbering) (a : Argument) (x : Compact) → is_register (operand.One a) ≡ true → compact_argument n a ≡ Some x → argument_of kind.Register n.atoms n.literals x ≡ Some a
+register_meant : (n : Numbering) (a : Argument) (x : Compact) → is_register_operand (operand.One a) ≡ true → compact_argument n a ≡ Some x → argument_of kind.Register n.atoms n.literals x ≡ Some a
 register_meant n (argument.X r) x w e = subst (λ y. argument_of kind.Register n.atoms n.literals y ≡ Some (argument.X r)) (x_is n r x e) refl
 register_meant n (argument.Y r) x w e = subst (λ y. argument_of kind.Register n.atoms n.literals y ≡ Some (argument.Y r)) (y_is n r x e) refl
 register_meant n _ x w e = absurd cc

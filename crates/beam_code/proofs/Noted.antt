@@ -9,21 +9,21 @@ use Rattle.std.specs.List.Sorted.{IsStrictlySortedBy}
 use Rattle.std.proofs.lemmas.Bool.{ltb-true, ne_eqb}
 use Rattle.std.proofs.lemmas.Map.Keys.{below_from_sorted, sorted_tail}
 use Rattle.beam_model.specs.declared.instruction.Instruction.{Instruction}
-use Rattle.beam_model.specs.Listing.{is_number, label_of}
+use Rattle.beam_model.specs.Listing.{is_this_number, label_of}
 use Rattle.beam_code.specs.Bytes.{byte_after, AreAscending}
 
 -- ---- one instruction more in front
 
 pub noted_more : (label : ℕ) (is : List Instruction) (starts : List ℕ) (end k : ℕ) (i : Instruction) → length starts ≡ length is → k < length is → i ≡ get_or is k i
     → byte_after label (drop k is) (drop 1 (drop k starts) ++ end ∷ [])
-    ≡ cond (is_number label (label_of i)) (Some (get_or starts (suc k) end)) (byte_after label (drop (suc k) is) (drop 1 (drop (suc k) starts) ++ end ∷ []))
+    ≡ cond (is_this_number label (label_of i)) (Some (get_or starts (suc k) end)) (byte_after label (drop (suc k) is) (drop 1 (drop (suc k) starts) ++ end ∷ []))
 noted_more label [] starts end k i same lt e = absurd (omega arith)
 noted_more label (j ∷ is) [] end k i same lt e = absurd (omega arith)
-noted_more label (j ∷ []) (s ∷ []) end zero i same lt e = ap (λ (p : Instruction). cond (is_number label (label_of p)) (Some end) (byte_after label [] [])) (sym e)
+noted_more label (j ∷ []) (s ∷ []) end zero i same lt e = ap (λ (p : Instruction). cond (is_this_number label (label_of p)) (Some end) (byte_after label [] [])) (sym e)
 noted_more label (j ∷ []) (s ∷ t ∷ starts) end zero i same lt e = absurd (omega arith)
 noted_more label (j ∷ p ∷ is) (s ∷ []) end zero i same lt e = absurd (omega arith)
 noted_more label (j ∷ p ∷ is) (s ∷ t ∷ starts) end zero i same lt e =
-    ap (λ (q : Instruction). cond (is_number label (label_of q)) (Some t) (byte_after label (p ∷ is) (starts ++ end ∷ []))) (sym e)
+    ap (λ (q : Instruction). cond (is_this_number label (label_of q)) (Some t) (byte_after label (p ∷ is) (starts ++ end ∷ []))) (sym e)
 noted_more label (j ∷ is) (s ∷ starts) end (suc k) i same lt e = noted_more label is starts end k i (omega arith) (omega arith) e
 
 -- no label stands after the last instruction

@@ -5,7 +5,7 @@ use Rattle.std.specs.Map.{lookup}
 use Rattle.std.proofs.lemmas.List.{length-append, length-map, map-append, get_or_push, get_or_past}
 use Rattle.beam_model.specs.declared.instruction.Instruction.{Instruction}
 use Rattle.beam_model.specs.declared.opcode.Opcode.{Opcode}
-use Rattle.beam_model.specs.CodeChunk.{opcode_at, is_end, instruction_at}
+use Rattle.beam_model.specs.CodeChunk.{opcode_at, is_end, instruction_after_opcode}
 use Rattle.beam_model.specs.Tables.{Tables}
 use Rattle.beam_code.specs.declared.instruction.Places.{Places}
 use Rattle.beam_code.specs.Bytes.{standing_at, read_or_end, instructions_in, byte_after, AreAscending, Spans}
@@ -34,13 +34,13 @@ below_or_at (suc k) zero lt = absurd (omega arith)
 below_or_at (suc k) (suc n) lt = elim (below_or_at k n (omega arith)) [ inl less ↦ inl (omega arith) | inr same ↦ inr (ap suc same) ]
 
 -- the instruction at a byte is an opcode and its operands
-pub stands : (t : Tables) (code : List ℕ) (at next : ℕ) (o : Opcode) (i : Instruction) → opcode_at code at ≡ Ok o → instruction_at t.atoms t.imports t.literals code o (at + 1) ≡ Ok (i, next)
+pub stands : (t : Tables) (code : List ℕ) (at next : ℕ) (o : Opcode) (i : Instruction) → opcode_at code at ≡ Ok o → instruction_after_opcode t.atoms t.imports t.literals code o (at + 1) ≡ Ok (i, next)
     → standing_at t code at ≡ Ok (i, next)
 unfolding standing_at
 stands t code at next o i e f = rw e f
 
 pub placed_more : (t : Tables) (code starts : List ℕ) (at next : ℕ) (front : List Instruction) (o : Opcode) (i : Instruction) → Placed t code starts at front
-    → opcode_at code at ≡ Ok o → is_end o ≡ false → instruction_at t.atoms t.imports t.literals code o (at + 1) ≡ Ok (i, next) → at + 1 ≤ next → next ≤ length code
+    → opcode_at code at ≡ Ok o → is_end o ≡ false → instruction_after_opcode t.atoms t.imports t.literals code o (at + 1) ≡ Ok (i, next) → at + 1 ≤ next → next ≤ length code
     → Placed t code (starts ++ at ∷ []) next (front ++ i ∷ [])
 placed_more t code starts at next front o i p e goes f low high =
     let here : Spans t code at next = record { opcode = o; instruction = i; begins = e; goes_on = goes; ends = f; order = omega arith; within = high } in

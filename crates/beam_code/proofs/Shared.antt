@@ -9,7 +9,7 @@ use Rattle.beam_model.specs.declared.function.Import.{Import}
 use Rattle.beam_model.specs.declared.instruction.Operand.{Operand}
 use Rattle.beam_model.specs.declared.instruction.Instruction.{Instruction}
 use Rattle.beam_model.specs.declared.opcode.Opcode.{Opcode}
-use Rattle.beam_model.specs.CodeChunk.{CodeFault, operands_at, opcode_at, listed, instruction_at}
+use Rattle.beam_model.specs.CodeChunk.{CodeFault, operands_at, opcode_at, listed_operands, instruction_after_opcode}
 use Rattle.beam_model.specs.Tables.{Tables}
 use Rattle.beam_model.specs.Opcodes.{kinds_of}
 use Rattle.beam_code.specs.declared.error.CodeError.{CodeError}
@@ -30,12 +30,12 @@ only_fault front (Ok x) f e = absurd cc
 only_fault front (Err g) f e = e
 
 fault_at_operands : (atoms : List (List ℕ)) (imports : List Import) (literals : List TermValue) (code : List ℕ) (opcode : Opcode) (at : ℕ) (front : List Operand) (f : CodeFault)
-    → put_last front (operands_at atoms imports literals code (kinds_of opcode) at) ≡ Err f → instruction_at atoms imports literals code opcode at ≡ Err f
-unfolding instruction_at
+    → put_last front (operands_at atoms imports literals code (kinds_of opcode) at) ≡ Err f → instruction_after_opcode atoms imports literals code opcode at ≡ Err f
+unfolding instruction_after_opcode
 fault_at_operands atoms imports literals code opcode at front f e = rw (only_fault front (operands_at atoms imports literals code (kinds_of opcode) at) f e) refl
 
 pub operands_fail : (e : CodeError) (atoms : List (List ℕ)) (imports : List Import) (literals : List TermValue) (code : List ℕ) (opcode : Opcode) (at : ℕ) (front : List Operand)
-    → Fails e (put_last front (operands_at atoms imports literals code (kinds_of opcode) at)) → Fails e (instruction_at atoms imports literals code opcode at)
+    → Fails e (put_last front (operands_at atoms imports literals code (kinds_of opcode) at)) → Fails e (instruction_after_opcode atoms imports literals code opcode at)
 operands_fail NoMemory atoms imports literals code opcode at front h = tt
 operands_fail Truncated atoms imports literals code opcode at front h = fault_at_operands atoms imports literals code opcode at front _ h
 operands_fail (BadOperand n) atoms imports literals code opcode at front h = fault_at_operands atoms imports literals code opcode at front _ h
@@ -64,13 +64,13 @@ put_longer old pool own new next r read put =
     omega (arith, ap length (put ∙ ap (λ (os : List Operand). os ++ own) b.front), length-append old own)
 
 pub instruction_put : (atoms : List (List ℕ)) (imports : List Import) (literals : List TermValue) (code : List ℕ) (opcode : Opcode) (at next : ℕ) (old pool new : List Operand) (h : Head)
-    → put_last old (operands_at atoms imports literals code (kinds_of opcode) at) ≡ Ok (pool, next) → new ≡ take (length old) pool ++ listed opcode (drop (length old) pool)
+    → put_last old (operands_at atoms imports literals code (kinds_of opcode) at) ≡ Ok (pool, next) → new ≡ take (length old) pool ++ listed_operands opcode (drop (length old) pool)
     → h.opcode ≡ opcode → h.from ≡ length old → h.from + h.count ≡ length new
-    → (instruction_at atoms imports literals code opcode at ≡ Ok (made_of new h, next)) × IsPut old new h
-unfolding instruction_at
+    → (instruction_after_opcode atoms imports literals code opcode at ≡ Ok (made_of new h, next)) × IsPut old new h
+unfolding instruction_after_opcode
 instruction_put atoms imports literals code opcode at next old pool new h read put o from to =
     let b = behind_them old pool next (operands_at atoms imports literals code (kinds_of opcode) at) read in
-    let own : List Operand = listed opcode (drop (length old) pool) in
+    let own : List Operand = listed_operands opcode (drop (length old) pool) in
     let all : new ≡ old ++ own = put ∙ ap (λ (os : List Operand). os ++ own) b.front in
     let size : length new ≡ length old + length own = ap length all ∙ length-append old own in
     let count : h.count ≡ length own = omega (arith, from, to, size) in
@@ -117,6 +117,6 @@ made_alone pool h p =
     let taken : take h.count (drop h.from pool) ≡ pool = ap (take h.count) all ∙ take_all h.count pool (omega (arith, from, p.to)) in
     ap (λ (os : List Operand). instruction_of h.opcode os) taken
 
-pub standing_is : (t : Tables) (code : List ℕ) (at : ℕ) (o : Opcode) → opcode_at code at ≡ Ok o → standing_at t code at ≡ instruction_at t.atoms t.imports t.literals code o (at + 1)
+pub standing_is : (t : Tables) (code : List ℕ) (at : ℕ) (o : Opcode) → opcode_at code at ≡ Ok o → standing_at t code at ≡ instruction_after_opcode t.atoms t.imports t.literals code o (at + 1)
 unfolding standing_at
 standing_is t code at o e = rw e refl

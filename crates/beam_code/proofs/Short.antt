@@ -8,7 +8,7 @@ use Rattle.beam_model.specs.declared.compact.CompactTag.TheVariants as tag
 use Rattle.beam_model.specs.declared.compact.Compact.{Compact}
 use Rattle.beam_model.specs.declared.compact.Compact.TheVariants.{Number, Integer, X, Y, Label}
 use Rattle.beam_model.specs.declared.instruction.Argument.TheVariants as argument
-use Rattle.beam_model.specs.Compact.{tag_number, unsupported_operand, value_at, number_at, atom_of, register_of, register_at, extended_of, single_of, single_at}
+use Rattle.beam_model.specs.Compact.{tag_number, unsupported_operand, value_at, number_at, atom_or_nil, register_of_tag, register_at, extended_of, single_of_tag, single_at}
 use Rattle.beam_operand.proofs.Again.{tag_is, natural_again, number_read, integer_read, atom_read, x_read, y_read, label_read}
 use Rattle.beam_code.specs.Bytes.{CodeBytes}
 use Rattle.beam_code.proofs.Lent.{some_mapped, lendable}
@@ -17,7 +17,7 @@ use Rattle.beam_code.specs.Operands.{meant_in, argument_in, argument_at, index_i
 -- what such a byte spells, by its tag and its high half
 abbrev pub short_of : CompactTag → ℕ → Compact
 short_of tag.Integer n = Integer (pos n)
-short_of tag.Atom n = atom_of n
+short_of tag.Atom n = atom_or_nil n
 short_of tag.X n = X n
 short_of tag.Y n = Y n
 short_of tag.Label n = Label n
@@ -30,7 +30,7 @@ pub short_value : (first : ℕ) (rest : List ℕ) → first % 16 < 8 → value_a
 unfolding value_at
 short_value first rest lt = let small : ltb (first % 16) 8 ≡ true = lt-ltb _ _ lt in rw small refl
 
-pub read_as : (k : CompactTag) → tag_number k < 6 → (n first : ℕ) (bytes rest : List ℕ) → n < 2 ^ 32 → value_at first bytes ≡ Ok (pos n, rest) → single_of k first bytes ≡ Ok (short_of k n, rest)
+pub read_as : (k : CompactTag) → tag_number k < 6 → (n first : ℕ) (bytes rest : List ℕ) → n < 2 ^ 32 → value_at first bytes ≡ Ok (pos n, rest) → single_of_tag k first bytes ≡ Ok (short_of k n, rest)
 read_as tag.Number lt n first bytes rest narrow e = number_read n (omega arith) first bytes rest e
 read_as tag.Integer lt n first bytes rest narrow e = integer_read (pos n) (lt-ltb n (2 ^ 59) (omega arith)) first bytes rest e
 read_as tag.Atom lt n first bytes rest narrow e = atom_read n (omega arith) first bytes rest e
@@ -56,7 +56,7 @@ short_single code at first k s =
     let one : tag_number k < 6 = s.one in
     let value = short_value first rest (omega (arith, low, one)) in
     ap single_at s.there
-    ∙ ap (λ (t : CompactTag). single_of t first rest) (tag_is k first (low_tag first (tag_number k) low (omega (arith, one))))
+    ∙ ap (λ (t : CompactTag). single_of_tag t first rest) (tag_is k first (low_tag first (tag_number k) low (omega (arith, one))))
     ∙ read_as k one (first / 16) first rest rest (omega (arith, byte)) value
 
 pub next_is : (code : List ℕ) (at : ℕ) → at < length code → length code - length (drop (at + 1) code) ≡ at + 1
@@ -109,7 +109,7 @@ wide_single code at first second rest k w =
     let one : tag_number k < 6 = w.one in
     let value = wide_value first second rest (omega (arith, low)) (omega (arith, low, one)) in
     ap single_at w.there
-    ∙ ap (λ (t : CompactTag). single_of t first (second ∷ rest)) (tag_is k first (wide_tag first (tag_number k) low (omega (arith, one))))
+    ∙ ap (λ (t : CompactTag). single_of_tag t first (second ∷ rest)) (tag_is k first (wide_tag first (tag_number k) low (omega (arith, one))))
     ∙ read_as k one (wide_number first second) first (second ∷ rest) rest w.fits value
 
 after_two : (code : List ℕ) (at first second : ℕ) (rest : List ℕ) → at < length code → drop at code ≡ first ∷ second ∷ rest → length code - length rest ≡ at + 2
@@ -144,19 +144,19 @@ type_read index rest fits low =
 
 typed_single : (x : Compact) (register index : ℕ) (rest : List ℕ) → register_at (register ∷ index ∷ rest) ≡ Ok (x, index ∷ rest) → number_at (index ∷ rest) ≡ Ok (index / 16, rest)
     → single_at (87 ∷ register ∷ index ∷ rest) ≡ Ok (x, rest)
-unfolding single_of value_at extended_of
+unfolding single_of_tag value_at extended_of
 typed_single x register index rest r n = rw (r, n) refl
 
 x_register : (register : ℕ) (bytes : List ℕ) → register / 16 < 2 ^ 32 → register % 16 ≡ 3 → register_at (register ∷ bytes) ≡ Ok (X (register / 16), bytes)
-unfolding single_of
+unfolding single_of_tag
 x_register register bytes fits low =
-    ap (λ (t : CompactTag). register_of t register bytes) (tag_is tag.X register (low_tag register 3 low (omega arith)))
+    ap (λ (t : CompactTag). register_of_tag t register bytes) (tag_is tag.X register (low_tag register 3 low (omega arith)))
     ∙ x_read (register / 16) fits register bytes bytes (short_value register bytes (omega (arith, low)))
 
 y_register : (register : ℕ) (bytes : List ℕ) → register / 16 < 2 ^ 32 → register % 16 ≡ 4 → register_at (register ∷ bytes) ≡ Ok (Y (register / 16), bytes)
-unfolding single_of
+unfolding single_of_tag
 y_register register bytes fits low =
-    ap (λ (t : CompactTag). register_of t register bytes) (tag_is tag.Y register (low_tag register 4 low (omega arith)))
+    ap (λ (t : CompactTag). register_of_tag t register bytes) (tag_is tag.Y register (low_tag register 4 low (omega arith)))
     ∙ y_read (register / 16) fits register bytes bytes (short_value register bytes (omega (arith, low)))
 
 after_three : (code : List ℕ) (at register index : ℕ) (rest : List ℕ) → at < length code → drop at code ≡ 87 ∷ register ∷ index ∷ rest → length code - length rest ≡ at + 3
@@ -214,11 +214,11 @@ short_front c at first within there byte = (
 )
 
 no_integer : (register : ℕ) (bytes : List ℕ) → register % 16 ≡ 1 → register_at (register ∷ bytes) ≡ Err unsupported_operand
-unfolding register_of
-no_integer register bytes low = ap (λ (t : CompactTag). register_of t register bytes) (tag_is tag.Integer register (low_tag register 1 low (omega arith)))
+unfolding register_of_tag
+no_integer register bytes low = ap (λ (t : CompactTag). register_of_tag t register bytes) (tag_is tag.Integer register (low_tag register 1 low (omega arith)))
 
 no_typed_with : (register index : ℕ) (rest : List ℕ) → register_at (register ∷ index ∷ rest) ≡ Err unsupported_operand → single_at (87 ∷ register ∷ index ∷ rest) ≡ Err unsupported_operand
-unfolding single_of value_at extended_of
+unfolding single_of_tag value_at extended_of
 no_typed_with register index rest r = rw r refl
 
 no_typed_integer : (c : CodeBytes) (at register index : ℕ) (rest : List ℕ) → drop at c.code ≡ 87 ∷ register ∷ index ∷ rest → register % 16 ≡ 1 → IsSome (argument_at c at) → ⊥

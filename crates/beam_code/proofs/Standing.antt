@@ -11,7 +11,7 @@ use Rattle.beam_model.specs.declared.instruction.Instruction.{Instruction}
 use Rattle.beam_model.specs.declared.opcode.Opcode.{Opcode}
 use Rattle.beam_model.specs.declared.opcode.Opcode.TheVariants as op
 use Rattle.beam_model.specs.Opcodes.{kinds_of, opcode_of}
-use Rattle.beam_model.specs.CodeChunk.{opcode_in, opcode_at, operands_at, listed, instruction_at}
+use Rattle.beam_model.specs.CodeChunk.{opcode_in, opcode_at, operands_at, listed_operands, instruction_after_opcode}
 use Rattle.beam_model.specs.CodeForm.{IsInstruction}
 use Rattle.beam_model.specs.Fetch.{end_of_code}
 use Rattle.beam_model.specs.Tables.{Tables}
@@ -28,7 +28,7 @@ instruction_in c at = unwrap_or (slice_get (instructions_in c) at) end_of_code
 
 -- int_code_end has no operands
 end_stands : (t : Tables) (code : List ℕ) (at : ℕ) → opcode_at code at ≡ Ok op.IntCodeEnd → standing_at t code at ≡ Ok (end_of_code, at + 1)
-unfolding instruction_at operands_at
+unfolding instruction_after_opcode operands_at
 end_stands t code at e = stands t code at (at + 1) op.IntCodeEnd end_of_code e refl
 
 instruction_is : (c : CodeBytes) → AreStarts c → (at : ℕ) → instruction_in c at ≡ read_or_end (standing_at c.tables c.code (start_of c at))
@@ -58,11 +58,11 @@ read_at c s at =
     let same : instruction_in c at ≡ r.instruction = instruction_is c s at ∙ ap read_or_end r.is in
     (r.next, r.is ∙ ap (λ (i : Instruction). Ok (i, r.next)) (sym same))
 
-of_opcode : (t : Tables) (code : List ℕ) (o : Opcode) (at : ℕ) (p : Instruction × ℕ) → instruction_at t.atoms t.imports t.literals code o at ≡ Ok p → o ≡ p.0.opcode
-unfolding instruction_at
+of_opcode : (t : Tables) (code : List ℕ) (o : Opcode) (at : ℕ) (p : Instruction × ℕ) → instruction_after_opcode t.atoms t.imports t.literals code o at ≡ Ok p → o ≡ p.0.opcode
+unfolding instruction_after_opcode
 of_opcode t code o at p e =
-    let b = bind_ok (operands_at t.atoms t.imports t.literals code (kinds_of o) at) (λ (operands : List Operand × ℕ). done (record { opcode = o; operands = listed o operands.0 }, operands.1)) p e in
-    let made : Instruction = record { opcode = o; operands = listed o b.0.0 } in
+    let b = bind_ok (operands_at t.atoms t.imports t.literals code (kinds_of o) at) (λ (operands : List Operand × ℕ). done (record { opcode = o; operands = listed_operands o operands.0 }, operands.1)) p e in
+    let made : Instruction = record { opcode = o; operands = listed_operands o b.0.0 } in
     ap (λ (q : Instruction × ℕ). q.0.opcode) (ok_is (made, b.0.1) p b.2)
 
 -- the opcode of a position is read where the instruction begins
@@ -70,25 +70,25 @@ pub opcode_read_at : (c : CodeBytes) → AreStarts c → (at : ℕ) → opcode_a
 unfolding standing_at
 opcode_read_at c s at =
     let r = read_at c s at in
-    let b = bind_ok (opcode_at c.code (start_of c at)) (λ (opcode : Opcode). instruction_at c.tables.atoms c.tables.imports c.tables.literals c.code opcode (start_of c at + 1)) (instruction_in c at, r.0) r.1 in
+    let b = bind_ok (opcode_at c.code (start_of c at)) (λ (opcode : Opcode). instruction_after_opcode c.tables.atoms c.tables.imports c.tables.literals c.code opcode (start_of c at + 1)) (instruction_in c at, r.0) r.1 in
     b.1 ∙ ap (λ (o : Opcode). Ok o) (of_opcode c.tables c.code b.0 (start_of c at + 1) (instruction_in c at, r.0) b.2)
 
 -- the operands of a position are read after the opcode
 pub operands_are : (c : CodeBytes) → AreStarts c → (at : ℕ)
-    → (read : List Operand × ℕ) × (operands_from c (kinds_of (instruction_in c at).opcode) (start_of c at + 1) ≡ Ok read) × (listed (instruction_in c at).opcode read.0 ≡ (instruction_in c at).operands)
-unfolding standing_at instruction_at
+    → (read : List Operand × ℕ) × (operands_from c (kinds_of (instruction_in c at).opcode) (start_of c at + 1) ≡ Ok read) × (listed_operands (instruction_in c at).opcode read.0 ≡ (instruction_in c at).operands)
+unfolding standing_at instruction_after_opcode
 operands_are c s at =
     let t = c.tables in
     let r = read_at c s at in
     let i = instruction_in c at in
-    let b = bind_ok (opcode_at c.code (start_of c at)) (λ (opcode : Opcode). instruction_at t.atoms t.imports t.literals c.code opcode (start_of c at + 1)) (i, r.0) r.1 in
+    let b = bind_ok (opcode_at c.code (start_of c at)) (λ (opcode : Opcode). instruction_after_opcode t.atoms t.imports t.literals c.code opcode (start_of c at + 1)) (i, r.0) r.1 in
     let o = of_opcode t c.code b.0 (start_of c at + 1) (i, r.0) b.2 in
-    let d = bind_ok (operands_at t.atoms t.imports t.literals c.code (kinds_of b.0) (start_of c at + 1)) (λ (operands : List Operand × ℕ). done (record { opcode = b.0; operands = listed b.0 operands.0 }, operands.1)) (i, r.0) b.2 in
-    let made : Instruction = record { opcode = b.0; operands = listed b.0 d.0.0 } in
-    let is : listed b.0 d.0.0 ≡ i.operands = ap (λ (q : Instruction × ℕ). q.0.operands) (ok_is (made, d.0.1) (i, r.0) d.2) in
-    (d.0, ap (λ (p : Opcode). operands_from c (kinds_of p) (start_of c at + 1)) (sym o) ∙ d.1, ap (λ (p : Opcode). listed p d.0.0) (sym o) ∙ is)
+    let d = bind_ok (operands_at t.atoms t.imports t.literals c.code (kinds_of b.0) (start_of c at + 1)) (λ (operands : List Operand × ℕ). done (record { opcode = b.0; operands = listed_operands b.0 operands.0 }, operands.1)) (i, r.0) b.2 in
+    let made : Instruction = record { opcode = b.0; operands = listed_operands b.0 d.0.0 } in
+    let is : listed_operands b.0 d.0.0 ≡ i.operands = ap (λ (q : Instruction × ℕ). q.0.operands) (ok_is (made, d.0.1) (i, r.0) d.2) in
+    (d.0, ap (λ (p : Opcode). operands_from c (kinds_of p) (start_of c at + 1)) (sym o) ∙ d.1, ap (λ (p : Opcode). listed_operands p d.0.0) (sym o) ∙ is)
 
-pub not_line : (o : Opcode) (os : List Operand) → o ≢ op.Line → listed o os ≡ os
+pub not_line : (o : Opcode) (os : List Operand) → o ≢ op.Line → listed_operands o os ≡ os
 not_line op.Line os n = absurd (n refl)
 not_line _ os n = refl
 

@@ -14,20 +14,20 @@ use Rattle.beam_model.specs.declared.instruction.Operand.{Operand}
 use Rattle.beam_model.specs.declared.instruction.Operand.TheVariants as operand
 use Rattle.beam_model.specs.declared.opcode.Kind.{Kind}
 use Rattle.beam_model.specs.declared.opcode.Kind.TheVariants as kind
-use Rattle.beam_model.specs.Compact.{tag_number, one, single_of, operand_of, operand_at}
-use Rattle.beam_model.specs.CodeChunk.{meaning_of, behind, spelled_at, meant_at}
+use Rattle.beam_model.specs.Compact.{tag_number, as_operand, single_of_tag, operand_of_tag, operand_at}
+use Rattle.beam_model.specs.CodeChunk.{meaning_of, position_after, spelled_at, meant_at}
 use Rattle.beam_operand.proofs.Again.{tag_is}
 use Rattle.beam_code.specs.Whole.{number_of_byte, register_of_byte, label_of_byte, argument_of_byte}
 use Rattle.beam_code.proofs.Short.{IsShort, short_of, low_tag, short_value, read_as, next_is}
 
-pub one_read : (k : CompactTag) → tag_number k < 6 → (first : ℕ) (bytes rest : List ℕ) (x : Compact) → single_of k first bytes ≡ Ok (x, rest) → operand_of k first bytes ≡ Ok (compact_operand.One x, rest)
-unfolding operand_of
-one_read tag.Number lt first bytes rest x e = ap one e
-one_read tag.Integer lt first bytes rest x e = ap one e
-one_read tag.Atom lt first bytes rest x e = ap one e
-one_read tag.X lt first bytes rest x e = ap one e
-one_read tag.Y lt first bytes rest x e = ap one e
-one_read tag.Label lt first bytes rest x e = ap one e
+pub one_read : (k : CompactTag) → tag_number k < 6 → (first : ℕ) (bytes rest : List ℕ) (x : Compact) → single_of_tag k first bytes ≡ Ok (x, rest) → operand_of_tag k first bytes ≡ Ok (compact_operand.One x, rest)
+unfolding operand_of_tag
+one_read tag.Number lt first bytes rest x e = ap as_operand e
+one_read tag.Integer lt first bytes rest x e = ap as_operand e
+one_read tag.Atom lt first bytes rest x e = ap as_operand e
+one_read tag.X lt first bytes rest x e = ap as_operand e
+one_read tag.Y lt first bytes rest x e = ap as_operand e
+one_read tag.Label lt first bytes rest x e = ap as_operand e
 one_read tag.Character lt first bytes rest x e = absurd (omega arith)
 one_read tag.Extended lt first bytes rest x e = absurd (omega arith)
 
@@ -40,13 +40,13 @@ whole_read code at first k s =
     let single_tag : tag_number k < 6 = s.one in
     let value = short_value first rest (omega (arith, low, single_tag)) in
     ap operand_at s.there
-    ∙ ap (λ (t : CompactTag). operand_of t first rest) (tag_is k first (low_tag first (tag_number k) low (omega (arith, single_tag))))
+    ∙ ap (λ (t : CompactTag). operand_of_tag t first rest) (tag_is k first (low_tag first (tag_number k) low (omega (arith, single_tag))))
     ∙ one_read k single_tag first rest rest (short_of k (first / 16)) (read_as k single_tag (first / 16) first rest rest (omega (arith, byte)) value)
 
 whole_spelled : (code : List ℕ) (at first : ℕ) (k : CompactTag) → IsShort code at first k → spelled_at code at ≡ Ok (compact_operand.One (short_of k (first / 16)), at + 1)
 unfolding spelled_at
 whole_spelled code at first k s =
-    ap (behind code at) (whole_read code at first k s)
+    ap (position_after code at) (whole_read code at first k s)
     ∙ ap (λ (n : ℕ). Ok (compact_operand.One (short_of k (first / 16)), n)) (next_is code at s.within)
 
 pub whole_meant : (atoms : List (List ℕ)) (imports : List Import) (literals : List TermValue) (code : List ℕ) (letter : Kind) (at first : ℕ) (k : CompactTag) (o : Operand) → IsShort code at first k

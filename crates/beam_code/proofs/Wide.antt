@@ -14,8 +14,8 @@ use Rattle.beam_model.specs.declared.instruction.Argument.TheVariants as argumen
 use Rattle.beam_model.specs.declared.instruction.Operand.TheVariants as operand
 use Rattle.beam_model.specs.declared.opcode.Kind.{Kind}
 use Rattle.beam_model.specs.declared.opcode.Kind.TheVariants as kind
-use Rattle.beam_model.specs.Compact.{tag_number, value_at, operand_of, operand_at}
-use Rattle.beam_model.specs.CodeChunk.{meaning_of, behind, spelled_at, meant_at}
+use Rattle.beam_model.specs.Compact.{tag_number, value_at, operand_of_tag, operand_at}
+use Rattle.beam_model.specs.CodeChunk.{meaning_of, position_after, spelled_at, meant_at}
 use Rattle.beam_operand.proofs.Again.{tag_is}
 use Rattle.beam_operand.proofs.Small.{chosen}
 use Rattle.beam_code.specs.Whole.{numbered_import, import_of_byte, number_in_two, number_in_three, wide_number, two_or_three, argument_of_bytes}
@@ -164,9 +164,9 @@ wide_spelled : (code : List ℕ) (at : ℕ) (k : CompactTag) (n count : ℕ) →
 unfolding spelled_at
 wide_spelled code at k n count le one w =
     let next : length code - length w.rest ≡ at + count = omega (arith, length-drop at code, w.size, le) in
-    ap (behind code at)
+    ap (position_after code at)
     (ap operand_at w.parts
-    ∙ ap (λ (t : CompactTag). operand_of t w.first w.more) (tag_is k w.first w.low)
+    ∙ ap (λ (t : CompactTag). operand_of_tag t w.first w.more) (tag_is k w.first w.low)
     ∙ one_read k one w.first w.more w.rest (short_of k n) (read_as k one n w.first w.more w.rest w.fits w.value))
     ∙ ap (λ (m : ℕ). Ok (compact_operand.One (short_of k n), m)) next
 

@@ -4,7 +4,7 @@ ghost use Rattle.std.specs.Prelude.{◌≡◌, ◌≢◌, true, ℕ, ◌<◌, �
 ghost use Rattle.beam_term.specs.TermValue.{atom_term};
 ghost use Rattle.beam_model.specs.CodeForm.{IsInstruction};
 ghost use Rattle.beam_model.specs.CodeChunk.{code_of};
-ghost use Rattle.beam_model.specs.Compact.{atom_of, HasSmall as IsSmallOperand};
+ghost use Rattle.beam_model.specs.Compact.{atom_or_nil, HasSmall as IsSmallOperand};
 ghost use Rattle.beam_model.specs.Listing.{label_of};
 ghost use Rattle.beam_model.specs.Opcodes.{kinds_of};
 ghost use Rattle.beam_code.specs.Bytes.{instructions_in, start_of, end_of, raw_in, spelled_in, AreLabels, AreStarts};
@@ -483,8 +483,8 @@ impl CodeBytes {
     /// Nil for 0, and else the atom of a number, counted from 1.
     #[inline(always)]
     fn atom(&self, number: u32) -> ArgumentRef<'_>
-        requires { IsSome (meant_in self.now (atom_of number)) }
-        ensures is { meant_in self.now (atom_of number) ≡ Some (argument_of result) }
+        requires { IsSome (meant_in self.now (atom_or_nil number)) }
+        ensures is { meant_in self.now (atom_or_nil number) ≡ Some (argument_of result) }
         ensures small { HasSmall result }
     {
         if number == 0 {

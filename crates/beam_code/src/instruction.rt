@@ -4,7 +4,7 @@ ghost use Rattle.std.specs.Prelude.{◌≡◌, ◌≤◌, ◌<◌, ◌++◌, IfO
 ghost use Rattle.std.specs.Arc.{arc_value};
 ghost use Rattle.std.specs.List.{All};
 ghost use Rattle.beam_model.specs.Opcodes.{kinds_of};
-ghost use Rattle.beam_model.specs.CodeChunk.{operands_at, opcode_at, is_end, listed, instruction_at, instructions_at};
+ghost use Rattle.beam_model.specs.CodeChunk.{operands_at, opcode_at, is_end, listed_operands, instruction_after_opcode, instructions_at};
 ghost use Rattle.beam_code.specs.Bytes.{standing_at};
 ghost use Rattle.beam_code.specs.Faults.{Gives};
 ghost use Rattle.beam_code.specs.Parts.{tables_of};
@@ -96,7 +96,7 @@ fn opcode(code: &[u8], at: usize) -> Result<Opcode, CodeError>
 
 /// Makes the operands from a position on those of a listing, in which a line has the operand 0.
 fn as_listed(opcode: Opcode, pool: &mut Vec<Operand>, from: usize) -> Result<(), AllocError>
-    ensures { OnOk result (pool.new.items ≡ take from pool.old.items ++ listed opcode (drop from pool.old.items)) }
+    ensures { OnOk result (pool.new.items ≡ take from pool.old.items ++ listed_operands opcode (drop from pool.old.items)) }
 {
     if opcode == Opcode::Line {
         pool.truncate(from);
@@ -119,7 +119,7 @@ fn instruction(
     pool: &mut Vec<Operand>,
 ) -> Result<(Head, usize), CodeError>
     requires { at ≤ length code.now }
-    ensures exact { Gives (λ r. (made_of pool.new.items r.0, r.1)) result (instruction_at atoms.now imports.now literals.now code.now opcode at) }
+    ensures exact { Gives (λ r. (made_of pool.new.items r.0, r.1)) result (instruction_after_opcode atoms.now imports.now literals.now code.now opcode at) }
     ensures put { IfOk result (λ r. IsPut pool.old.items pool.new.items r.0) }
     ensures next { IfOk result (λ r. (at ≤ r.1) × (r.1 ≤ length code.now)) }
 {

@@ -4,7 +4,7 @@ ghost use Rattle.std.specs.Prelude.{◌≡◌, ◌<◌, ◌+◌, ◌++◌, ◌�
 ghost use Rattle.std.specs.Map.{lookup};
 ghost use Rattle.std.specs.Ordering.{nat_cmp};
 ghost use Rattle.std.specs.BTreeMap.{get, IsOrdered};
-ghost use Rattle.beam_model.specs.Listing.{is_number};
+ghost use Rattle.beam_model.specs.Listing.{is_this_number};
 ghost use Rattle.beam_code.specs.Ascending.{ascending_from};
 ghost use Rattle.beam_code.specs.Bytes.{byte_after, AreAscending};
 
@@ -15,7 +15,7 @@ use std::collections::BTreeMap;
 
 /// Notes the byte after an instruction, if it is a label.
 fn note(bytes: &mut BTreeMap<u32, u32>, label: Option<u32>, byte: u32) -> Result<(), AllocError>
-    ensures { OnOk result ((q : ℕ) → get nat_cmp bytes.new q ≡ (if is_number q label then Some byte else get nat_cmp bytes.old q)) }
+    ensures { OnOk result ((q : ℕ) → get nat_cmp bytes.new q ≡ (if is_this_number q label then Some byte else get nat_cmp bytes.old q)) }
 {
     let Some(label) = label else {
         return Ok(());

@@ -5,7 +5,7 @@ ghost use Rattle.std.specs.List.{All};
 ghost use Rattle.beam_model.specs.CodeChunk.{CodeParts, is_end, code_of};
 ghost use Rattle.beam_model.specs.Opcodes.{kinds_of};
 ghost use Rattle.beam_model.specs.Loadable.{all_operands, is_within};
-ghost use Rattle.beam_model.specs.Assembly.{Numbering, code_bytes, spelled_instruction};
+ghost use Rattle.beam_model.specs.Assembly.{Numbering, code_bytes, without_line_number};
 ghost use Rattle.beam_model.specs.Tables.{Tables};
 ghost use Rattle.beam_model.specs.CodeForm.{IsCode};
 
@@ -20,5 +20,5 @@ pub fn written_is_read()
     ensures { (n : Numbering) (p : CodeParts) (bytes : List ℕ)
         → All (λ i. (is_end i.opcode ≡ false) × (all_operands is_within (kinds_of i.opcode) i.operands ≡ true)) p.instructions
         → code_bytes n p ≡ Some bytes
-        → code_of n.atoms n.imports n.literals bytes ≡ Ok (record p { instructions = map spelled_instruction p.instructions }) }
+        → code_of n.atoms n.imports n.literals bytes ≡ Ok (record p { instructions = map without_line_number p.instructions }) }
 {}

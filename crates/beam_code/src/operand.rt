@@ -3,7 +3,7 @@
 ghost use Rattle.std.specs.Prelude.{◌≡◌, ◌≤◌, ◌<◌, ◌+◌, Option, Some, None, IfOk, length};
 ghost use Rattle.std.specs.List.{All};
 ghost use Rattle.beam_model.specs.Compact.{HasSmall, HasSmallIntegers};
-ghost use Rattle.beam_model.specs.CodeChunk.{atom_of, literal_of, source_of, member_of, argument_of, import_of, members_of, meaning_of, spelled_at, meant_at};
+ghost use Rattle.beam_model.specs.CodeChunk.{argument_of_atom, argument_of_literal, argument_of_source, argument_of_member, argument_of, import_of_index, members_of, meaning_of, spelled_at, meant_at};
 ghost use Rattle.beam_code.specs.Faults.{Gives};
 ghost use Rattle.beam_code.specs.Whole.{argument_of_byte, import_of_byte, number_in_two, number_in_three, wide_number, argument_of_bytes};
 
@@ -19,7 +19,7 @@ use std::alloc::{AllocError, Global};
 
 /// The atom of an index, counted from 1, if there is one.
 fn atom(atoms: &[Atom], index: u32) -> Result<Option<Argument>, AllocError>
-    ensures { IfOk result (λ a. a ≡ atom_of atoms.now index) }
+    ensures { IfOk result (λ a. a ≡ argument_of_atom atoms.now index) }
 {
     if index == 0 {
         return Ok(None);
@@ -32,7 +32,7 @@ fn atom(atoms: &[Atom], index: u32) -> Result<Option<Argument>, AllocError>
 
 /// The literal of an index, counted from 0, if there is one.
 fn literal(literals: &[Term], index: u32) -> Result<Option<Argument>, AllocError>
-    ensures { IfOk result (λ a. a ≡ literal_of literals.now index) }
+    ensures { IfOk result (λ a. a ≡ argument_of_literal literals.now index) }
 {
     let Some(term) = literals.get(index as usize) else {
         return Ok(None);
@@ -43,7 +43,7 @@ fn literal(literals: &[Term], index: u32) -> Result<Option<Argument>, AllocError
 /// A register or a term.
 fn source(atoms: &[Atom], literals: &[Term], x: Compact) -> Result<Option<Argument>, AllocError>
     requires { HasSmall x }
-    ensures { IfOk result (λ a. a ≡ source_of atoms.now literals.now x) }
+    ensures { IfOk result (λ a. a ≡ argument_of_source atoms.now literals.now x) }
 {
     match x {
         Compact::X(n) => Ok(Some(Argument::X(n))),
@@ -59,7 +59,7 @@ fn source(atoms: &[Atom], literals: &[Term], x: Compact) -> Result<Option<Argume
 /// A member of a list: a source, a number or a label.
 fn member(atoms: &[Atom], literals: &[Term], x: Compact) -> Result<Option<Argument>, AllocError>
     requires { HasSmall x }
-    ensures { IfOk result (λ a. a ≡ member_of atoms.now literals.now x) }
+    ensures { IfOk result (λ a. a ≡ argument_of_member atoms.now literals.now x) }
 {
     match x {
         Compact::Number(n) => Ok(Some(Argument::Number(n))),
@@ -94,7 +94,7 @@ fn argument(
 /// The import of an index, counted from 0, if there is one.
 #[inline(always)]
 fn import(imports: &[Import], x: Compact) -> Result<Option<Import>, AllocError>
-    ensures { IfOk result (λ i. i ≡ import_of imports.now x) }
+    ensures { IfOk result (λ i. i ≡ import_of_index imports.now x) }
 {
     let Compact::Number(index) = x else {
         return Ok(None);

@@ -3,7 +3,7 @@
 ghost use Rattle.std.specs.Prelude.{◌≡◌, IfOk, IfErr, Some, option_map};
 ghost use Rattle.byteorder.specs.Endian.{big_bytes};
 ghost use Rattle.beam_model.specs.Opcodes.{number_of};
-ghost use Rattle.beam_model.specs.CodeChunk.{listed};
+ghost use Rattle.beam_model.specs.CodeChunk.{listed_operands};
 ghost use Rattle.beam_model.specs.Assembly.{word, operand_bytes, operands_bytes, instruction_bytes, instructions_bytes, greatest_opcode, words_bytes, code_bytes};
 ghost use Rattle.beam_code.specs.Writing.{Adds, Refuses};
 
@@ -58,7 +58,7 @@ fn push_listed(
     opcode: Opcode,
     operands: &[Operand],
 ) -> Result<(), CodeError>
-    ensures { Adds out.old.items out.new.items result (operands_bytes numbering.now (listed opcode operands.now)) }
+    ensures { Adds out.old.items out.new.items result (operands_bytes numbering.now (listed_operands opcode operands.now)) }
 {
     if opcode == Opcode::Line {
         let zero = [Operand::One(Argument::Number(0))];

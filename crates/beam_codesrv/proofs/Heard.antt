@@ -10,7 +10,7 @@ use Rattle.beam_machine.specs.declared.process.Signal.TheVariants.{Down}
 use Rattle.beam_machine.specs.Change.{pids_of}
 use Rattle.beam_machine.specs.Private.{Sent}
 use Rattle.beam_machine.specs.Process.{Process, is_ended, killed}
-use Rattle.beam_machine.specs.State.{process_of, with_signals, watches, downs}
+use Rattle.beam_machine.specs.State.{process_of, with_signals, monitors_process, downs}
 use Rattle.beam_laws.specs.Private.{posted_all}
 use Rattle.beam_laws.specs.Signals.{each_sent, signals_to}
 use Rattle.beam_laws.proofs.Hearing.{gets_none}
@@ -58,7 +58,7 @@ watchers_sent pid at (p ∷ ps) numbered =
     let here : p.pid ≡ at = omega (arith, numbered 0 p refl) in
     let rest : AreFrom (at + 1) ps = λ i q e. (numbered (suc i) q e ∙ omega arith) in
     map-append down_by (watches_by p.pid pid (live_monitors p)) (watchers pid ps)
-    ∙ (ap (λ ss. ss ++ map down_by (watchers pid ps)) (as_sent at p.pid (filter (watches pid) (live_monitors p)) here)
+    ∙ (ap (λ ss. ss ++ map down_by (watchers pid ps)) (as_sent at p.pid (filter (monitors_process pid) (live_monitors p)) here)
     ∙ ap (λ ss. map (λ signal. record { to = at; signal = signal }) (downs_to pid p) ++ ss) (watchers_sent pid (at + 1) ps rest))
 
 -- ---- all signals that are posted, seen from one process

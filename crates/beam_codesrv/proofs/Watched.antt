@@ -3,7 +3,7 @@ use Rattle.std.proofs.Common.{◌≡◌, ℕ, zero, suc, ◌+◌, ◌-◌, ◌<�
 use Rattle.std.proofs.lemmas.Bool.Decides.{nat_tests}
 use Rattle.std.specs.Prelude.{Option, Some, None, filter, flat_map}
 use Rattle.std.specs.List.{list_any}
-use Rattle.beam_model.specs.Listing.{is_number}
+use Rattle.beam_model.specs.Listing.{is_this_number}
 use Rattle.beam_machine.specs.declared.process.Monitor.{Monitor}
 use Rattle.beam_machine.specs.declared.process.Signal.{Signal}
 use Rattle.beam_machine.specs.declared.process.Signal.TheVariants.{Down}
@@ -12,7 +12,7 @@ use Rattle.beam_machine.specs.declared.process.Status.TheVariants.{Running, Wait
 use Rattle.beam_machine.specs.Change.{pids_of}
 use Rattle.beam_machine.specs.Process.{Process, is_ended, killed}
 use Rattle.beam_machine.specs.Row.{own_number}
-use Rattle.beam_machine.specs.State.{with_signals, watches, downs}
+use Rattle.beam_machine.specs.State.{with_signals, monitors_process, downs}
 use Rattle.beam_laws.proofs.Hearing.{either_false, none_more}
 use Rattle.beam_laws.proofs.Orderly.{Numbered, Orderly}
 use Rattle.beam_stack.proofs.Anys.{none, swapped, alike}
@@ -63,7 +63,7 @@ there test at (suc k) w (p ∷ ps) numbered e =
     let next : w ≡ k + (at + 1) = omega (arith, e) in
     ap (λ b. b || list_any (λ p. test p && (w == p.pid)) ps) (and_none (test p) (w == p.pid) other) ∙ there test (at + 1) k w ps (further at p ps numbered) next
 
-of_number : (test : Process → Bool) (ps : List Process) (o : Option ℕ) → Numbered ps → list_any (λ p. test p && is_number p.pid o) ps ≡ number_passes test ps o
+of_number : (test : Process → Bool) (ps : List Process) (o : Option ℕ) → Numbered ps → list_any (λ p. test p && is_this_number p.pid o) ps ≡ number_passes test ps o
 of_number test ps None numbered = alike (λ p. test p && false) (λ p. false) ps (λ p. and_false (test p)) ∙ sym (none ps)
 of_number test ps (Some w) numbered = go (nat_lt 0 w) refl
   where
@@ -86,13 +86,13 @@ and_any false f xs = none xs
 
 -- one of these monitors is of a process that passes the test
 abbrev monitors_one : (Process → Bool) → List Process → List Monitor → Bool
-monitors_one test ps ms = list_any (λ p. test p && list_any (watches p.pid) ms) ps
+monitors_one test ps ms = list_any (λ p. test p && list_any (monitors_process p.pid) ms) ps
 
 by_monitors : (test : Process → Bool) (ps : List Process) (ms : List Monitor) → Numbered ps → monitors_one test ps ms ≡ list_any (λ m. number_passes test ps (own_number m.pid)) ms
 by_monitors test ps ms numbered =
-    alike (λ p. test p && list_any (watches p.pid) ms) (λ p. list_any (λ m. test p && watches p.pid m) ms) ps (λ p. and_any (test p) (watches p.pid) ms)
-    ∙ (swapped (λ m p. test p && watches p.pid m) ps ms
-    ∙ alike (λ m. list_any (λ p. test p && watches p.pid m) ps) (λ m. number_passes test ps (own_number m.pid)) ms (λ m. of_number test ps (own_number m.pid) numbered))
+    alike (λ p. test p && list_any (monitors_process p.pid) ms) (λ p. list_any (λ m. test p && monitors_process p.pid m) ms) ps (λ p. and_any (test p) (monitors_process p.pid) ms)
+    ∙ (swapped (λ m p. test p && monitors_process p.pid m) ps ms
+    ∙ alike (λ m. list_any (λ p. test p && monitors_process p.pid m) ps) (λ m. number_passes test ps (own_number m.pid)) ms (λ m. of_number test ps (own_number m.pid) numbered))
 
 -- an ended process monitors nothing
 ended_monitors : (p : Process) → ((reason value : _) → p.status ≡ Ended reason value → p.monitors ≡ []) → live_monitors p ≡ p.monitors
@@ -113,11 +113,11 @@ some_monitor test all numbered at (p ∷ ps) over =
     ∙ ap (λ b. monitors_one test all p.monitors || b) (some_monitor test all numbered at ps (λ i q e. over (suc i) q e)))
 
 -- a passing process is watched: asked of each passing process, or of the monitors of each process
-asked_of : (test : Process → Bool) (ps qs : List Process) → list_any (λ p. test p && list_any (λ q. list_any (watches p.pid) q.monitors) qs) ps ≡ list_any (λ q. monitors_one test ps q.monitors) qs
+asked_of : (test : Process → Bool) (ps qs : List Process) → list_any (λ p. test p && list_any (λ q. list_any (monitors_process p.pid) q.monitors) qs) ps ≡ list_any (λ q. monitors_one test ps q.monitors) qs
 asked_of test ps qs =
-    alike (λ p. test p && list_any (λ q. list_any (watches p.pid) q.monitors) qs) (λ p. list_any (λ q. test p && list_any (watches p.pid) q.monitors) qs) ps
-    (λ p. and_any (test p) (λ q. list_any (watches p.pid) q.monitors) qs)
-    ∙ swapped (λ q p. test p && list_any (watches p.pid) q.monitors) ps qs
+    alike (λ p. test p && list_any (λ q. list_any (monitors_process p.pid) q.monitors) qs) (λ p. list_any (λ q. test p && list_any (monitors_process p.pid) q.monitors) qs) ps
+    (λ p. and_any (test p) (λ q. list_any (monitors_process p.pid) q.monitors) qs)
+    ∙ swapped (λ q p. test p && list_any (monitors_process p.pid) q.monitors) ps qs
 
 pub one_is_watched : (test : Process → Bool) (ps : List Process) → Orderly ps → list_any (watches_one test ps) ps ≡ one_watched test ps
 one_is_watched test ps o =
@@ -125,11 +125,11 @@ one_is_watched test ps o =
 
 -- ---- where no passing process is watched, no process hears anything
 
-no_downs : (pid : ℕ) (ms : List Monitor) → list_any (watches pid) ms ≡ false → downs pid killed ms ≡ []
+no_downs : (pid : ℕ) (ms : List Monitor) → list_any (monitors_process pid) ms ≡ false → downs pid killed ms ≡ []
 no_downs pid [] none = refl
 no_downs pid (m ∷ ms) none =
-    let each = either_false (watches pid m) (list_any (watches pid) ms) none in
-    ap (λ b. downs_of (cond b (m ∷ filter (watches pid) ms) (filter (watches pid) ms))) each.0 ∙ no_downs pid ms each.1
+    let each = either_false (monitors_process pid m) (list_any (monitors_process pid) ms) none in
+    ap (λ b. downs_of (cond b (m ∷ filter (monitors_process pid) ms) (filter (monitors_process pid) ms))) each.0 ∙ no_downs pid ms each.1
   where
     downs_of : List Monitor → List Signal
     downs_of ms = map (λ m. Down m.reference killed) ms
@@ -137,13 +137,13 @@ no_downs pid (m ∷ ms) none =
 unheard : (test : Process → Bool) (ps : List Process) (ms : List Monitor) → monitors_one test ps ms ≡ false → flat_map (λ pid. downs pid killed ms) (pids_of test ps) ≡ []
 unheard test [] ms none = refl
 unheard test (p ∷ ps) ms none =
-    let each = either_false (test p && list_any (watches p.pid) ms) (monitors_one test ps ms) none in
+    let each = either_false (test p && list_any (monitors_process p.pid) ms) (monitors_one test ps ms) none in
     go (test p) each.0 (unheard test ps ms each.1)
   where
     hears : List ℕ → List Signal
     hears pids = flat_map (λ pid. downs pid killed ms) pids
 
-    go : (b : Bool) → (b && list_any (watches p.pid) ms) ≡ false → hears (pids_of test ps) ≡ [] → hears (map (λ p. p.pid) (cond b (p ∷ filter test ps) (filter test ps))) ≡ []
+    go : (b : Bool) → (b && list_any (monitors_process p.pid) ms) ≡ false → hears (pids_of test ps) ≡ [] → hears (map (λ p. p.pid) (cond b (p ∷ filter test ps) (filter test ps))) ≡ []
     go true e rest = ap (λ ts. ts ++ hears (pids_of test ps)) (no_downs p.pid ms e) ∙ rest
     go false e rest = rest
 

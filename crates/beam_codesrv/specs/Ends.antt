@@ -8,8 +8,8 @@ use Rattle.beam_machine.specs.declared.process.Signal.TheVariants.{Down}
 use Rattle.beam_machine.specs.Change.{lingers_at, pids_of}
 use Rattle.beam_machine.specs.Private.{Sent}
 use Rattle.beam_machine.specs.Process.{Process, is_ended, ended, killed}
-use Rattle.beam_machine.specs.Quiet.{is_watched}
-use Rattle.beam_machine.specs.State.{process_of, with_signals, watches, downs}
+use Rattle.beam_machine.specs.Quiet.{is_monitored}
+use Rattle.beam_machine.specs.State.{process_of, with_signals, monitors_process, downs}
 use Rattle.beam_machine.specs.Row.{own_number}
 use Rattle.beam_watches.specs.declared.watches.Watch.{Watch}
 use Rattle.beam_codesrv.specs.declared.lingering.Old.{Old}
@@ -56,11 +56,11 @@ watches_one test ps p = list_any (λ m. number_passes test ps (own_number m.pid)
 
 -- a process that passes a test is watched
 abbrev pub one_watched : (Process → Bool) → List Process → Bool
-one_watched test ps = list_any (λ p. test p && is_watched ps p.pid) ps
+one_watched test ps = list_any (λ p. test p && is_monitored ps p.pid) ps
 
 -- of these monitors of a process, the watches of a pid
 abbrev pub watches_by : ℕ → ℕ → List Monitor → List Watch
-watches_by receiver pid ms = map (λ m. record { receiver = receiver; reference = m.reference }) (filter (watches pid) ms)
+watches_by receiver pid ms = map (λ m. record { receiver = receiver; reference = m.reference }) (filter (monitors_process pid) ms)
 
 -- the watches of a pid, by the receivers' pids and then the references
 abbrev pub watchers : ℕ → List Process → List Watch

@@ -6,8 +6,8 @@ ghost use Rattle.beam_machine.specs.declared.event.Event.TheVariants as event;
 ghost use Rattle.beam_machine.specs.declared.event.Reply.TheVariants.{Changed};
 ghost use Rattle.beam_machine.specs.Code.{listing_of};
 ghost use Rattle.beam_machine.specs.Process.{Process as TheProcess};
-ghost use Rattle.beam_machine.specs.Next.{replied, versions, next_load, next_load_strict, next_delete, next_purge, next_soft_purge};
-ghost use Rattle.beam_machine.specs.Quiet.{ends_watched};
+ghost use Rattle.beam_machine.specs.Next.{replied, versions_reply, next_load, next_load_strict, next_delete, next_purge, next_soft_purge};
+ghost use Rattle.beam_machine.specs.Quiet.{ends_monitored};
 ghost use Rattle.beam_machine.specs.Run.{Answers};
 ghost use Rattle.beam_laws.specs.Orderly.{Orderly};
 ghost use Rattle.beam_codesrv.specs.Replacement.{node, said};
@@ -27,7 +27,7 @@ use std::alloc::{AllocError, Global};
 impl CodeTable {
     /// The reply with the numbers of a module's instances.
     pub fn versions(&self, name: &Atom) -> Reply
-        ensures { result ≡ versions self.now name.now }
+        ensures { result ≡ versions_reply self.now name.now }
     {
         Reply::Versions {
             current: self.current(name),
@@ -165,7 +165,7 @@ impl CodeTable {
         requires { Orderly processes.old }
         ensures next { (clock n references : ℕ) → IfOk result (λ ended. next_purge (node self.old processes.old clock n references) name.now
             ≡ replied (node self.new processes.new clock n references) (Changed ended)) }
-        ensures memory { (clock n references : ℕ) → OnErr result (ends_watched (node self.old processes.old clock n references) name.now ≡ true) }
+        ensures memory { (clock n references : ℕ) → OnErr result (ends_monitored (node self.old processes.old clock n references) name.now ≡ true) }
         ensures err { OnErr result ((self.new ≡ self.old) × (processes.new ≡ processes.old)) }
     {
         let ended = end_and_tell(alloc, Old::One(self.old(name)), processes)?;

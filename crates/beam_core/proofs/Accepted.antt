@@ -10,7 +10,7 @@ use Rattle.beam_machine.specs.Process.{Process, is_waiting}
 use Rattle.beam_machine.specs.State.{State, process_of, live_process}
 use Rattle.beam_machine.specs.Next.{Next, Answer, refused, steps, ran, ran_to, next_steps, next}
 use Rattle.beam_machine.specs.Code.{Code}
-use Rattle.beam_machine.specs.Run.{Answers, granted}
+use Rattle.beam_machine.specs.Run.{Answers, effective_rows}
 use Rattle.beam_machine.specs.Quiet.{LacksMemory}
 use Rattle.beam_laws.proofs.Ending.{alive_is}
 use Rattle.beam_laws.proofs.Refusing.{stays, steps_longer}
@@ -33,7 +33,7 @@ pub rows_answered : (code : Code) (pid m count : ℕ) (after : Then) (old new : 
     → HaltsAt [] false pid m (node code old) (Ok (count, Some after)) (node code new) → Answers (node code old) (event.Steps pid m) (Ok (Ran count after)) (node code new)
 rows_answered code pid m count after old new p live runs h =
     let s : State = node code old in
-    let g : ℕ = granted m count after in
+    let g : ℕ = effective_rows m count after in
     ap (λ o. next_steps s pid g o) live
     ∙ (ap (λ b. cond {A = Next} b (refused s NotReady) (ran pid (steps s pid g))) runs
     ∙ rows_answer s (node code new) pid g count after (done_steps g count false s (node code new) pid h.0) h.1)

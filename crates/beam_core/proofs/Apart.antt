@@ -10,7 +10,7 @@ use Rattle.beam_model.specs.Place.{Place}
 use Rattle.beam_machine.specs.Code.{Code}
 use Rattle.beam_machine.specs.Debug.{is_at_spot}
 use Rattle.beam_machine.specs.Next.{Rows, put_process, next, steps}
-use Rattle.beam_machine.specs.Private.{Private, Sent, at_spot, after_row, before_node_row, stops, first, first_sending, private_by, private_rows, private_to_spot}
+use Rattle.beam_machine.specs.Private.{Private, Sent, at_spot, after_row, before_node_row, stops, with_first_row, with_first_sending, private_by, private_rows, private_to_spot}
 use Rattle.beam_machine.specs.Process.{Process, is_running, is_ended}
 use Rattle.beam_machine.specs.Row.{Outcome, makes, sends, asks, sleeps, outcome}
 use Rattle.beam_machine.specs.State.{State, hearing_by}
@@ -43,11 +43,11 @@ by_row : (code : Code) (rest : Process → Private) → ((q : Process) → AsMan
 by_row code rest h p (makes q) r e =
     let one = sym (one_first code (rest q).count p (makes q) r e) in
     let k = h q in
-    subst (Same (first (rest q))) one (ap (λ n. n + 1) k.0, k.1)
+    subst (Same (with_first_row (rest q))) one (ap (λ n. n + 1) k.0, k.1)
 by_row code rest h p (sends q to signal) r e =
     let one = sym (one_first code (rest q).count p (sends q to signal) r e) in
     let k = h q in
-    subst (Same (first_sending (record { to = to; signal = signal }) (rest q))) one
+    subst (Same (with_first_sending (record { to = to; signal = signal }) (rest q))) one
     (ap (λ n. n + 1) k.0, (k.1.0, ap (λ sent. record { to = to; signal = signal } ∷ sent) k.1.1))
 by_row code rest h p (asks q native arity after) r e = (refl, (refl, refl))
 by_row code rest h p (sleeps q n next) r e = (refl, (refl, refl))

@@ -28,7 +28,7 @@ use Rattle.beam_model.specs.Place.{Place}
 use Rattle.beam_machine.specs.Code.{Code, step_of}
 use Rattle.beam_machine.specs.Process.{Process, dropped, without_slots, with_slots, ended, is_ended, read}
 use Rattle.beam_machine.specs.Quiet.{is_quiet_action, is_quiet_control, is_quiet_message, is_quiet_stack, is_quiet_step, is_quiet_at, is_quiet, is_calm}
-use Rattle.beam_machine.specs.Row.{Outcome, makes, sends, asks, sleeps, tag_of, unwound, caught_at, illegal, goes_on, goes_to, changes, decides, has_size, is_tagged, with_one, with_two, tests, trims, trims_in, stacks, returns_to, returns_from, controls, with_message_at, waits, message_rows, perform, performs, outcome_at, outcome}
+use Rattle.beam_machine.specs.Row.{Outcome, makes, sends, asks, sleeps, tag_of, unwound, caught_at, illegal, goes_on, goes_to, changes, decides, has_size, is_tagged, with_one, with_two, tests, trims_newest, trims_in, stacks, returns_to, returns_from, controls, with_message_at, waits, message_rows, perform, performs, outcome_at, outcome}
 
 abbrev over : Process → Bool
 over p = is_ended p.status
@@ -120,7 +120,7 @@ drops_alike n next p (f ∷ fs) = at f.y
     at (Some y) = within (length y == n)
     at None = illegal_alike p
 
-trims_alike : (m n : ℕ) (next : Place) (p : Process) (fs : List Frame) → over (trims m n next (calmed p) fs) ≡ over (trims m n next p fs)
+trims_alike : (m n : ℕ) (next : Place) (p : Process) (fs : List Frame) → over (trims_newest m n next (calmed p) fs) ≡ over (trims_newest m n next p fs)
 trims_alike m n next p [] = illegal_alike p
 trims_alike m n next p (f ∷ fs) = at f.y
   where
@@ -170,7 +170,7 @@ control_loud code (control.SelectSize s choices fail) next p h = refl
 stack_loud : (s : TheStack) (next : Place) (p : Process) → over (stacks s next p) ≡ true → (is_quiet_stack s && is_calm (makes (stacks s next (calmed p)))) ≡ false
 stack_loud (stack.Allocate n) next p h = refl
 stack_loud (stack.Deallocate n) next p h = end_loud (makes (changes (calmed p) next (dropped n (calmed p) p.frames))) (drops_alike n next p p.frames ∙ h)
-stack_loud (stack.Trim m n) next p h = end_loud (makes (trims m n next (calmed p) p.frames)) (trims_alike m n next p p.frames ∙ h)
+stack_loud (stack.Trim m n) next p h = end_loud (makes (trims_newest m n next (calmed p) p.frames)) (trims_alike m n next p p.frames ∙ h)
 stack_loud (stack.Clear registers) next p h = refl
 stack_loud stack.TestHeap next p h = refl
 

@@ -12,7 +12,7 @@ use Rattle.beam_machine.specs.Debug.{Halting, and_one, halting, halts_or, is_at_
 use Rattle.beam_machine.specs.Process.{Process}
 use Rattle.beam_machine.specs.State.{State, process_of}
 use Rattle.beam_machine.specs.Next.{Answer, Rows, next, one_more, row, row_and, running, steps}
-use Rattle.beam_machine.specs.Run.{Answers, granted}
+use Rattle.beam_machine.specs.Run.{Answers, effective_rows}
 use Rattle.beam_laws.proofs.Homes.{next_home}
 use Rattle.beam_laws.proofs.Numbering.{Ordered, ordered_next}
 use Rattle.beam_laws.proofs.Sending.{steps_state}
@@ -62,7 +62,7 @@ halting_keeps P keeps spots passes pid n s p =
 rows_keep : (P : State → Type 0) → ((s : State) (pid n : ℕ) → P s → P (next s (Steps pid n)).state)
     → (spots : List Place) (passes : Bool) (pid n : ℕ) (s : State) (result : Result (ℕ × Option Then) Refused) (t : State) → HaltsAt spots passes pid n s result t → P s → P t
 rows_keep P keeps spots passes pid n s (Ok (count, Some after)) t h p =
-    subst P (ap (λ (h : Halting). h.rows.state) h.0) (halting_keeps P keeps spots passes pid (granted n count after) s p)
+    subst P (ap (λ (h : Halting). h.rows.state) h.0) (halting_keeps P keeps spots passes pid (effective_rows n count after) s p)
 rows_keep P keeps spots passes pid n s (Ok (count, None)) t h p =
     subst P (ap (λ (h : Halting). h.rows.state) h.0) (halting_keeps P keeps spots passes pid n s p)
 rows_keep P keeps spots passes pid n s (Err refusal) t h p = subst P (sym h.1) p

@@ -12,7 +12,7 @@ use Rattle.beam_machine.specs.Debug.{Halting, halting, halts_or, no_rows, and_on
 use Rattle.beam_machine.specs.Process.{Process, is_running, then_of}
 use Rattle.beam_machine.specs.State.{State, process_of}
 use Rattle.beam_machine.specs.Next.{Rows, running, row, row_and, steps, ran, ran_to, replied}
-use Rattle.beam_machine.specs.Run.{granted}
+use Rattle.beam_machine.specs.Run.{effective_rows}
 use Rattle.beam_model.specs.Place.{Place}
 use Rattle.beam_rows.specs.Spots.{is_stopped, passes_after}
 use Rattle.beam_rows.proofs.Clearing.{no_spot, passes_no_more}
@@ -223,7 +223,7 @@ rows_answer s t pid m count after e h = ap (λ r. ran pid r) e ∙ at (process_o
         some_is a b e = cc
 
 -- `Steps` that memory stopped in the middle stand in the list of events with the rows that were executed
-pub granted_some : (n count : ℕ) → count ≢ 0 → count < n → granted n count GoesOn ≡ count
+pub granted_some : (n count : ℕ) → count ≢ 0 → count < n → effective_rows n count GoesOn ≡ count
 granted_some n count some less =
     let first : nat_lt 0 count ≡ true = grind (arith, nat_tests) in
     let short : nat_lt count n ≡ true = grind (arith, nat_tests) in

@@ -7,7 +7,7 @@ use Rattle.beam_machine.specs.declared.event.Then.TheVariants.{GoesOn}
 use Rattle.beam_model.specs.Place.{Place}
 use Rattle.beam_machine.specs.Debug.{Halting, halting}
 use Rattle.beam_machine.specs.Quiet.{IsLoud}
-use Rattle.beam_machine.specs.Run.{granted}
+use Rattle.beam_machine.specs.Run.{effective_rows}
 use Rattle.beam_machine.specs.State.{State, process_of}
 use Rattle.beam_state.specs.Parts.{then_at}
 
@@ -23,7 +23,7 @@ rows_stopped count s = record { rows = record { count = count; state = s }; stop
 -- an error: memory was refused, and nothing changed
 abbrev pub HaltsAt : List Place → Bool → ℕ → ℕ → State → Result (ℕ × Option Then) Refused → State → Type 0
 HaltsAt spots passes pid n s (Ok (count, Some after)) t =
-    (halting spots passes s pid (granted n count after) ≡ rows_done count t) × (then_at t.processes pid ≡ Some after)
+    (halting spots passes s pid (effective_rows n count after) ≡ rows_done count t) × (then_at t.processes pid ≡ Some after)
 HaltsAt spots passes pid n s (Ok (count, None)) t =
     (halting spots passes s pid n ≡ rows_stopped count t) × (then_at t.processes pid ≡ Some GoesOn)
 HaltsAt spots passes pid n s (Err refusal) t = (refusal ≡ NoMemory) × (t ≡ s)

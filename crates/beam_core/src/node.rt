@@ -6,7 +6,7 @@ ghost use Rattle.beam_model.specs.Heads.{CanLoad};
 ghost use Rattle.beam_machine.specs.Change.{AreHome};
 ghost use Rattle.beam_machine.specs.Process.{Process as TheProcess};
 ghost use Rattle.beam_machine.specs.State.{empty, process_of};
-ghost use Rattle.beam_machine.specs.Run.{Answers, run, cut, told};
+ghost use Rattle.beam_machine.specs.Run.{Answers, run, effective_events, effective_answers};
 ghost use Rattle.beam_machine.specs.Quiet.{StopsLoudly, LacksMemory, Each};
 ghost use Rattle.beam_machine.specs.Ready.{ready_after, next_deadline};
 ghost use Rattle.beam_laws.specs.Numbers.{Ordered};
@@ -216,7 +216,7 @@ impl Core {
     /// Applies the events one after another, with one answer an event. Where there is no room for the answers, `NoMemory`, and no event is
     /// applied.
     pub fn run(&mut self, events: &[Event<Image>]) -> Result<Vec<Result<Reply, Refused>>, Refused>
-        ensures run { IfOk result (λ answers. run self.old (cut events.now answers.items) ≡ record { answers = told answers.items; state = self.new }) }
+        ensures run { IfOk result (λ answers. run self.old (effective_events events.now answers.items) ≡ record { answers = effective_answers answers.items; state = self.new }) }
         ensures each { IfOk result (λ answers. length answers.items ≡ length events.now) }
         ensures loud { IfOk result (λ answers. Each StopsLoudly self.old events.now answers.items) }
         ensures memory { IfOk result (λ answers. Each LacksMemory self.old events.now answers.items) }

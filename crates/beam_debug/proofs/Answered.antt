@@ -9,7 +9,7 @@ use Rattle.beam_machine.specs.Debug.{Halting}
 use Rattle.beam_machine.specs.Process.{Process, then_of}
 use Rattle.beam_machine.specs.State.{State, process_of}
 use Rattle.beam_machine.specs.Next.{steps}
-use Rattle.beam_machine.specs.Run.{granted}
+use Rattle.beam_machine.specs.Run.{effective_rows}
 use Rattle.beam_core.specs.Halt.{HaltsAt}
 use Rattle.beam_core.proofs.Stepping.{done_steps, never_stopped}
 use Rattle.beam_debug.specs.Halt.{then_at, RowIs}
@@ -32,7 +32,7 @@ one_granted_by (suc count) =
     let short : nat_lt (suc count) 1 ≡ false = grind (arith, nat_tests) in
     rw (first, short) refl
 
-one_granted : (count : ℕ) (after : Then) → granted 1 count after ≡ 1
+one_granted : (count : ℕ) (after : Then) → effective_rows 1 count after ≡ 1
 one_granted count GoesOn = one_granted_by count
 one_granted count Waits = refl
 one_granted count (EndedThen r v) = refl
@@ -40,7 +40,7 @@ one_granted count (EndedThen r v) = refl
 pub one_of_one : (s t : State) (pid count : ℕ) (after : Then) → then_at s pid ≡ Some GoesOn → HaltsAt [] true pid 1 s (Ok (count, Some after)) t → RowIs s pid (Ok after) t
 one_of_one s t pid count after runs h =
     let p = standing (process_of s.processes pid) GoesOn runs in
-    let rows : steps s pid (granted 1 count after) ≡ record { count = count; state = t } = done_steps (granted 1 count after) count true s t pid h.0 in
+    let rows : steps s pid (effective_rows 1 count after) ≡ record { count = count; state = t } = done_steps (effective_rows 1 count after) count true s t pid h.0 in
     let all : steps s pid 1 ≡ record { count = count; state = t } = ap (steps s pid) (sym (one_granted count after)) ∙ rows in
     let one : count ≡ 1 = (row_is s t pid count p.0 (goes_on_runs s pid p.0 runs p.1) all).0 in
     (all ∙ ap (λ (k : ℕ). record { count = k; state = t }) one, h.1)

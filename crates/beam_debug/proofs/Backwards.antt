@@ -5,7 +5,7 @@ use Rattle.beam_model.specs.declared.function.Import.{Import}
 use Rattle.beam_model.specs.declared.instruction.Instruction.{Instruction}
 use Rattle.beam_model.specs.Listing.{label_of, is_row}
 use Rattle.beam_model.specs.Place.{Place}
-use Rattle.beam_machine.specs.View.{Passed, standing_in, function_of, last_function, later, passed, past_label}
+use Rattle.beam_machine.specs.View.{LastLabel, location_in, function_of, last_function, later, last_label, label_or_row}
 use Rattle.beam_debug.specs.declared.passing.Passing.{Passing}
 use Rattle.beam_debug.specs.declared.passing.Passing.TheVariants.{Label, Rows}
 use Rattle.beam_debug.specs.Passing.{passing_at, passing_by}
@@ -44,54 +44,54 @@ function_before at code =
 -- ---- the last label
 
 -- the state of the search before the first instruction
-abbrev pub none_passed : Passed
+abbrev pub none_passed : LastLabel
 none_passed = record { label = 0; rows = 0 }
 
 -- the state of the search after n more rows
-abbrev pub with_rows : ℕ → Passed → Passed
+abbrev pub with_rows : ℕ → LastLabel → LastLabel
 with_rows n p = record p { rows = p.rows + n }
 
-abbrev pub passed_by : Passing → Passed → Passed
+abbrev pub passed_by : Passing → LastLabel → LastLabel
 passed_by (Label n) p = record { label = n; rows = 0 }
 passed_by (Rows n) p = record p { rows = p.rows + n }
 
-labels_after : (found : Passed) (xs ys : List Instruction) → passed found (xs ++ ys) ≡ passed (passed found xs) ys
+labels_after : (found : LastLabel) (xs ys : List Instruction) → last_label found (xs ++ ys) ≡ last_label (last_label found xs) ys
 labels_after found [] ys = refl
-labels_after found (i ∷ rest) ys = labels_after (past_label (label_of i) i found) rest ys
+labels_after found (i ∷ rest) ys = labels_after (label_or_row (label_of i) i found) rest ys
 
-no_rows_more : (found : Passed) → found ≡ passed_by (Rows 0) found
+no_rows_more : (found : LastLabel) → found ≡ passed_by (Rows 0) found
 no_rows_more found = let same : found.rows ≡ found.rows + 0 = omega arith in ap (λ (k : ℕ). record found { rows = k }) same
 
-by_row : (found : Passed) (b : Bool) → cond {A = Passed} b (record found { rows = found.rows + 1 }) found ≡ passed_by (cond {A = Passing} b (Rows 1) (Rows 0)) found
+by_row : (found : LastLabel) (b : Bool) → cond {A = LastLabel} b (record found { rows = found.rows + 1 }) found ≡ passed_by (cond {A = Passing} b (Rows 1) (Rows 0)) found
 by_row found true = refl
 by_row found false = no_rows_more found
 
-by_label : (found : Passed) (i : Instruction) (o : Option ℕ) → past_label o i found ≡ passed_by (passing_by i o) found
+by_label : (found : LastLabel) (i : Instruction) (o : Option ℕ) → label_or_row o i found ≡ passed_by (passing_by i o) found
 by_label found i (Some n) = refl
 by_label found i None = by_row found (is_row i)
 
-one_label : (found : Passed) (o : Option Instruction) → passed found (one_of o) ≡ passed_by (passing_at o) found
+one_label : (found : LastLabel) (o : Option Instruction) → last_label found (one_of o) ≡ passed_by (passing_at o) found
 one_label found None = no_rows_more found
 one_label found (Some i) = by_label found i (label_of i)
 
-pub label_before : (found : Passed) (at : ℕ) (code : List Instruction) → passed found (take (at + 1) code) ≡ passed_by (passing_at (slice_get code at)) (passed found (take at code))
+pub label_before : (found : LastLabel) (at : ℕ) (code : List Instruction) → last_label found (take (at + 1) code) ≡ passed_by (passing_at (slice_get code at)) (last_label found (take at code))
 label_before found at code =
-    ap (passed found) (take_one at code)
-    ∙ (labels_after found (take at code) (one_of (slice_get code at)) ∙ one_label (passed found (take at code)) (slice_get code at))
+    ap (last_label found) (take_one at code)
+    ∙ (labels_after found (take at code) (one_of (slice_get code at)) ∙ one_label (last_label found (take at code)) (slice_get code at))
 
 -- the instruction at the position is a label
 pub label_found : (rows left n : ℕ) (code : List Instruction) → passing_at (slice_get code left) ≡ Label n
-    → with_rows rows (passed none_passed (take (left + 1) code)) ≡ record { label = n; rows = rows }
+    → with_rows rows (last_label none_passed (take (left + 1) code)) ≡ record { label = n; rows = rows }
 label_found rows left n code e =
     let none : 0 + rows ≡ rows = omega arith in
-    ap (with_rows rows) (label_before none_passed left code ∙ ap (λ (x : Passing). passed_by x (passed none_passed (take left code))) e)
+    ap (with_rows rows) (label_before none_passed left code ∙ ap (λ (x : Passing). passed_by x (last_label none_passed (take left code))) e)
     ∙ ap (λ (k : ℕ). record { label = n; rows = k }) none
 
 -- the instruction at the position is a row, or neither a row nor a label
 pub rows_found : (rows left n : ℕ) (code : List Instruction) → passing_at (slice_get code left) ≡ Rows n
-    → with_rows rows (passed none_passed (take (left + 1) code)) ≡ with_rows (rows + n) (passed none_passed (take left code))
+    → with_rows rows (last_label none_passed (take (left + 1) code)) ≡ with_rows (rows + n) (last_label none_passed (take left code))
 rows_found rows left n code e =
-    let p : Passed = passed none_passed (take left code) in
+    let p : LastLabel = last_label none_passed (take left code) in
     let more : (p.rows + n) + rows ≡ p.rows + (rows + n) = omega arith in
     ap (with_rows rows) (label_before none_passed left code ∙ ap (λ (x : Passing). passed_by x p) e)
     ∙ ap (λ (k : ℕ). record p { rows = k }) more
@@ -101,11 +101,11 @@ take_none [] = refl
 take_none (i ∷ rest) = refl
 
 -- no instruction is before the position
-pub none_left : (rows left : ℕ) (code : List Instruction) → left ≡ 0 → with_rows rows (passed none_passed (take left code)) ≡ record { label = 0; rows = rows }
+pub none_left : (rows left : ℕ) (code : List Instruction) → left ≡ 0 → with_rows rows (last_label none_passed (take left code)) ≡ record { label = 0; rows = rows }
 none_left rows left code e =
     let none : 0 + rows ≡ rows = omega arith in
-    ap (λ (k : ℕ). with_rows rows (passed none_passed (take k code))) e
-    ∙ (ap (λ l. with_rows rows (passed none_passed l)) (take_none code) ∙ ap (λ (k : ℕ). record { label = 0; rows = k }) none)
+    ap (λ (k : ℕ). with_rows rows (last_label none_passed (take k code))) e
+    ∙ (ap (λ l. with_rows rows (last_label none_passed l)) (take_none code) ∙ ap (λ (k : ℕ). record { label = 0; rows = k }) none)
 
 later_some : (o rest : Option Import) → is_some o ≡ true → later o rest ≡ o
 later_some (Some f) rest e = refl
@@ -138,7 +138,7 @@ take_nowhere zero = refl
 take_nowhere (suc at) = refl
 
 -- an instance that is not there
-pub standing_nowhere : (place : Place) → standing_in place [] ≡ record { function = None; label = 0; rows = 0; instance = place.instance }
+pub standing_nowhere : (place : Place) → location_in place [] ≡ record { function = None; label = 0; rows = 0; instance = place.instance }
 standing_nowhere place =
-    ap (λ (l : List Instruction). record { function = last_function None l; label = (passed none_passed (take place.at [])).label; rows = (passed none_passed (take place.at [])).rows; instance = place.instance }) (take_nowhere (place.at + 1))
-    ∙ ap (λ (l : List Instruction). record { function = None; label = (passed none_passed l).label; rows = (passed none_passed l).rows; instance = place.instance }) (take_nowhere place.at)
+    ap (λ (l : List Instruction). record { function = last_function None l; label = (last_label none_passed (take place.at [])).label; rows = (last_label none_passed (take place.at [])).rows; instance = place.instance }) (take_nowhere (place.at + 1))
+    ∙ ap (λ (l : List Instruction). record { function = None; label = (last_label none_passed l).label; rows = (last_label none_passed l).rows; instance = place.instance }) (take_nowhere place.at)

@@ -26,7 +26,7 @@ use Rattle.beam_model.specs.SameText.{same_text}
 use Rattle.beam_machine.specs.Change.{lingers_in_old, lingers_in_olds, pids_of, ends_or_hears, killing}
 use Rattle.beam_machine.specs.Debug.{Halting, is_at_spot, no_rows, and_one, halts_or, halting}
 use Rattle.beam_machine.specs.Next.{Next, refused, replied, Rows, continues, done_by, row, running, row_and, steps, received, signalled, down_term, notified, arrived, delivered, is_nothing, next_deliver, timed_out, next_timeout, sent_to, next_send, next}
-use Rattle.beam_machine.specs.NodeNative.{Answered, answer, fault, most_processes, spawns_with, names, registers, unnames, unregisters, is_alive, signalled as signals, sends_named, most_references, makes_reference, or_noproc, watching, monitored, monitors_by, answer_of}
+use Rattle.beam_machine.specs.NodeNative.{Answered, answer, fault, most_processes, spawns_with, names, registers, unnames, unregisters, is_alive, posted_if_own as signals, sends_named, most_references, makes_reference, or_noproc, put_monitor, monitored, monitors_by, answer_of}
 use Rattle.beam_machine.specs.Process.{Process, is_ended, is_waiting, started, own_pid, ended, killed, monitor_of, without_monitor}
 use Rattle.beam_machine.specs.Row.{Outcome, makes, sends, asks, sleeps, outcome, own_number, arguments_of, goes_on}
 use Rattle.beam_machine.specs.State.{State, process_of, with_process, live_process, registered, receiver_of, posted_to, posted, with_signals, downs, hearing_by, with_made}
@@ -189,7 +189,7 @@ module _ (room : ℕ) where
         | false ↦ posted_below ps caller signal (live_process ps caller) refl h
       ]
 
-  watching_below : (ps : List Process) (caller n : ℕ) (watched : TermValue) (o : Option Process) → live_process ps caller ≡ o → Below ps → Below (watching ps caller n watched o)
+  watching_below : (ps : List Process) (caller n : ℕ) (watched : TermValue) (o : Option Process) → live_process ps caller ≡ o → Below ps → Below (put_monitor ps caller n watched o)
   watching_below ps caller n watched None e h = h
   watching_below ps caller n watched (Some p) e h =
       set_below ps (caller - 1) (record p { monitors = p.monitors ++ record { reference = n; pid = watched } ∷ [] }) h (λ more. live_below ps caller p e h more)

@@ -16,7 +16,7 @@ use Rattle.beam_model.specs.Place.{Place}
 use Rattle.beam_machine.specs.Process.{Process, is_waiting}
 use Rattle.beam_machine.specs.State.{State, process_of, live_process}
 use Rattle.beam_machine.specs.Next.{steps}
-use Rattle.beam_machine.specs.Debug.{Debugged, DebugNext, halting, is_among, is_spot, with_pid, without_pid, with_spot, without_spot, refuses, replies, settled, halts, debug_steps, debug_step_one, steps_one, debug_resume, debug_set, debug_clear, debug_inspect, place_named}
+use Rattle.beam_machine.specs.Debug.{Debugged, DebugNext, halting, is_among, is_spot, with_pid, without_pid, with_spot, without_spot, refuses, replies, pruned, halts, debug_steps, debug_step_one, steps_one, debug_resume, debug_set, debug_clear, debug_inspect, place_named}
 use Rattle.beam_debug.specs.Answers.{Inspected}
 use Rattle.beam_machine.specs.DebugRun.{DebugAnswers}
 
@@ -53,14 +53,14 @@ pub set_none : (d : Debugged) (spot : Spot) → place_named d.node.code spot ≡
 set_none d spot e = ap (debug_set d) e
 
 pub set_some : (d : Debugged) (spot : Spot) (place : Place) → place_named d.node.code spot ≡ Some place
-    → DebugAnswers d (SetBreak spot) (Ok (Node (Changed (not (is_spot place d.spots))))) (settled (record d { spots = with_spot place d.spots }))
+    → DebugAnswers d (SetBreak spot) (Ok (Node (Changed (not (is_spot place d.spots))))) (pruned (record d { spots = with_spot place d.spots }))
 set_some d spot place e = ap (debug_set d) e
 
 pub clear_none : (d : Debugged) (spot : Spot) → place_named d.node.code spot ≡ None → DebugAnswers d (ClearBreak spot) (Err BadSpot) d
 clear_none d spot e = ap (debug_clear d) e
 
 pub clear_some : (d : Debugged) (spot : Spot) (place : Place) → place_named d.node.code spot ≡ Some place
-    → DebugAnswers d (ClearBreak spot) (Ok (Node (Changed (is_spot place d.spots)))) (settled (record d { spots = without_spot place d.spots }))
+    → DebugAnswers d (ClearBreak spot) (Ok (Node (Changed (is_spot place d.spots)))) (pruned (record d { spots = without_spot place d.spots }))
 clear_some d spot place e = ap (debug_clear d) e
 
 -- ---- processes that are held
@@ -74,7 +74,7 @@ resume_free d pid p e free =
     ∙ ap (λ b. cond {A = DebugNext} b (replies (record d { held = without_pid pid d.held; passing = with_pid pid d.passing }) (Node Done)) (refuses d NotReady)) free
 
 pub resume_held : (d : Debugged) (pid : ℕ) (p : Process) → live_process d.node.processes pid ≡ Some p → is_among pid d.held ≡ true
-    → DebugAnswers d (Resume pid) (Ok (Node Done)) (settled (record d { held = without_pid pid d.held; passing = with_pid pid d.passing }))
+    → DebugAnswers d (Resume pid) (Ok (Node Done)) (pruned (record d { held = without_pid pid d.held; passing = with_pid pid d.passing }))
 resume_held d pid p e held =
     ap (debug_resume d pid) e
     ∙ ap (λ b. cond {A = DebugNext} b (replies (record d { held = without_pid pid d.held; passing = with_pid pid d.passing }) (Node Done)) (refuses d NotReady)) held
@@ -103,8 +103,8 @@ with_state d x y e reply same h = subst (λ (z : Debugged). DebugAnswers d e (Ok
 
 -- settled marks, where the processes that may pass a break spot are given by an equal list
 pub passed_on : (t : State) (spots : List Place) (held passing left : List ℕ) → left ≡ passing
-    → settled (record { node = t; spots = spots; held = held; passing = left }) ≡ settled (record { node = t; spots = spots; held = held; passing = passing })
-passed_on t spots held passing left same = ap (λ (ps : List ℕ). settled (record { node = t; spots = spots; held = held; passing = ps })) same
+    → pruned (record { node = t; spots = spots; held = held; passing = left }) ≡ pruned (record { node = t; spots = spots; held = held; passing = passing })
+passed_on t spots held passing left same = ap (λ (ps : List ℕ). pruned (record { node = t; spots = spots; held = held; passing = ps })) same
 
 -- ---- a process that is looked at
 
@@ -116,7 +116,7 @@ seen_as d pid (Some p) view e = ap (λ (v : View). replies d (Viewed v)) (some_i
     some_is : (a b : View) → Some a ≡ Some b → a ≡ b
     some_is a b e = cc
 
-pub inspected : (d : Debugged) (pid : ℕ) (view : View) → Inspected d pid (Ok view) → DebugAnswers d (Inspect pid) (Ok (Viewed view)) (settled d)
+pub inspected : (d : Debugged) (pid : ℕ) (view : View) → Inspected d pid (Ok view) → DebugAnswers d (Inspect pid) (Ok (Viewed view)) (pruned d)
 inspected d pid view h = seen_as d pid (process_of d.node.processes pid) view h
 
 -- where a view was made, its process is there

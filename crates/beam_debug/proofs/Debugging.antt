@@ -20,10 +20,10 @@ use Rattle.beam_machine.specs.Change.{is_live}
 use Rattle.beam_machine.specs.Process.{Process, is_waiting, then_of}
 use Rattle.beam_machine.specs.State.{State, process_of, alive, live_process}
 use Rattle.beam_machine.specs.Next.{Answer, Next, Rows, next, steps}
-use Rattle.beam_machine.specs.Run.{Answers, cut_event, granted}
-use Rattle.beam_machine.specs.Debug.{Debugged, DebugAnswer, DebugNext, is_among, is_live_process, with_pid, passes_on, Halting, halting, refuses, replies, settled, of_node, halted, halts, debug_steps, held_at, stepped, steps_one, debug_step_one, debug_next}
+use Rattle.beam_machine.specs.Run.{Answers, cut_event, effective_rows}
+use Rattle.beam_machine.specs.Debug.{Debugged, DebugAnswer, DebugNext, is_among, is_live_process, with_pid, passes_on, Halting, halting, refuses, replies, pruned, of_node, halted, halts, debug_steps, held_at, stepped, steps_one, debug_step_one, debug_next}
 use Rattle.beam_laws.proofs.Refusing.{refusal}
-use Rattle.beam_machine.specs.DebugRun.{debug_cut, DebugAnswers}
+use Rattle.beam_machine.specs.DebugRun.{debug_cut_event, DebugAnswers}
 use Rattle.beam_debug.specs.Settled.{Settled}
 use Rattle.beam_core.specs.Halt.{HaltsAt}
 use Rattle.beam_debug.specs.Halt.{then_at, steps_in, RowIs}
@@ -39,7 +39,7 @@ kept : {T : Type 0} (test : T → Bool) (xs : List T) → AllByRecursion (λ x. 
 kept test [] = tt
 kept test (x ∷ xs) = kept_by test x (filter test xs) (test x) refl (kept test xs)
 
-pub settles : (d : Debugged) → Settled (settled d)
+pub settles : (d : Debugged) → Settled (pruned d)
 settles d = (kept (λ (spot : Place). is_live d.node.code spot.instance) d.spots, kept (is_live_process d.node) d.held, kept (is_live_process d.node) d.passing)
 
 -- ---- a process that runs
@@ -105,20 +105,20 @@ halted_held d pid count t after e =
 -- rows that end after `count`, where the process waits or ends, memory is refused, or all were executed
 pub answers_ran : (d : Debugged) (pid n count : ℕ) (after : Then) (t : State) → then_at d.node pid ≡ Some GoesOn → is_among pid d.held ≡ false
     → HaltsAt d.spots (is_among pid d.passing) pid n d.node (Ok (count, Some after)) t
-    → DebugAnswers d (NodeEvent (event.Steps pid n)) (Ok (Node (Ran count after))) (settled (ran_on d pid count t))
+    → DebugAnswers d (NodeEvent (event.Steps pid n)) (Ok (Node (Ran count after))) (pruned (ran_on d pid count t))
 answers_ran d pid n count after t runs free h =
-    steps_halt d pid (granted n count after) (at_count count t false) runs free h.0 ∙ halted_ran d pid count t after h.1
+    steps_halt d pid (effective_rows n count after) (at_count count t false) runs free h.0 ∙ halted_ran d pid count t after h.1
 
 -- rows that end before the row of a break spot
 pub answers_held : (d : Debugged) (pid n count : ℕ) (t : State) → then_at d.node pid ≡ Some GoesOn → is_among pid d.held ≡ false
     → HaltsAt d.spots (is_among pid d.passing) pid n d.node (Ok (count, None)) t
-    → DebugAnswers d (NodeEvent (event.Steps pid n)) (Ok (Held count)) (settled (record (ran_on d pid count t) { held = with_pid pid d.held }))
+    → DebugAnswers d (NodeEvent (event.Steps pid n)) (Ok (Held count)) (pruned (record (ran_on d pid count t) { held = with_pid pid d.held }))
 answers_held d pid n count t runs free h =
     steps_halt d pid n (at_count count t true) runs free h.0 ∙ halted_held d pid count t GoesOn h.1
 
 -- one row of a process that is held
 pub answers_one : (d : Debugged) (pid : ℕ) (after : Then) (t : State) → then_at d.node pid ≡ Some GoesOn → is_among pid d.held ≡ true → RowIs d.node pid (Ok after) t
-    → DebugAnswers d (StepOne pid) (Ok (held_at 1 after)) (settled (ran_on d pid 1 t))
+    → DebugAnswers d (StepOne pid) (Ok (held_at 1 after)) (pruned (ran_on d pid 1 t))
 answers_one d pid after t runs held h =
     let p = option_lives (process_of d.node.processes pid) runs in
     let q = standing (process_of t.processes pid) after h.1 in
@@ -139,19 +139,19 @@ not_cut : (e : Event Listing) (a : Answer) → steps_in e ≡ None → cut_event
 not_cut (event.Steps pid n) a h = cc
 not_cut e a h = refl
 
-debug_not_cut : (e : Event Listing) (a : DebugAnswer) → steps_in e ≡ None → debug_cut (NodeEvent e) a ≡ NodeEvent e
+debug_not_cut : (e : Event Listing) (a : DebugAnswer) → steps_in e ≡ None → debug_cut_event (NodeEvent e) a ≡ NodeEvent e
 debug_not_cut (event.Steps pid n) a h = cc
 debug_not_cut e a h = refl
 
 -- the answer to an event that runs no rows, by the node's answer
 event_is : (d : Debugged) (e : Event Listing) (a : Answer) (b : DebugAnswer) (x : Next) → steps_in e ≡ None → next d.node (cut_event e a) ≡ x
-    → debug_next d (debug_cut (NodeEvent e) b) ≡ of_node d x
+    → debug_next d (debug_cut_event (NodeEvent e) b) ≡ of_node d x
 event_is d e a b x other h =
     ap (debug_next d) (debug_not_cut e b other)
     ∙ (of_event d e other ∙ ap (of_node d) (ap (next d.node) (sym (not_cut e a other)) ∙ h))
 
 pub answers_event : (d : Debugged) (e : Event Listing) (reply : Reply) (t : State) → steps_in e ≡ None → Answers d.node e (Ok reply) t
-    → DebugAnswers d (NodeEvent e) (Ok (Node reply)) (settled (record d { node = t }))
+    → DebugAnswers d (NodeEvent e) (Ok (Node reply)) (pruned (record d { node = t }))
 answers_event d e reply t other h = event_is d e (Ok reply) (Ok (Node reply)) (record { answer = Ok reply; state = t }) other h
 
 event_refused : (d : Debugged) (e : Event Listing) (r : Refused) (t : State) → steps_in e ≡ None → next d.node (cut_event e (Err r)) ≡ record { answer = Err r; state = t }
@@ -168,7 +168,7 @@ refused_state : (d : Debugged) (r : Refused) (t : State) → t ≡ d.node → re
 refused_state d r t same = ap (λ (s : State). refuses (record d { node = s }) r) (sym same)
 
 other_refused : (d : Debugged) (e : Event Listing) (r : Refused) (t : State) → steps_in e ≡ None → next d.node (cut_event e (Err r)) ≡ record { answer = Err r; state = t }
-    → debug_next d (debug_cut (NodeEvent e) (Err r)) ≡ record { answer = Err r; state = record d { node = t } }
+    → debug_next d (debug_cut_event (NodeEvent e) (Err r)) ≡ record { answer = Err r; state = record d { node = t } }
 other_refused d e r t other h =
     event_is d e (Err r) (Err r) (record { answer = Err r; state = t }) other h ∙ refused_state d r t (event_refused d e r t other h)
 

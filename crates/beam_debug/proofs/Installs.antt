@@ -8,7 +8,7 @@ use Rattle.beam_machine.specs.declared.event.Event.TheVariants as event
 use Rattle.beam_machine.specs.declared.event.Reply.TheVariants.{Ran}
 use Rattle.beam_machine.specs.declared.event.Then.{Then}
 use Rattle.beam_model.specs.Place.{Place}
-use Rattle.beam_machine.specs.Debug.{Debugged, DebugNext, halting, halts, replies, settled, with_pid, debug_next}
+use Rattle.beam_machine.specs.Debug.{Debugged, DebugNext, halting, halts, replies, pruned, with_pid, debug_next}
 use Rattle.beam_machine.specs.Next.{Rows, steps}
 use Rattle.beam_machine.specs.Private.{Private, End, at_limit, after_row, before_node_row, at_spot, private_to_spot}
 use Rattle.beam_machine.specs.Process.{Process, is_running, then_of}
@@ -128,10 +128,10 @@ ends_at_spot AtSpot e = refl
 -- an answer, and the state after it with settled marks
 pub replies_with : (x : DebugNext) (reply : DebugReply View) (t : State) (spots : List Place) (held passing holds passes : List ℕ) (new : Debugged)
     → x ≡ replies (record { node = t; spots = spots; held = held; passing = passing }) reply → holds ≡ held → passes ≡ passing
-    → new ≡ settled (record { node = t; spots = spots; held = holds; passing = passes }) → x ≡ record { answer = Ok reply; state = new }
+    → new ≡ pruned (record { node = t; spots = spots; held = holds; passing = passes }) → x ≡ record { answer = Ok reply; state = new }
 replies_with x reply t spots held passing holds passes new e h p is =
-    let marks : new ≡ settled (record { node = t; spots = spots; held = held; passing = passing }) =
+    let marks : new ≡ pruned (record { node = t; spots = spots; held = held; passing = passing }) =
     is
-    ∙ (ap (λ (ns : List ℕ). settled (record { node = t; spots = spots; held = ns; passing = passes })) h
-    ∙ ap (λ (ns : List ℕ). settled (record { node = t; spots = spots; held = held; passing = ns })) p) in
+    ∙ (ap (λ (ns : List ℕ). pruned (record { node = t; spots = spots; held = ns; passing = passes })) h
+    ∙ ap (λ (ns : List ℕ). pruned (record { node = t; spots = spots; held = held; passing = ns })) p) in
     e ∙ ap (λ (d : Debugged). record { answer = Ok reply; state = d }) (sym marks)

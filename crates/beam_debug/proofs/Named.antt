@@ -7,11 +7,11 @@ use Rattle.beam_model.specs.declared.instruction.Instruction.{Instruction}
 use Rattle.beam_machine.specs.declared.debug.Version.{Version}
 use Rattle.beam_machine.specs.declared.debug.Version.TheVariants.{Current, Old}
 use Rattle.beam_model.specs.Fetch.{end_of_code, instruction_at}
-use Rattle.beam_model.specs.Listing.{Listing, is_number, label_of, row_of_label, next_row, passed, next_at}
+use Rattle.beam_model.specs.Listing.{Listing, is_this_number, label_of, row_of_label, next_row, gap_before_row, next_at}
 use Rattle.beam_model.specs.Place.{Place}
 use Rattle.beam_model.specs.SameText.{same_text}
 use Rattle.beam_machine.specs.Code.{Code, Instance, Versions, versions_of, listing_of, listing_in}
-use Rattle.beam_machine.specs.Debug.{rows_after, version_of}
+use Rattle.beam_machine.specs.Debug.{rows_after, instance_of_version}
 use Rattle.beam_laws.specs.Numbers.{bears, how_many}
 
 -- ---- the instance of a number
@@ -35,35 +35,35 @@ bears_own o i e = ap (bears i.number) e ∙ ap (λ b. cond b 1 0) (itself i.numb
 listed_own : (o : Option Instance) (i : Instance) (rest : Option Listing) → o ≡ Some i → listing_in o i.number rest ≡ Some i.listing
 listed_own o i rest e = ap (λ o. listing_in o i.number rest) e ∙ ap (λ b. cond b (Some i.listing) rest) (itself i.number)
 
-version_bears : (v : Version) (vs : Versions) (i : Instance) → version_of v vs ≡ Some i → 1 ≤ bears i.number vs.current + bears i.number vs.old
+version_bears : (v : Version) (vs : Versions) (i : Instance) → instance_of_version v vs ≡ Some i → 1 ≤ bears i.number vs.current + bears i.number vs.old
 version_bears Current vs i e = omega (arith, bears_own vs.current i e)
 version_bears Old vs i e = omega (arith, bears_own vs.old i e)
 
-borne : (v : Version) (code : Code) (name : List ℕ) (i : Instance) → version_of v (versions_of code name) ≡ Some i → 1 ≤ how_many i.number code
+borne : (v : Version) (code : Code) (name : List ℕ) (i : Instance) → instance_of_version v (versions_of code name) ≡ Some i → 1 ≤ how_many i.number code
 borne v [] name i = λ e. none v e
   where
-    none : (v : Version) → version_of v (record { name = name; current = None; old = None }) ≡ Some i → 1 ≤ 0
+    none : (v : Version) → instance_of_version v (record { name = name; current = None; old = None }) ≡ Some i → 1 ≤ 0
     none Current e = cc
     none Old e = cc
-borne v (vs ∷ rest) name i = elim (same_text vs.name name) as (λ b. version_of v (cond b vs (versions_of rest name)) ≡ Some i → 1 ≤ how_many i.number (vs ∷ rest)) [
+borne v (vs ∷ rest) name i = elim (same_text vs.name name) as (λ b. instance_of_version v (cond b vs (versions_of rest name)) ≡ Some i → 1 ≤ how_many i.number (vs ∷ rest)) [
   | true ↦ λ e. omega (arith, version_bears v vs i e)
   | false ↦ λ e. omega (arith, borne v rest name i e)
 ]
 
-here : (v : Version) (vs : Versions) (i : Instance) (rest : Option Listing) → bears i.number vs.current + bears i.number vs.old ≤ 1 → version_of v vs ≡ Some i
+here : (v : Version) (vs : Versions) (i : Instance) (rest : Option Listing) → bears i.number vs.current + bears i.number vs.old ≤ 1 → instance_of_version v vs ≡ Some i
     → listing_in vs.current i.number (listing_in vs.old i.number rest) ≡ Some i.listing
 here Current vs i rest once e = listed_own vs.current i (listing_in vs.old i.number rest) e
 here Old vs i rest once e =
     missed i.number vs.current (listing_in vs.old i.number rest) (omega (arith, once, bears_own vs.old i e)) ∙ listed_own vs.old i rest e
 
 -- the listing of a module's instance is found by the instance's number
-pub listing_of_version : (v : Version) (code : Code) (name : List ℕ) (i : Instance) → how_many i.number code ≤ 1 → version_of v (versions_of code name) ≡ Some i → listing_of code i.number ≡ Some i.listing
+pub listing_of_version : (v : Version) (code : Code) (name : List ℕ) (i : Instance) → how_many i.number code ≤ 1 → instance_of_version v (versions_of code name) ≡ Some i → listing_of code i.number ≡ Some i.listing
 listing_of_version v [] name i once = λ e. none v e
   where
-    none : (v : Version) → version_of v (record { name = name; current = None; old = None }) ≡ Some i → None ≡ Some i.listing
+    none : (v : Version) → instance_of_version v (record { name = name; current = None; old = None }) ≡ Some i → None ≡ Some i.listing
     none Current e = cc
     none Old e = cc
-listing_of_version v (vs ∷ rest) name i once = elim (same_text vs.name name) as (λ b. version_of v (cond b vs (versions_of rest name)) ≡ Some i → listing_of (vs ∷ rest) i.number ≡ Some i.listing) [
+listing_of_version v (vs ∷ rest) name i once = elim (same_text vs.name name) as (λ b. instance_of_version v (cond b vs (versions_of rest name)) ≡ Some i → listing_of (vs ∷ rest) i.number ≡ Some i.listing) [
   | true ↦ λ e. here v vs i (listing_of rest i.number) (omega (arith, once)) e
   | false ↦ λ e.
       let there : 1 ≤ how_many i.number rest = borne v rest name i e in
@@ -73,14 +73,14 @@ listing_of_version v (vs ∷ rest) name i once = elim (same_text vs.name name) a
 
 -- a place that is found in a module's instance is found by the instance's number
 pub found_by_number : (v : Version) (code : Code) (name : List ℕ) (n : ℕ) (f : Instance → Option Place) → how_many n code ≤ 1
-    → option_map (λ i. i.number) (version_of v (versions_of code name)) ≡ Some n
-    → option_and_then f (version_of v (versions_of code name)) ≡ option_and_then (λ l. f (record { number = n; listing = l })) (listing_of code n)
-found_by_number v code name n f once e = go (version_of v (versions_of code name)) refl e
+    → option_map (λ i. i.number) (instance_of_version v (versions_of code name)) ≡ Some n
+    → option_and_then f (instance_of_version v (versions_of code name)) ≡ option_and_then (λ l. f (record { number = n; listing = l })) (listing_of code n)
+found_by_number v code name n f once e = go (instance_of_version v (versions_of code name)) refl e
   where
     some_is : (a b : ℕ) → Some a ≡ Some b → a ≡ b
     some_is a b e = cc
 
-    go : (o : Option Instance) → version_of v (versions_of code name) ≡ o → option_map (λ i. i.number) o ≡ Some n
+    go : (o : Option Instance) → instance_of_version v (versions_of code name) ≡ o → option_map (λ i. i.number) o ≡ Some n
         → option_and_then f o ≡ option_and_then (λ l. f (record { number = n; listing = l })) (listing_of code n)
     go None is e = cc
     go (Some i) is e =
@@ -143,13 +143,13 @@ step_past l at e = go (slice_get l.instructions at) e
 
 found_at : (l : Listing) (label at : ℕ) (i : Instruction) → slice_get l.instructions at ≡ Some i
     → row_of_label label at (drop at l.instructions)
-    ≡ cond {A = Option ℕ} (is_number label (label_of (instruction_at l at))) (Some (next_row at l.instructions)) (row_of_label label (at + 1) (drop (at + 1) l.instructions))
+    ≡ cond {A = Option ℕ} (is_this_number label (label_of (instruction_at l at))) (Some (next_row at l.instructions)) (row_of_label label (at + 1) (drop (at + 1) l.instructions))
 found_at l label at i e =
     ap (row_of_label label at) (at_position l.instructions at i e)
-    ∙ ap (λ (j : Instruction). cond {A = Option ℕ} (is_number label (label_of j)) (Some (next_row at l.instructions)) (row_of_label label (at + 1) (drop (at + 1) l.instructions)))
+    ∙ ap (λ (j : Instruction). cond {A = Option ℕ} (is_this_number label (label_of j)) (Some (next_row at l.instructions)) (row_of_label label (at + 1) (drop (at + 1) l.instructions)))
     (sym (ap (λ o. unwrap_or o end_of_code) e))
 
-pub label_here : (l : Listing) (label at next : ℕ) → next_at l at ≡ Some next → is_number label (label_of (instruction_at l at)) ≡ true
+pub label_here : (l : Listing) (label at next : ℕ) → next_at l at ≡ Some next → is_this_number label (label_of (instruction_at l at)) ≡ true
     → row_of_label label at (drop at l.instructions) ≡ Some next
 label_here l label at next e h =
     let s = step_there l at next e in
@@ -157,7 +157,7 @@ label_here l label at next e h =
     ∙ (ap (λ b. cond {A = Option ℕ} b (Some (next_row at l.instructions)) (row_of_label label (at + 1) (drop (at + 1) l.instructions))) h
     ∙ ap (λ (n : ℕ). Some n) (sym s.2))
 
-pub label_later : (l : Listing) (label at next : ℕ) → next_at l at ≡ Some next → is_number label (label_of (instruction_at l at)) ≡ false
+pub label_later : (l : Listing) (label at next : ℕ) → next_at l at ≡ Some next → is_this_number label (label_of (instruction_at l at)) ≡ false
     → row_of_label label at (drop at l.instructions) ≡ row_of_label label (at + 1) (drop (at + 1) l.instructions)
 label_later l label at next e h =
     let s = step_there l at next e in
@@ -171,7 +171,7 @@ label_nowhere l label at e = ap (row_of_label label at) (past_end l.instructions
 pub next_above : (l : Listing) (at next : ℕ) → next_at l at ≡ Some next → at + 1 ≤ next
 next_above l at next e =
     let s = step_there l at next e in
-    let is : next ≡ at + 1 + passed (drop (at + 1) l.instructions) = s.2 in
+    let is : next ≡ at + 1 + gap_before_row (drop (at + 1) l.instructions) = s.2 in
     omega (arith, is)
 
 pub at_within : (l : Listing) (at next : ℕ) → next_at l at ≡ Some next → at < length l.instructions

@@ -19,12 +19,12 @@ use Rattle.beam_model.specs.Listing.{Listing}
 use Rattle.beam_model.specs.Place.{Place}
 use Rattle.beam_machine.specs.Code.{Code}
 use Rattle.beam_machine.specs.Debug.{Debugged, DebugAnswer, DebugNext, Halting, halting, is_among, is_live_process, is_spot, with_pid, without_pid, with_spot, without_spot, refuses, replies, after_rows, answered, of_node, halted, halts, debug_steps, held_at, stepped, steps_one, debug_step_one, debug_resume, debug_set, debug_clear, debug_inspect, place_named, debug_next}
-use Rattle.beam_machine.specs.DebugRun.{debug_cut, DebugAnswers}
+use Rattle.beam_machine.specs.DebugRun.{debug_cut_event, DebugAnswers}
 use Rattle.beam_machine.specs.Next.{Answer, Rows, next, steps}
 use Rattle.beam_machine.specs.Process.{Process, is_waiting, then_of}
 use Rattle.beam_machine.specs.Quiet.{IsLoud, is_quiet_at, is_calm}
 use Rattle.beam_machine.specs.Row.{outcome}
-use Rattle.beam_machine.specs.Run.{granted}
+use Rattle.beam_machine.specs.Run.{effective_rows}
 use Rattle.beam_machine.specs.State.{State, empty, process_of, live_process}
 use Rattle.beam_machine.specs.View.{View, view_of}
 use Rattle.beam_laws.proofs.Ending.{alive_is, at_index}
@@ -284,7 +284,7 @@ module _ (room : ℕ) where
       subst Roomy (ap (λ (x : DebugNext). x.state) h) (event_roomy d e (λ ok. runs (sym (ap (λ (x : DebugNext). is_ok x.answer) h) ∙ ok)) k)
 
   -- cut rows were asked for, so at least one row was
-  granted_some : (n count : ℕ) (after : Then) → 0 < granted n count after → 0 < n
+  granted_some : (n count : ℕ) (after : Then) → 0 < effective_rows n count after → 0 < n
   granted_some n count GoesOn more = by (nat_lt 0 count) (nat_lt count n) refl refl more
     where
       by : (b c : Bool) → nat_lt 0 count ≡ b → nat_lt count n ≡ c → 0 < cond {A = ℕ} (b && c) count n → 0 < n
@@ -296,15 +296,15 @@ module _ (room : ℕ) where
   granted_some n count Waits more = more
   granted_some n count (Ended reason value) more = more
 
-  cut_room : (e : DebugEvent Listing) (reply : DebugReply View) → RoomFor room e → RoomFor room (debug_cut e (Ok reply))
+  cut_room : (e : DebugEvent Listing) (reply : DebugReply View) → RoomFor room e → RoomFor room (debug_cut_event e (Ok reply))
   cut_room (NodeEvent (event.Steps pid n)) (Node (Ran count after)) h = λ more. h (granted_some n count after more)
   cut_room (NodeEvent (event.Steps pid n)) reply h = h
   cut_room e reply h = tt
 
   pub answers_roomy : (d new : Debugged) (e : DebugEvent Listing) (a : DebugAnswer) → DebugAnswers d e a new → (is_ok a ≡ true → RoomFor room e) → Roomy d → Roomy new
   answers_roomy d new e (Err NoMemory) h runs k = subst Roomy (sym h) k
-  answers_roomy d new e (Err r) h runs k = next_is d new (debug_cut e (Err r)) (Err r) h (λ ok. absurd (true≢false (sym ok))) k
-  answers_roomy d new e (Ok reply) h runs k = next_is d new (debug_cut e (Ok reply)) (Ok reply) h (λ ok. cut_room e reply (runs refl)) k
+  answers_roomy d new e (Err r) h runs k = next_is d new (debug_cut_event e (Err r)) (Err r) h (λ ok. absurd (true≢false (sym ok))) k
+  answers_roomy d new e (Ok reply) h runs k = next_is d new (debug_cut_event e (Ok reply)) (Ok reply) h (λ ok. cut_room e reply (runs refl)) k
 
 -- ---- an answer, and rows that take effect
 

@@ -13,7 +13,7 @@ use Rattle.beam_machine.specs.Process.{Process, is_waiting}
 use Rattle.beam_machine.specs.State.{State, process_of, live_process}
 use Rattle.beam_machine.specs.Next.{Answer, Rows, next, steps}
 use Rattle.beam_machine.specs.Debug.{Debugged, DebugAnswer, DebugNext, Halting, halting, is_among, with_pid, without_pid, with_spot, without_spot, after_rows, answered, of_node, halted, debug_steps, stepped, debug_step_one, debug_resume, debug_set, debug_clear, debug_inspect, place_named, debug_next}
-use Rattle.beam_machine.specs.DebugRun.{debug_cut, DebugAnswers}
+use Rattle.beam_machine.specs.DebugRun.{debug_cut_event, DebugAnswers}
 use Rattle.beam_debug.specs.declared.outcome.Outcome.{Outcome}
 use Rattle.beam_debug.specs.Answers.{said}
 use Rattle.beam_debug.specs.Settled.{Settled}
@@ -81,7 +81,7 @@ next_is d new e a h k = subst Settled (ap (λ (x : DebugNext). x.state) h) (even
 
 pub answers_settled : (d new : Debugged) (e : DebugEvent Listing) (a : DebugAnswer) → DebugAnswers d e a new → Settled d → Settled new
 answers_settled d new e (Err NoMemory) h k = subst Settled (sym h) k
-answers_settled d new e a h k = next_is d new (debug_cut e a) a h k
+answers_settled d new e a h k = next_is d new (debug_cut_event e a) a h k
 
 -- rows took effect as an event, or nothing changed
 pub installed_settled : (d new : Debugged) (e : DebugEvent Listing) (result : Result Outcome Refused)

@@ -4,12 +4,12 @@ use Rattle.std.proofs.lemmas.Bool.{eqb-true}
 use Rattle.std.specs.Prelude.{map, option_map}
 use Rattle.beam_machine.specs.declared.process.Frame.{Frame}
 use Rattle.beam_machine.specs.Code.{Code}
-use Rattle.beam_machine.specs.View.{FrameView, frame_view, slots_of, standing}
+use Rattle.beam_machine.specs.View.{FrameView, frame_view, slots_of, location}
 use Rattle.beam_stack.specs.Frames.{newest_y, newest_back, older_than}
 
 -- the view of the newest of frames
 abbrev pub newest_view : Code → List Frame → FrameView
-newest_view code fs = record { back = option_map (standing code) (newest_back fs); y = slots_of (newest_y fs) }
+newest_view code fs = record { back = option_map (location code) (newest_back fs); y = slots_of (newest_y fs) }
 
 pub one_more : (code : Code) (fs : List Frame) → (length fs == 0) ≡ false → newest_view code fs ∷ map (frame_view code) (older_than fs) ≡ map (frame_view code) fs
 one_more code [] e = cc

@@ -3,7 +3,7 @@ use Rattle.std.specs.Prelude.{ℕ, Bool, List, ◌++◌, length, map, option_map
 use Rattle.beam_machine.specs.declared.process.Slot.{Slot}
 use Rattle.beam_machine.specs.Code.{Code}
 use Rattle.beam_machine.specs.Process.{Process}
-use Rattle.beam_machine.specs.View.{Standing, Next, row, entry, none, FrameView, LiveView, View, live, over, frame_view, instruction_in, next_of, back_text, register_text, slot_text, ys_text}
+use Rattle.beam_machine.specs.View.{Location, NextView, at_row, entry, nowhere, FrameView, LiveView, View, live, over, frame_view, instruction_in, next_of, back_text, register_text, slot_text, ys_text}
 use Rattle.beam_debug.specs.declared.view.Standing.{Standing as TheStanding}
 use Rattle.beam_debug.specs.declared.view.Next.{Next as TheNext}
 use Rattle.beam_debug.specs.declared.view.Next.TheVariants.{Row, Entry, Nothing}
@@ -12,13 +12,13 @@ use Rattle.beam_debug.specs.declared.view.LiveView.{LiveView as TheLiveView}
 use Rattle.beam_debug.specs.declared.view.View.{View as TheView}
 use Rattle.beam_debug.specs.declared.view.View.TheVariants.{Live, Over}
 
-abbrev pub standing_seen : TheStanding → Standing
+abbrev pub standing_seen : TheStanding → Location
 standing_seen s = record { function = s.function; label = s.label; rows = s.rows; instance = s.instance }
 
-abbrev pub next_seen : TheNext → Next
-next_seen (Row r) = row (standing_seen r.standing) (instruction_in r.image r.at)
+abbrev pub next_seen : TheNext → NextView
+next_seen (Row r) = at_row (standing_seen r.standing) (instruction_in r.image r.at)
 next_seen (Entry function) = entry function
-next_seen Nothing = none
+next_seen Nothing = nowhere
 
 abbrev pub frame_seen : TheFrameView → FrameView
 frame_seen f = record { back = option_map standing_seen f.back; y = f.y.items }

@@ -15,7 +15,7 @@ ghost use Rattle.beam_debug.specs.Installing.{AreSlices, IsQuietSlice};
 ghost use Rattle.beam_debug.specs.Loud.{DebugLoudly};
 ghost use Rattle.beam_debug.specs.Marks.{debugged};
 ghost use Rattle.beam_debug.specs.Room.{HasRoom, RoomFor};
-ghost use Rattle.beam_machine.specs.DebugRun.{DebugAnswers, DebugLacksMemory, debug_cuts, debug_told};
+ghost use Rattle.beam_machine.specs.DebugRun.{DebugAnswers, DebugLacksMemory, effective_debug_events, effective_debug_answers};
 
 use crate::commands;
 use crate::inspect::view;
@@ -336,9 +336,9 @@ impl Debugger {
         &mut self,
         events: &[DebugEvent<Image>],
     ) -> Result<Vec<Result<Outcome, Refused>>, Refused>
-        ensures run { IfOk result (λ answers. debug_run self.old.state (debug_cuts events.now (map answer_of answers.items))
-            ≡ record { answers = debug_told (map answer_of answers.items); state = self.new.state }) }
-        ensures node { IfOk result (λ answers. node_alone self.old.state (debug_cuts events.now (map answer_of answers.items)) ≡ self.new.state.node) }
+        ensures run { IfOk result (λ answers. debug_run self.old.state (effective_debug_events events.now (map answer_of answers.items))
+            ≡ record { answers = effective_debug_answers (map answer_of answers.items); state = self.new.state }) }
+        ensures node { IfOk result (λ answers. node_alone self.old.state (effective_debug_events events.now (map answer_of answers.items)) ≡ self.new.state.node) }
         ensures each { IfOk result (λ answers. length answers.items ≡ length events.now) }
         ensures loud { IfOk result (λ answers. Each DebugLoudly self.old.state events.now (map answer_of answers.items)) }
         ensures memory { IfOk result (λ answers. Each LacksMemory self.old.state events.now (map answer_of answers.items)) }

@@ -1,7 +1,7 @@
 //! Views of a process.
 ghost use Rattle.std.specs.Prelude.{◌≡◌, ◌++◌, map, option_map, IfOk};
 ghost use Rattle.beam_machine.specs.Code.{listing_of};
-ghost use Rattle.beam_machine.specs.View.{frame_view, next_of, slots_of, standing, view_of};
+ghost use Rattle.beam_machine.specs.View.{frame_view, next_of, slots_of, location, view_of};
 ghost use Rattle.beam_debug.specs.Seen.{frame_seen, live_of, live_seen, next_seen, seen, standing_seen};
 
 use crate::standing::standing;
@@ -58,7 +58,7 @@ fn next(table: &CodeTable, goes: &Goes) -> Result<Next, AllocError>
 
 /// Where a frame returns.
 fn back(table: &CodeTable, place: Option<Place>) -> Result<Option<Standing>, AllocError>
-    ensures { IfOk result (λ s. option_map standing_seen s ≡ option_map (standing table.now) place) }
+    ensures { IfOk result (λ s. option_map standing_seen s ≡ option_map (location table.now) place) }
 {
     match place {
         Some(place) => Ok(Some(standing(table, place)?)),

@@ -3,7 +3,7 @@ ghost use Rattle.std.specs.Prelude.{◌≡◌, ◌<◌, ◌≤◌, filter, OnOk,
 ghost use Rattle.std.specs.Option.{option_copied};
 ghost use Rattle.beam_machine.specs.Change.{is_live};
 ghost use Rattle.beam_machine.specs.State.{live_process};
-ghost use Rattle.beam_machine.specs.Debug.{is_live_process, passes_on, settled};
+ghost use Rattle.beam_machine.specs.Debug.{is_live_process, passes_on, pruned};
 ghost use Rattle.beam_debug.specs.Debugger.{room_of};
 ghost use Rattle.beam_debug.specs.Marks.{debugged};
 
@@ -63,7 +63,7 @@ fn settle_pids(core: &Core, pids: &mut Vec<u32>)
 
 /// Takes out the places and processes that are gone.
 pub(crate) fn settle(core: &Core, marks: &mut Marks)
-    ensures marks { debugged core.now marks.new ≡ settled (debugged core.now marks.old) }
+    ensures marks { debugged core.now marks.new ≡ pruned (debugged core.now marks.old) }
     ensures room { room_of marks.new ≡ room_of marks.old }
 {
     settle_spots(core, &mut marks.spots);

@@ -3,7 +3,7 @@ ghost use Rattle.std.specs.Prelude.{◌≡◌, ◌++◌, OnOk, OnErr, map, optio
 ghost use Rattle.std.specs.Fmt.{decimal};
 ghost use Rattle.beam_model.specs.ListingText.{instruction_text};
 ghost use Rattle.beam_model.specs.Text.{atom_text, text_of};
-ghost use Rattle.beam_machine.specs.View.{back_text, counts_text, frames_text, function_text, function_text_if, instruction_in, live_text, next_text, slot_text, standing_text, status_text, view_text, x_text, xs_text, ys_text};
+ghost use Rattle.beam_machine.specs.View.{back_text, counts_text, frames_text, function_text, function_text_if, instruction_in, live_text, next_text, slot_text, location_text, status_text, view_text, x_text, xs_text, ys_text};
 ghost use Rattle.beam_debug.specs.Seen.{frame_seen, frame_text, live_seen, next_seen, seen, standing_seen, y_text};
 
 use crate::view::{FrameView, LiveView, Next, Row, Standing, View};
@@ -72,7 +72,7 @@ fn print_function_if(function: &Option<Import>, out: &mut Vec<u8>) -> Result<(),
 }
 
 fn print_standing(standing: &Standing, out: &mut Vec<u8>) -> Result<(), AllocError>
-    ensures { OnOk result (out.new.items ≡ out.old.items ++ standing_text (standing_seen standing.now)) }
+    ensures { OnOk result (out.new.items ≡ out.old.items ++ location_text (standing_seen standing.now)) }
 {
     print_function_if(&standing.function, out)?;
     out.extend_from_slice(b" label ")?;

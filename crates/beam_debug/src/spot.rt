@@ -1,9 +1,9 @@
 //! The row that a spot names.
 ghost use Rattle.std.specs.Prelude.{◌≡◌, option_map, option_and_then};
 ghost use Rattle.beam_model.specs.Fetch.{instruction_at};
-ghost use Rattle.beam_model.specs.Listing.{is_number, label_of, row_of_label};
+ghost use Rattle.beam_model.specs.Listing.{is_this_number, label_of, row_of_label};
 ghost use Rattle.beam_machine.specs.Code.{listing_of, versions_of};
-ghost use Rattle.beam_machine.specs.Debug.{rows_after, row_in, version_of, place_named};
+ghost use Rattle.beam_machine.specs.Debug.{rows_after, row_in, instance_of_version, place_named};
 
 use beam_codesrv::CodeTable;
 use beam_image::Image;
@@ -11,7 +11,7 @@ use beam_machine::debug::{Spot, Version};
 use beam_model::place::Place;
 
 fn is_number(label: u32, found: Option<u32>) -> bool
-    ensures { result ≡ is_number label found }
+    ensures { result ≡ is_this_number label found }
 {
     match found {
         Some(number) => number == label,
@@ -21,7 +21,7 @@ fn is_number(label: u32, found: Option<u32>) -> bool
 
 /// Whether the instruction at a position is that label.
 fn is_label_at(image: &Image, at: usize, label: u32) -> bool
-    ensures { result ≡ is_number label (label_of (instruction_at image.now at)) }
+    ensures { result ≡ is_this_number label (label_of (instruction_at image.now at)) }
 {
     is_number(label, image.fetch(Place::new(0, at)).label())
 }
@@ -67,7 +67,7 @@ fn row_in(image: &Image, number: u32, label: u32, rows: u32) -> Option<Place>
 
 /// The number of the instance in which a spot lies.
 fn number_of(table: &CodeTable, spot: &Spot) -> Option<u32>
-    ensures { result ≡ option_map (λ i. i.number) (version_of spot.now.version (versions_of table.now spot.now.«module»)) }
+    ensures { result ≡ option_map (λ i. i.number) (instance_of_version spot.now.version (versions_of table.now spot.now.«module»)) }
 {
     match spot.version {
         Version::Current => table.current(&spot.module),

@@ -3,7 +3,7 @@ ghost use Rattle.std.specs.Prelude.{◌≡◌, ◌+◌, slice_get, take, option_
 ghost use Rattle.std.specs.Option.{option_copied};
 ghost use Rattle.beam_model.specs.Listing.{is_row_by};
 ghost use Rattle.beam_model.specs.Loadable.{atom_in, number_in};
-ghost use Rattle.beam_machine.specs.View.{function_from, function_of, last_function, passed, standing, standing_in};
+ghost use Rattle.beam_machine.specs.View.{function_from, function_of, last_function, last_label, location, location_in};
 ghost use Rattle.beam_debug.specs.Passing.{IsOneRow, passing_at};
 ghost use Rattle.beam_debug.specs.Seen.{standing_seen};
 
@@ -145,7 +145,7 @@ fn passing(image: &Image, at: usize) -> Passing
 
 /// The last label before a position, or 0, and how many rows are between the two, in time linear in that number.
 fn passed(image: &Image, at: usize) -> (u32, usize)
-    ensures { record { label = result.0; rows = result.1 } ≡ passed (record { label = 0; rows = 0 }) (take at image.now.instructions) }
+    ensures { record { label = result.0; rows = result.1 } ≡ last_label (record { label = 0; rows = 0 }) (take at image.now.instructions) }
 {
     let mut rows = 0;
     let mut left = at;
@@ -161,7 +161,7 @@ fn passed(image: &Image, at: usize) -> (u32, usize)
 
 /// Where a row of an image stands.
 fn standing_in(image: &Image, place: Place) -> Result<Standing, AllocError>
-    ensures { IfOk result (λ s. standing_seen s ≡ standing_in place image.now.instructions) }
+    ensures { IfOk result (λ s. standing_seen s ≡ location_in place image.now.instructions) }
 {
     let (label, rows) = passed(image, place.at());
     Ok(Standing {
@@ -174,7 +174,7 @@ fn standing_in(image: &Image, place: Place) -> Result<Standing, AllocError>
 
 /// Where a row stands, in time linear in its function.
 pub(crate) fn standing(table: &CodeTable, place: Place) -> Result<Standing, AllocError>
-    ensures { IfOk result (λ s. standing_seen s ≡ standing table.now place) }
+    ensures { IfOk result (λ s. standing_seen s ≡ location table.now place) }
 {
     match table.image_of(place.instance()) {
         Some(image) => standing_in(image, place),

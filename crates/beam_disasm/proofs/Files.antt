@@ -3,7 +3,7 @@ use Rattle.std.proofs.Common.{◌≡◌, ℕ, List, Option, Some, None, Result, 
 use Rattle.std.specs.Prelude.{slice_get, MatchOption}
 use Rattle.beam_model.specs.Listing.{Listing}
 use Rattle.beam_model.specs.Form.{Form, form_at}
-use Rattle.beam_model.specs.Tables.{Tables, tables_at, wanted, atom_of}
+use Rattle.beam_model.specs.Tables.{Tables, tables_at, required_chunk, atom_of_index}
 use Rattle.beam_model.specs.CodeChunk.{CodeParts, code_of}
 use Rattle.beam_model.specs.File.{FileFault, Parts, form_fault, table_fault, code_fault, in_layer, ◌>>=◌, parts_of_form, listing_of_parts, listing_of_form, listing_of_file}
 use Rattle.beam_model.specs.TablesForm.{AreTables}
@@ -32,15 +32,15 @@ ok_is x y e = cc
 parts_told : (form : Form) (p : Parts) → parts_of_form form ≡ Ok p → AreTables form p.tables × (form.code ≡ Some p.code)
 unfolding parts_of_form
 parts_told form p e =
-    let t = bind_ok (in_layer table_fault (tables_at form)) (λ (tables : Tables). in_layer table_fault (wanted form.code) >>= λ code. done (record { tables = tables; code = code })) p e in
-    let c = bind_ok (in_layer table_fault (wanted form.code)) (λ (code : List ℕ). done (record { tables = t.0; code = code })) p t.2 in
+    let t = bind_ok (in_layer table_fault (tables_at form)) (λ (tables : Tables). in_layer table_fault (required_chunk form.code) >>= λ code. done (record { tables = tables; code = code })) p e in
+    let c = bind_ok (in_layer table_fault (required_chunk form.code)) (λ (code : List ℕ). done (record { tables = t.0; code = code })) p t.2 in
     let are = (tables_told form t.0 (layer_is table_fault (tables_at form) t.0 t.1)).0 in
     let made : Parts = record { tables = t.0; code = c.0 } in
-    let there : form.code ≡ Some c.0 = wanted_is form.code c.0 (layer_is table_fault (wanted form.code) c.0 c.1) in
+    let there : form.code ≡ Some c.0 = wanted_is form.code c.0 (layer_is table_fault (required_chunk form.code) c.0 c.1) in
     subst (λ (q : Parts). AreTables form q.tables × (form.code ≡ Some q.code)) (ok_is made p c.2) (are, there)
 
 parts_read : (form : Form) (tables : Tables) (code : List ℕ) → AreTables form tables → form.code ≡ Some code → parts_of_form form ≡ Ok (record { tables = tables; code = code })
-unfolding parts_of_form wanted
+unfolding parts_of_form required_chunk
 parts_read form tables code are e =
     let read = tables_read form tables code are e in
     rw (read, e) refl
@@ -52,7 +52,7 @@ record Spelled (p : Parts) (l : Listing) : Type 0 where
   exports : l.exports ≡ p.tables.exports
   is_code : IsCode p.tables (code_parts l) p.code
 
-first_atom : (atoms : List (List ℕ)) (name : List ℕ) → atom_of atoms 1 ≡ Ok name → slice_get atoms 0 ≡ Some name
+first_atom : (atoms : List (List ℕ)) (name : List ℕ) → atom_of_index atoms 1 ≡ Ok name → slice_get atoms 0 ≡ Some name
 first_atom atoms name e =
     let t = atom_of_told atoms 1 name e in
     let place : 0 ≡ t.0 = omega (arith, t.1) in
@@ -61,11 +61,11 @@ first_atom atoms name e =
 listing_told : (p : Parts) (l : Listing) → listing_of_parts p ≡ Ok l → Spelled p l
 unfolding listing_of_parts
 listing_told p l e =
-    let n = bind_ok (in_layer table_fault (atom_of p.tables.atoms 1)) (λ (name : List ℕ). in_layer code_fault (code_of p.tables.atoms p.tables.imports p.tables.literals p.code) >>= λ code. done (record { name = name; exports = p.tables.exports; label_count = code.label_count; function_count = code.function_count; instructions = code.instructions })) l e in
+    let n = bind_ok (in_layer table_fault (atom_of_index p.tables.atoms 1)) (λ (name : List ℕ). in_layer code_fault (code_of p.tables.atoms p.tables.imports p.tables.literals p.code) >>= λ code. done (record { name = name; exports = p.tables.exports; label_count = code.label_count; function_count = code.function_count; instructions = code.instructions })) l e in
     let c = bind_ok (in_layer code_fault (code_of p.tables.atoms p.tables.imports p.tables.literals p.code)) (λ (code : CodeParts). done (record { name = n.0; exports = p.tables.exports; label_count = code.label_count; function_count = code.function_count; instructions = code.instructions })) l n.2 in
     let made : Listing = record { name = n.0; exports = p.tables.exports; label_count = c.0.label_count; function_count = c.0.function_count; instructions = c.0.instructions } in
     subst (λ (m : Listing). Spelled p m) (ok_is made l c.2) (record {
-      named = first_atom p.tables.atoms n.0 (layer_is table_fault (atom_of p.tables.atoms 1) n.0 n.1);
+      named = first_atom p.tables.atoms n.0 (layer_is table_fault (atom_of_index p.tables.atoms 1) n.0 n.1);
       exports = refl;
       is_code = code_told p.tables p.code c.0 (layer_is code_fault (code_of p.tables.atoms p.tables.imports p.tables.literals p.code) c.0 c.1);
     })

@@ -16,7 +16,7 @@ use beam_tables::{Tables, TablesError, read_tables};
 use std::alloc::Global;
 
 /// The tables of a form, and the content of its code chunk.
-#[tactic(auto, unfolding(beam_model::specs::File::parts_of_form, beam_model::specs::Tables::wanted))]
+#[tactic(auto, unfolding(beam_model::specs::File::parts_of_form, beam_model::specs::Tables::required_chunk))]
 fn parts<'a>(alloc: Global, chunks: Chunks<'a>) -> Result<(Tables, &'a [u8]), FileError>
     ensures { Gives (λ p. record { tables = p.0; code = p.1.now }) result (parts_of_form (form_of chunks.entry)) }
 {

@@ -15,8 +15,8 @@ use Rattle.std.proofs.lemmas.Str.{encode_ascii, is_utf8-from_IsUtf8}
 use Rattle.std.proofs.Math.Utf8.{low_scalar}
 use Rattle.std.specs.Str.{chars}
 use Rattle.beam_term.specs.Atom.{IsAtomText}
-use Rattle.beam_model.specs.Text.{is_lower, is_name, is_reserved, is_bare, escaped, atom_text}
-use Rattle.beam_model.specs.TextReading.{Reading, fault_at, with_front, after_blanks, hexadecimal_after, hexadecimal_at, code_point_at, escape_at, quoted_within, name_len, is_atom_text, atom_of, bare_atom_at, atom_at}
+use Rattle.beam_model.specs.Text.{is_lower, is_name, is_reserved, is_unquoted, escaped, atom_text}
+use Rattle.beam_model.specs.TextReading.{Reading, fault_at, with_front, after_blanks, hexadecimal_after, hexadecimal_at, code_point_at, escape_at, quoted_within, name_len, is_atom_text, checked_atom, unquoted_atom_at, atom_at}
 use Rattle.beam_erltext.proofs.Texts.{differ}
 use Rattle.beam_erltext.proofs.AgainIntegers.{IsApart, le_true, lt_true}
 
@@ -146,7 +146,7 @@ pub record IsBare (first : ℕ) (others : List ℕ) : Type 0 where
   pub high : first ≤ 122
   pub names : list_all is_name (first ∷ others) ≡ true
 
-pub bare_is : (c : ℕ) (cs : List ℕ) → is_bare (c ∷ cs) ≡ true → IsBare c cs
+pub bare_is : (c : ℕ) (cs : List ℕ) → is_unquoted (c ∷ cs) ≡ true → IsBare c cs
 bare_is c cs e =
     let both = and_true (is_lower c && not (is_reserved (c ∷ cs))) (list_all is_name cs) e in
     let lower = (and_true (is_lower c) (not (is_reserved (c ∷ cs))) both.0).0 in
@@ -154,20 +154,20 @@ bare_is c cs e =
     record { low = grind (arith, nat_tests, ends.0); high = grind (arith, nat_tests, ends.1); names = rw (lower_name c lower, both.1) refl }
 
 abbrev split_by : List ℕ → List ℕ → List ℕ → Reading (List ℕ)
-split_by text name rest = cond (is_bare name) (atom_of text name rest) (fault_at text)
+split_by text name rest = cond (is_unquoted name) (checked_atom text name rest) (fault_at text)
 
-split_again : (text name rest : List ℕ) → is_bare name ≡ true → IsAtomText name → split_by text name rest ≡ Ok (name, after_blanks rest)
+split_again : (text name rest : List ℕ) → is_unquoted name ≡ true → IsAtomText name → split_by text name rest ≡ Ok (name, after_blanks rest)
 split_again text name rest bare lawful = rw (bare, atom_text_is name lawful) refl
 
-name_again : (name rest : List ℕ) → list_all is_name name ≡ true → is_bare name ≡ true → IsAtomText name → IsApart rest → bare_atom_at (name ++ rest) ≡ Ok (name, after_blanks rest)
+name_again : (name rest : List ℕ) → list_all is_name name ≡ true → is_unquoted name ≡ true → IsAtomText name → IsApart rest → unquoted_atom_at (name ++ rest) ≡ Ok (name, after_blanks rest)
 name_again name rest names bare lawful apart =
     let len : name_len (name ++ rest) ≡ length name = name_len_again name rest names apart in
     let front : take (name_len (name ++ rest)) (name ++ rest) ≡ name = ap (λ (n : ℕ). take n (name ++ rest)) len ∙ take-append_seam name rest in
     let behind : drop (name_len (name ++ rest)) (name ++ rest) ≡ rest = ap (λ (n : ℕ). drop n (name ++ rest)) len ∙ drop-append_seam name rest in
-    let split : bare_atom_at (name ++ rest) ≡ split_by (name ++ rest) name rest = λ i. split_by (name ++ rest) (front i) (behind i) in
+    let split : unquoted_atom_at (name ++ rest) ≡ split_by (name ++ rest) name rest = λ i. split_by (name ++ rest) (front i) (behind i) in
     split ∙ split_again (name ++ rest) name rest bare lawful
 
-bare_again : (c : ℕ) (cs rest : List ℕ) → is_bare (c ∷ cs) ≡ true → IsAtomText (c ∷ cs) → IsApart rest → atom_at ((c ∷ cs) ++ rest) ≡ Ok (c ∷ cs, after_blanks rest)
+bare_again : (c : ℕ) (cs rest : List ℕ) → is_unquoted (c ∷ cs) ≡ true → IsAtomText (c ∷ cs) → IsApart rest → atom_at ((c ∷ cs) ++ rest) ≡ Ok (c ∷ cs, after_blanks rest)
 unfolding atom_at
 bare_again c cs rest bare lawful apart =
     let b = bare_is c cs bare in
@@ -181,9 +181,9 @@ quoted_name_again name rest lawful =
     rw (quoted_again name (length (flat_map escaped name ++ 39 ∷ rest)) rest long, atom_text_is name lawful) refl
 
 pub atom_again : (name rest : List ℕ) → IsAtomText name → IsApart rest → atom_at (atom_text name ++ rest) ≡ Ok (name, after_blanks rest)
-atom_again name rest lawful apart = by name (is_bare name) refl lawful
+atom_again name rest lawful apart = by name (is_unquoted name) refl lawful
   where
-    by : (name : List ℕ) (bare : Bool) → is_bare name ≡ bare → IsAtomText name → atom_at (cond bare name (39 ∷ (flat_map escaped name ++ 39 ∷ [])) ++ rest) ≡ Ok (name, after_blanks rest)
+    by : (name : List ℕ) (bare : Bool) → is_unquoted name ≡ bare → IsAtomText name → atom_at (cond bare name (39 ∷ (flat_map escaped name ++ 39 ∷ [])) ++ rest) ≡ Ok (name, after_blanks rest)
     by [] true e lawful = absurd cc
     by (c ∷ cs) true e lawful = bare_again c cs rest e lawful apart
     by name false e lawful = ap (λ (t : List ℕ). atom_at (39 ∷ t)) (append_assoc (flat_map escaped name) (39 ∷ []) rest) ∙ quoted_name_again name rest lawful

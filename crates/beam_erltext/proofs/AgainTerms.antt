@@ -9,7 +9,7 @@ use Rattle.std.proofs.lemmas.List.{length-append, append-nil}
 use Rattle.beam_term.specs.Atom.{IsAtomText}
 use Rattle.beam_term.specs.Elements.{terms_of-elements_of}
 use Rattle.beam_term.specs.TermValue.{TermValue, Terms, int_term, atom_term, reference_term, pid_term, nil_term, pair_term, tuple_term, no_terms, more_terms, elements_of, tuple_of, count_of, depth_of, items_depth, IsSmall, IsInRange, AreInRange, IsTerm}
-use Rattle.beam_model.specs.Text.{is_digit, is_bare, escaped, atom_text, text_of, tail_text, items_text, HasText, AllHaveText}
+use Rattle.beam_model.specs.Text.{is_digit, is_unquoted, escaped, atom_text, text_of, tail_text, items_text, HasText, AllHaveText}
 use Rattle.beam_model.specs.TextReading.{Reading, ◌>>=◌, with_front, is_blank, after_blanks, integer_at, atom_at, tail_by, pairs_by, items_after, items_by, tuple_by, list_by, term_by, term_at, pairs_at, tuple_at, whole, read_text, at_line, term_of_text}
 use Rattle.beam_erltext.proofs.Texts.{differ}
 use Rattle.beam_erltext.proofs.Rooms.{term_at_is}
@@ -60,9 +60,9 @@ integer_begins (pos n) small =
 integer_begins (negsuc n) small = record { first = 45; others = decimal (suc n); parts = refl; kind = inl refl }
 
 pub atom_begins : (name : List ℕ) → BeginsWith IsAtomByte (atom_text name)
-atom_begins name = by name (is_bare name) refl
+atom_begins name = by name (is_unquoted name) refl
   where
-    by : (name : List ℕ) (bare : Bool) → is_bare name ≡ bare → BeginsWith IsAtomByte (cond bare name ((39 ∷ []) ++ flat_map escaped name ++ (39 ∷ [])))
+    by : (name : List ℕ) (bare : Bool) → is_unquoted name ≡ bare → BeginsWith IsAtomByte (cond bare name ((39 ∷ []) ++ flat_map escaped name ++ (39 ∷ [])))
     by [] true e = absurd cc
     by (c ∷ cs) true e = record { first = c; others = cs; parts = refl; kind = inr ((bare_is c cs e).low, (bare_is c cs e).high) }
     by name false e = record { first = 39; others = flat_map escaped name ++ (39 ∷ []); parts = refl; kind = inl refl }

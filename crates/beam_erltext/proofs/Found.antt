@@ -6,9 +6,9 @@ use Rattle.std.proofs.lemmas.Bool.{eqb-true}
 use Rattle.std.proofs.lemmas.Bool.Decides.{nat_tests}
 use Rattle.beam_term.specs.Elements.{terms_of-elements_of}
 use Rattle.beam_term.specs.TermValue.{TermValue, Terms, int_term, atom_term, reference_term, pid_term, nil_term, pair_term, tuple_term, no_terms, more_terms, elements_of, tuple_of, count_of, depth_of, items_depth, IsInRange, AreInRange, IsTerm}
-use Rattle.beam_model.specs.Text.{is_digit, is_name, is_bare}
-use Rattle.beam_model.specs.TextReading.{Reading, ◌>>=◌, fault_at, after_blanks, digits_after, digits_at, integer_at, quoted_at, name_len, atom_of, bare_atom_at, atom_at, string_at, list_of_characters, string_within, closed_by, tail_by, pairs_by, items_after, items_by, tuple_by, list_by, term_by, term_at, pairs_at, tuple_at, whole, read_text, at_line, term_of_text}
-use Rattle.beam_model.specs.TextGrammar.{Mark, Then, IsString, Barred, IsText, IsTail, AreFurther, Spells}
+use Rattle.beam_model.specs.Text.{is_digit, is_name, is_unquoted}
+use Rattle.beam_model.specs.TextReading.{Reading, ◌>>=◌, fault_at, after_blanks, digits_after, digits_at, integer_at, quoted_at, name_len, checked_atom, unquoted_atom_at, atom_at, string_at, list_of_characters, string_within, closed_by, tail_by, pairs_by, items_after, items_by, tuple_by, list_by, term_by, term_at, pairs_at, tuple_at, whole, read_text, at_line, term_of_text}
+use Rattle.beam_model.specs.TextGrammar.{Mark, Then, IsString, Barred, IsText, IsTail, AreFurther, IsTextOf}
 use Rattle.beam_erltext.proofs.Texts.{differ}
 use Rattle.beam_erltext.proofs.Rooms.{term_at_is}
 use Rattle.beam_erltext.proofs.AgainIntegers.{le_true, lt_true}
@@ -38,7 +38,7 @@ abbrev lost_name : List ℕ → Reading (List ℕ)
 lost_name text = fault_at text
 
 abbrev quoted_name : ℕ → List ℕ → Reading (List ℕ)
-quoted_name c cs = quoted_at 39 cs >>= λ n. atom_of (c ∷ cs) n.0 n.1
+quoted_name c cs = quoted_at 39 cs >>= λ n. checked_atom (c ∷ cs) n.0 n.1
 
 digit_byte : (c : ℕ) → is_digit c ≡ true → IsIntegerByte c
 digit_byte c e =
@@ -62,27 +62,27 @@ integer_byte c cs z rest e = by (chosen (c == 45) (negative cs) (digits_at (c �
         let a = bind_ok (digits_at (c ∷ cs)) positive (z, rest) p.1 in
         digit a.0 (chosen (is_digit c) (digits_after 0 (c ∷ cs)) (lost_number (c ∷ cs)) (got_number a.0) a.1)
 
-bare_byte : (c : ℕ) (cs : List ℕ) → is_bare (take (name_len (c ∷ cs)) (c ∷ cs)) ≡ true → IsAtomByte c
+bare_byte : (c : ℕ) (cs : List ℕ) → is_unquoted (take (name_len (c ∷ cs)) (c ∷ cs)) ≡ true → IsAtomByte c
 bare_byte c cs e = by (is_name c) e
   where
-    by : (b : Bool) → is_bare (take (cond b (suc (name_len cs)) 0) (c ∷ cs)) ≡ true → IsAtomByte c
+    by : (b : Bool) → is_unquoted (take (cond b (suc (name_len cs)) 0) (c ∷ cs)) ≡ true → IsAtomByte c
     by true e = inr ((bare_is c (take (name_len cs) cs) e).low, (bare_is c (take (name_len cs) cs) e).high)
     by false e = absurd cc
 
 atom_byte : (c : ℕ) (cs name rest : List ℕ) → atom_at (c ∷ cs) ≡ Ok (name, rest) → IsAtomByte c
 unfolding atom_at
-atom_byte c cs name rest e = by (chosen (c == 39) (quoted_name c cs) (bare_atom_at (c ∷ cs)) (got_name name rest) e)
+atom_byte c cs name rest e = by (chosen (c == 39) (quoted_name c cs) (unquoted_atom_at (c ∷ cs)) (got_name name rest) e)
   where
     front : List ℕ
     front = take (name_len (c ∷ cs)) (c ∷ cs)
 
-    bare : ((is_bare front ≡ true) × (atom_of (c ∷ cs) front (drop (name_len (c ∷ cs)) (c ∷ cs)) ≡ got_name name rest)) ⊎ ((is_bare front ≡ false) × (lost_name (c ∷ cs) ≡ got_name name rest)) → IsAtomByte c
+    bare : ((is_unquoted front ≡ true) × (checked_atom (c ∷ cs) front (drop (name_len (c ∷ cs)) (c ∷ cs)) ≡ got_name name rest)) ⊎ ((is_unquoted front ≡ false) × (lost_name (c ∷ cs) ≡ got_name name rest)) → IsAtomByte c
     bare (inl p) = bare_byte c cs p.0
     bare (inr p) = absurd cc
 
-    by : (((c == 39) ≡ true) × ((quoted_name c cs) ≡ got_name name rest)) ⊎ (((c == 39) ≡ false) × (bare_atom_at (c ∷ cs) ≡ got_name name rest)) → IsAtomByte c
+    by : (((c == 39) ≡ true) × ((quoted_name c cs) ≡ got_name name rest)) ⊎ (((c == 39) ≡ false) × (unquoted_atom_at (c ∷ cs) ≡ got_name name rest)) → IsAtomByte c
     by (inl p) = inl (eqb-true c 39 p.0)
-    by (inr p) = bare (chosen (is_bare front) (atom_of (c ∷ cs) front (drop (name_len (c ∷ cs)) (c ∷ cs))) (lost_name (c ∷ cs)) (got_name name rest) p.1)
+    by (inr p) = bare (chosen (is_unquoted front) (checked_atom (c ∷ cs) front (drop (name_len (c ∷ cs)) (c ∷ cs))) (lost_name (c ∷ cs)) (got_name name rest) p.1)
 
 -- ---- integers, atoms, strings
 
@@ -280,12 +280,12 @@ mutual
   all_found no_terms d r s n text rest h p = ends_found d n text rest p
   all_found (more_terms x xs) d r s n text rest h p = further_found x xs d (term_found x d r.0 (omega arith)) (all_found xs d r.1 (omega arith)) n text rest h p
 
-pub text_found : (text : List ℕ) (t : TermValue) → IsTerm t → Spells text t → term_of_text text ≡ Ok t
+pub text_found : (text : List ℕ) (t : TermValue) → IsTerm t → IsTextOf text t → term_of_text text ≡ Ok t
 unfolding read_text
 text_found text t lawful p =
     ap (λ (r : Reading TermValue). at_line text (r >>= λ u. whole u.0 u.1)) (term_found t 4096 lawful.in_range lawful.shallow (after_blanks text) [] p)
 
-pub one_value : (text : List ℕ) (t u : TermValue) → IsTerm t → IsTerm u → Spells text t → Spells text u → t ≡ u
+pub one_value : (text : List ℕ) (t u : TermValue) → IsTerm t → IsTerm u → IsTextOf text t → IsTextOf text u → t ≡ u
 one_value text t u lawful lawful' p q =
     let first : term_of_text text ≡ Ok t = text_found text t lawful p in
     let second : term_of_text text ≡ Ok u = text_found text u lawful' q in

@@ -6,7 +6,7 @@ use Rattle.std.proofs.lemmas.Bool.{eqb-true}
 use Rattle.beam_term.specs.TermValue.{TermValue, int_term, atom_term, reference_term, pid_term, nil_term, pair_term, tuple_term, terms_of, tuple_of}
 use Rattle.beam_model.specs.Text.{is_digit}
 use Rattle.beam_model.specs.TextReading.{Reading, ◌>>=◌, fault_at, with_front, after_blanks, integer_at, atom_at, string_at, list_of_characters, string_within, closed_by, tail_by, pairs_by, items_after, items_by, tuple_by, list_by, term_by, term_at, pairs_at, whole, read_text, at_line, term_of_text}
-use Rattle.beam_model.specs.TextGrammar.{Front, Mark, Then, IsString, Barred, IsText, IsTail, AreItems, AreFurther, Spells}
+use Rattle.beam_model.specs.TextGrammar.{Front, Mark, Then, IsString, Barred, IsText, IsTail, AreItems, AreFurther, IsTextOf}
 
 pub bind_ok : {A B : Type 0} (r : Result A ℕ) (f : A → Result B ℕ) (y : B) → (r >>= f) ≡ Ok y → (x : A) × (r ≡ Ok x) × (f x ≡ Ok y)
 bind_ok (Ok x) f y e = (x, refl, e)
@@ -98,7 +98,7 @@ from_string (c ∷ cs) text rest p = inr p
 
 -- a reader whose texts spell the terms that it reads
 abbrev Reads : (List ℕ → Reading TermValue) → (TermValue → Front) → Type 0
-Reads read Spells = (text : List ℕ) (t : TermValue) (rest : List ℕ) → read text ≡ got t rest → Spells t text rest
+Reads read IsTextOf = (text : List ℕ) (t : TermValue) (rest : List ℕ) → read text ≡ got t rest → IsTextOf t text rest
 
 closed_spelled : (mark : ℕ) (x : TermValue) (text : List ℕ) (t : TermValue) (rest : List ℕ) → closed_by mark x text ≡ got t rest → (x ≡ t) × Mark mark text rest
 closed_spelled mark x [] t rest e = not_lost [] t rest e
@@ -300,7 +300,7 @@ whole_is : (u : TermValue) (text : List ℕ) (t : TermValue) → whole u text �
 whole_is u [] t e = (ok_is u t e, refl)
 whole_is u (c ∷ cs) t e = absurd cc
 
-pub text_spelled : (text : List ℕ) (t : TermValue) → term_of_text text ≡ Ok t → Spells text t
+pub text_spelled : (text : List ℕ) (t : TermValue) → term_of_text text ≡ Ok t → IsTextOf text t
 unfolding read_text
 text_spelled text t e =
     let a = bind_ok (term_at 4096 (after_blanks text)) (λ u. whole u.0 u.1) t (line_kept text (read_text text) t e) in

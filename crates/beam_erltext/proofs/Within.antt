@@ -6,8 +6,8 @@ use Rattle.std.specs.Str.{chars, is_utf8}
 use Rattle.std.proofs.lemmas.List.{length-drop}
 use lib.Utf8.{scalar}
 use Rattle.beam_term.specs.TermValue.{TermValue, int_term, atom_term, nil_term, pair_term, tuple_of}
-use Rattle.beam_model.specs.Text.{is_digit, is_bare}
-use Rattle.beam_model.specs.TextReading.{Reading, ◌>>=◌, fault_at, with_front, is_blank, after_blanks, digits_after, digits_at, integer_at, hexadecimal_after, hexadecimal_at, code_point_at, escape_of, or_fault, escape_at, quoted_within, quoted_at, name_len, is_atom_text, atom_of, atom_at, string_at, list_of_characters, string_within, closed_by, tail_by, pairs_by, items_after, items_by, tuple_by, list_by, term_by, term_at, pairs_at}
+use Rattle.beam_model.specs.Text.{is_digit, is_unquoted}
+use Rattle.beam_model.specs.TextReading.{Reading, ◌>>=◌, fault_at, with_front, is_blank, after_blanks, digits_after, digits_at, integer_at, hexadecimal_after, hexadecimal_at, code_point_at, escape_of, or_fault, escape_at, quoted_within, quoted_at, name_len, is_atom_text, checked_atom, atom_at, string_at, list_of_characters, string_within, closed_by, tail_by, pairs_by, items_after, items_by, tuple_by, list_by, term_by, term_at, pairs_at}
 
 -- at most this many bytes are left after a reading
 abbrev pub IsWithin : {A : Type 0} → Reading A → ℕ → Type 0
@@ -104,7 +104,7 @@ quoted_is_within (suc n) quote (c ∷ cs) m h =
     (λ e k. within_front (encode_utf8 e.0) (quoted_within n quote e.1) m (quoted_is_within n quote e.1 m k)))
     (within_front (c ∷ []) (quoted_within n quote cs) m (quoted_is_within n quote cs m (omega arith))))
 
-atom_of_within : (text name rest : List ℕ) (n : ℕ) → length rest ≤ n → IsWithin (atom_of text name rest) n
+atom_of_within : (text name rest : List ℕ) (n : ℕ) → length rest ≤ n → IsWithin (checked_atom text name rest) n
 atom_of_within text name rest n h = within_if (is_atom_text name) (Ok (name, after_blanks rest)) (fault_at text) n (omega (arith, blanks_within rest)) tt
 
 atom_within : (text : List ℕ) → IsWithin (atom_at text) (length text)
@@ -113,8 +113,8 @@ atom_within [] = tt
 atom_within (c ∷ cs) =
     let text = c ∷ cs in
     within_if (c == 39) _ _ (suc (length cs))
-    (within_bind (quoted_at 39 cs) (λ name. atom_of (c ∷ cs) name.0 name.1) (suc (length cs)) (quoted_is_within (length cs) 39 cs (suc (length cs)) (omega arith)) (λ name h. atom_of_within (c ∷ cs) name.0 name.1 (suc (length cs)) h))
-    (within_if (is_bare (take (name_len text) text)) (atom_of text (take (name_len text) text) (drop (name_len text) text)) (fault_at text) (suc (length cs))
+    (within_bind (quoted_at 39 cs) (λ name. checked_atom (c ∷ cs) name.0 name.1) (suc (length cs)) (quoted_is_within (length cs) 39 cs (suc (length cs)) (omega arith)) (λ name h. atom_of_within (c ∷ cs) name.0 name.1 (suc (length cs)) h))
+    (within_if (is_unquoted (take (name_len text) text)) (checked_atom text (take (name_len text) text) (drop (name_len text) text)) (fault_at text) (suc (length cs))
     (atom_of_within text (take (name_len text) text) (drop (name_len text) text) (suc (length cs)) (omega (arith, length-drop (name_len text) text))) tt)
 
 string_is_within : (text : List ℕ) → IsWithin (string_at text) (length text)

@@ -6,7 +6,7 @@ ghost use Rattle.std.specs.Result.{IsOkUnless};
 ghost use Rattle.std.specs.Fmt.{digits, decimal, digit_glyph};
 ghost use Rattle.beam_term.specs.TermValue.{terms_of};
 ghost use Rattle.beam_term.specs.Order.{rank_of};
-ghost use Rattle.beam_model.specs.Text.{text_of, tail_text, items_text, pid_text, reference_text, atom_text, escaped, is_lower, is_digit, is_name, is_bare, is_reserved};
+ghost use Rattle.beam_model.specs.Text.{text_of, tail_text, items_text, pid_text, reference_text, atom_text, escaped, is_lower, is_digit, is_name, is_unquoted, is_reserved};
 
 use crate::error::TextError;
 use beam_term::{Term, TermView};
@@ -214,7 +214,7 @@ fn is_reserved_word(text: &[u8]) -> bool
 }
 
 pub fn is_bare_atom(name: &[u8]) -> bool
-    ensures { result ≡ is_bare name.now }
+    ensures { result ≡ is_unquoted name.now }
 {
     let Some((first, others)) = name.split_first() else {
         return false;

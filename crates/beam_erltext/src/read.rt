@@ -5,7 +5,7 @@ ghost use Rattle.std.specs.Str.{chars};
 ghost use Rattle.beam_term.specs.TermValue.{TermValue, IsTerm, depth_of, pair_term, tuple_of, list_before};
 ghost use Rattle.beam_model.specs.Text.{is_digit};
 ghost use Rattle.beam_model.specs.TextReading.{Reading, list_of_characters, closed_by, string_within, items_after, list_by, term_at, pairs_at, tuple_at, read_text, line_of, term_of_text};
-ghost use Rattle.beam_model.specs.TextGrammar.{Spells};
+ghost use Rattle.beam_model.specs.TextGrammar.{IsTextOf};
 ghost use Rattle.beam_erltext.specs.Gives.{Gives};
 ghost use Rattle.beam_erltext.specs.Puts.{Puts, BeginsWith, HasRoom, StopsAt, LeavesParts, IsBehind, Closes, Follows, tuple_elements_at};
 
@@ -493,8 +493,8 @@ pub fn line_at(text: &[u8], left: usize) -> usize
 /// limits of terms (Erlang Reference Manual, Data Types).
 pub fn read_erl(alloc: Global, text: &str) -> Result<Term, TextError>
     // The texts of terms, by the grammar.
-    ensures spelled { IfOk result (λ t. Spells text.now t) }
-    ensures found { (t : TermValue) → IsTerm t → Spells text.now t → MatchResult result (λ u. u ≡ t) (λ e. e ≡ TextError.NoMemory) }
+    ensures spelled { IfOk result (λ t. IsTextOf text.now t) }
+    ensures found { (t : TermValue) → IsTerm t → IsTextOf text.now t → MatchResult result (λ u. u ≡ t) (λ e. e ≡ TextError.NoMemory) }
 
     // The first fault from the left.
     ensures value { IfOk result (λ t. term_of_text text.now ≡ Ok t) }

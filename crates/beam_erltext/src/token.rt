@@ -6,7 +6,7 @@ ghost use Rattle.std.specs.Str.{is_utf8};
 ghost use Rattle.std.specs.String.{string_bytes};
 ghost use Rattle.beam_term.specs.TermValue.{IsSmall};
 ghost use Rattle.beam_model.specs.Text.{is_digit};
-ghost use Rattle.beam_model.specs.TextReading.{is_blank, after_blanks, digits_after, digits_at, integer_at, hexadecimal_after, hexadecimal_at, code_point_at, escape_of, escape_at, quoted_at, name_len, atom_of, bare_atom_at, atom_at, string_at};
+ghost use Rattle.beam_model.specs.TextReading.{is_blank, after_blanks, digits_after, digits_at, integer_at, hexadecimal_after, hexadecimal_at, code_point_at, escape_of, escape_at, quoted_at, name_len, checked_atom, unquoted_atom_at, atom_at, string_at};
 ghost use Rattle.beam_erltext.specs.Gives.{Gives};
 
 use crate::fault::Fault;
@@ -250,7 +250,7 @@ fn made_atom<'a>(
     name: &[u8],
     rest: &'a [u8],
 ) -> Result<(Atom, &'a [u8]), Fault>
-    ensures { Gives (λ x. (x.0, x.1.now)) result (atom_of text.now name.now rest.now) }
+    ensures { Gives (λ x. (x.0, x.1.now)) result (checked_atom text.now name.now rest.now) }
 {
     let Some(name) = checked_text(name) else {
         return Err(Fault::At(text.len()));
@@ -263,7 +263,7 @@ fn made_atom<'a>(
 }
 
 fn read_bare_atom(alloc: Global, text: &[u8]) -> Result<(Atom, &[u8]), Fault>
-    ensures { Gives (λ x. (x.0, x.1.now)) result (bare_atom_at text.now) }
+    ensures { Gives (λ x. (x.0, x.1.now)) result (unquoted_atom_at text.now) }
 {
     let (name, rest) = text.split_at(name_length(text));
     if !is_bare_atom(name) {

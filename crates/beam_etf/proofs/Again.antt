@@ -12,9 +12,9 @@ use Rattle.std.proofs.lemmas.List.{take_at, drop_at, length-append}
 use Rattle.beam_term.specs.Atom.{IsAtomText}
 use Rattle.beam_term.specs.TermValue.{TermValue, Terms, atom_term, reference_term, pid_term, tuple_term, elements_of, count_of, depth_of, items_depth, IsSmall}
 use Rattle.beam_term.specs.Elements.{terms_of-elements_of}
-use Rattle.beam_model.specs.External.{IsHalf, IsWord, little, IsSigned, plus_sign, minus_sign, SpellsAtom, small_atom_utf8_ext, atom_utf8_ext, AreWords, no_words, one_word, Spells, small_integer_ext, integer_ext, small_big_ext, nil_ext, utf8_atom, new_pid_ext, newer_reference_ext, small_tuple_ext, large_tuple_ext, string_ext, list_ext, empty_list_ext, SpellsAll, no_elements, one_element, SpellsList, only_tail, head_before, IsExternal}
+use Rattle.beam_model.specs.External.{IsHalf, IsWord, little, IsSigned, plus_sign, minus_sign, SpellsAtom, small_atom_utf8_ext, atom_utf8_ext, AreWords, no_words, one_word, SpellsTerm, small_integer_ext, integer_ext, small_big_ext, nil_ext, utf8_atom, new_pid_ext, newer_reference_ext, small_tuple_ext, large_tuple_ext, string_ext, list_ext, empty_list_ext, SpellsAll, no_elements, one_element, SpellsList, only_tail, head_before, IsExternal}
 use Rattle.beam_model.specs.ExternalForm.{form_of}
-use Rattle.beam_model.specs.ExternalReading.{bytes_at, number_at, byte_at, text_at, greatest, big_at, small_atom_at, long_atom_at, atom_of, atom_at, pid_at, words_at, reference_at, leaf_at, text_list, string_at, pair_at, items_at, tuple_at, form_at, empty_list, after_empty_lists, whole_at, read_at, below, external_at}
+use Rattle.beam_model.specs.ExternalReading.{bytes_at, big_endian_at, byte_at, text_at, greatest, big_at, small_atom_at, long_atom_at, atom_of_form, external_atom_at, pid_at, words_at, reference_at, leaf_at, text_list, external_string_at, pair_at, items_at, external_tuple_at, term_of_form, empty_list, after_empty_lists, whole_at, read_at, below, external_at}
 use Rattle.beam_etf.proofs.Empty.{skip_none}
 use Rattle.beam_etf.proofs.Rooms.{read_at-whole, list_at-read, as_tuple, tuple_at-items}
 
@@ -26,8 +26,8 @@ bytes_again n front rest e =
     let long : ltb (length (front ++ rest)) n ≡ false = le-ltb _ _ (omega (arith, length-append front rest)) in
     rw (long, take_at front rest n e, drop_at front rest n e) refl
 
-number_again : (w : Width) (field rest : List ℕ) (n : ℕ) → length field ≡ byte_len w → from_be_bytes w field ≡ n → number_at w (field ++ rest) ≡ Ok (n, rest)
-unfolding number_at
+number_again : (w : Width) (field rest : List ℕ) (n : ℕ) → length field ≡ byte_len w → from_be_bytes w field ≡ n → big_endian_at w (field ++ rest) ≡ Ok (n, rest)
+unfolding big_endian_at
 number_again w field rest n e v = rw (bytes_again (byte_len w) field rest e) (ap (λ (m : ℕ). Ok (m, rest)) v)
 
 text_again : (text rest : List ℕ) → IsAtomText text → text_at (length text) (text ++ rest) ≡ Ok (text, rest)
@@ -44,8 +44,8 @@ unfolding long_atom_at
 long_atom_again field text rest f h =
     rw (append_assoc field text rest, number_again w16 field (text ++ rest) (length text) f.wide f.value) (text_again text rest h)
 
-atom_again : (a text : List ℕ) → SpellsAtom a text → (rest : List ℕ) → atom_at (a ++ rest) ≡ Ok (text, rest)
-unfolding atom_at atom_of byte_at form_of
+atom_again : (a text : List ℕ) → SpellsAtom a text → (rest : List ℕ) → external_atom_at (a ++ rest) ≡ Ok (text, rest)
+unfolding external_atom_at atom_of_form byte_at form_of
 atom_again _ _ (small_atom_utf8_ext text h) rest = small_atom_again text rest h
 atom_again _ _ (atom_utf8_ext field text f h) rest = long_atom_again field text rest f h
 
@@ -95,7 +95,7 @@ big_again sign digits z s h rest = by sign (little digits) z s refl h
 
 -- ---- the front of a term
 
-opened : (room tag : ℕ) (xs : List ℕ) → starts_with nat_eq (tag ∷ xs) empty_list ≡ false → read_at room 0 (tag ∷ xs) ≡ form_at (below room) room (form_of tag) xs
+opened : (room tag : ℕ) (xs : List ℕ) → starts_with nat_eq (tag ∷ xs) empty_list ≡ false → read_at room 0 (tag ∷ xs) ≡ term_of_form (below room) room (form_of tag) xs
 unfolding whole_at byte_at
 opened room tag xs h = read_at-whole room (tag ∷ xs) ∙ rw (skip_none (tag ∷ xs) h) refl
 
@@ -124,14 +124,14 @@ text_depth_is : (text : List ℕ) → depth_of (text_list text) ≡ length text
 text_depth_is [] = refl
 text_depth_is (byte ∷ text) = omega (arith, text_depth_is text)
 
-string_again : (room : ℕ) (field text rest : List ℕ) → IsHalf field (length text) → depth_of (text_list text) ≤ room → string_at room ((field ++ text) ++ rest) ≡ Ok (text_list text, rest)
-unfolding string_at
+string_again : (room : ℕ) (field text rest : List ℕ) → IsHalf field (length text) → depth_of (text_list text) ≤ room → external_string_at room ((field ++ text) ++ rest) ≡ Ok (text_list text, rest)
+unfolding external_string_at
 string_again room field text rest f h =
     let fits : length text ≤ room = omega (arith, text_depth_is text) in
     rw (append_assoc field text rest, number_again w16 field (text ++ rest) (length text) f.wide f.value, le-ltb room (length text) fits, bytes_again (length text) text rest refl) refl
 
 tuple_again : (room count : ℕ) (bytes rest : List ℕ) (xs : Terms) → depth_of (tuple_term xs) ≤ room → ((part : ℕ) → items_depth xs ≤ part → items_at (read_at part 0) count bytes ≡ Ok (elements_of xs, rest))
-    → tuple_at (below room) room count bytes ≡ Ok (tuple_term xs, rest)
+    → external_tuple_at (below room) room count bytes ≡ Ok (tuple_term xs, rest)
 tuple_again zero count bytes rest xs h k = absurd (omega arith)
 tuple_again (suc part) count bytes rest xs h k =
     tuple_at-items (suc part) part count bytes refl ∙ ap as_tuple (k part (omega arith)) ∙ ap (λ (ys : Terms). Ok (tuple_term ys, rest)) (terms_of-elements_of xs)
@@ -141,14 +141,14 @@ list_deep _ _ _ (only_tail a t s) = omega arith
 list_deep _ _ _ (head_before n a b h t s r) = omega (arith, list_deep n b t r)
 
 atom_term_again : (room : ℕ) (a text : List ℕ) → SpellsAtom a text → (rest : List ℕ) → read_at room 0 (a ++ rest) ≡ Ok (atom_term text, rest)
-unfolding form_of form_at leaf_at
+unfolding form_of term_of_form leaf_at
 atom_term_again room _ _ (small_atom_utf8_ext text k) rest = opened room 119 (length text ∷ (text ++ rest)) refl ∙ rw (small_atom_again text rest k) refl
 atom_term_again room _ _ (atom_utf8_ext field text f k) rest = opened room 118 ((field ++ text) ++ rest) refl ∙ rw (long_atom_again field text rest f k) refl
 
 mutual
-  unfolding form_of form_at leaf_at byte_at items_at read_at pair_at
+  unfolding form_of term_of_form leaf_at byte_at items_at read_at pair_at
 
-  pub spelled_again : (a : List ℕ) (t : TermValue) → Spells a t → (room : ℕ) → depth_of t ≤ room → (rest : List ℕ) → read_at room 0 (a ++ rest) ≡ Ok (t, rest)
+  pub spelled_again : (a : List ℕ) (t : TermValue) → SpellsTerm a t → (room : ℕ) → depth_of t ≤ room → (rest : List ℕ) → read_at room 0 (a ++ rest) ≡ Ok (t, rest)
   spelled_again _ _ (small_integer_ext n) room h rest = opened room 97 (n ∷ rest) refl
   spelled_again _ _ (integer_ext field n f) room h rest =
       opened room 98 (field ++ rest) refl ∙ rw (number_again w32 field rest n f.wide f.value) refl

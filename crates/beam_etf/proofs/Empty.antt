@@ -4,7 +4,7 @@ use Rattle.std.specs.List.{starts_with}
 use Rattle.std.proofs.lemmas.List.{take_rest}
 use Rattle.std.proofs.lemmas.Bool.{cases_lt}
 use Rattle.std.specs.Int.{w32, from_be_bytes}
-use Rattle.beam_model.specs.ExternalReading.{after_empty_lists, empty_list, byte_at, number_at}
+use Rattle.beam_model.specs.ExternalReading.{after_empty_lists, empty_list, byte_at, big_endian_at}
 use Rattle.beam_etf.proofs.Found.{byte_takes, number_takes}
 
 skipped : (bytes : List ℕ) → 5 ≤ length bytes → starts_with nat_eq bytes empty_list ≡ true → after_empty_lists (drop 5 bytes) ≡ after_empty_lists bytes
@@ -64,7 +64,7 @@ four_cells (b ∷ c ∷ d ∷ e ∷ []) after n bytes l v h =
 four_cells (b ∷ c ∷ d ∷ e ∷ f ∷ field) after n bytes l v h = absurd (omega arith)
 
 -- the count of a list that stands after them
-pub no_empty : (bytes rest after : List ℕ) (tag n : ℕ) → byte_at (after_empty_lists bytes) ≡ Ok (tag, rest) → tag ≡ 108 → number_at w32 rest ≡ Ok (n, after) → 1 ≤ n
+pub no_empty : (bytes rest after : List ℕ) (tag n : ℕ) → byte_at (after_empty_lists bytes) ≡ Ok (tag, rest) → tag ≡ 108 → big_endian_at w32 rest ≡ Ok (n, after) → 1 ≤ n
 no_empty bytes rest after tag n h is k =
     let f = number_takes w32 rest n after k in
     four_cells f.0 after n bytes f.1.wide f.2 (byte_takes (after_empty_lists bytes) tag rest h ∙ (λ i. is i ∷ f.1.parts i))

@@ -11,11 +11,11 @@ use Rattle.std.proofs.lemmas.Int.{ints}
 use Rattle.std.proofs.lemmas.List.{length-append}
 use Rattle.beam_term.specs.TermValue.{TermValue, int_term, atom_term, reference_term, pid_term, pair_term, tuple_of, IsSmall}
 use Rattle.beam_model.specs.External.{IsHalf, IsWord, little, IsSigned, plus_sign, minus_sign}
-use Rattle.beam_model.specs.ExternalFault.{ExternalFault, truncated, bad_tag, out_of_profile, integer_too_large, too_deep, bad_utf8, is_left_out, byte_of_integer, word_of_integer, count_of_string, count_of_list, count_of_small_tuple, count_of_large_tuple, count_of_big, sign_of_big, count_of_reference, TextFault, text_cut, text_bad, text_long, AtomFault, small_count_cut, small_text, count_cut, long_text, NodeFault, node_missing, node_left_out, node_no_atom, node_atom, HasFault, tag_missing, tag_unknown, tag_left_out, field_cut, sign_bad, digits_cut, integer_large, atom_fault, node_fault, pid_cut, reference_left_out, reference_node, reference_cut, string_deep, string_cut, list_deep, list_fault, small_tuple_deep, large_tuple_deep, small_tuple_fault, large_tuple_fault, ItemsFault, this_item, later_item, ListFault, this_element, later_element, no_room, in_tail, HasExternalFault, version_missing, version_bad, behind_version}
+use Rattle.beam_model.specs.ExternalFault.{ExternalFault, truncated, bad_tag, out_of_profile, integer_too_large, too_deep, bad_utf8, is_left_out, byte_of_integer, word_of_integer, count_of_string, count_of_list, count_of_small_tuple, count_of_large_tuple, count_of_big, sign_of_big, count_of_reference, TextFault, text_cut, text_bad, text_long, AtomFault, small_count_cut, small_text, count_cut, long_text, NodeFault, node_missing, node_left_out, node_no_atom, node_atom, HasFault, tag_missing, tag_unknown, tag_left_out, field_cut, sign_bad, digits_cut, integer_large, atom_fault, node_fault, pid_cut, reference_left_out, reference_node, reference_cut, string_deep, string_cut, list_deep, list_fault, small_tuple_deep, large_tuple_deep, small_tuple_fault, large_tuple_fault, ItemsFault, this_item, later_item, ListFault, this_element, later_element, no_depth_left, in_tail, HasExternalFault, version_missing, version_bad, after_version}
 use Rattle.beam_model.specs.declared.external.Form.{Form}
 use Rattle.beam_model.specs.declared.external.Form.TheVariants as forms
 use Rattle.beam_model.specs.ExternalForm.{form_of}
-use Rattle.beam_model.specs.ExternalReading.{◌>>=◌, bytes_at, number_at, byte_at, text_at, signed, greatest, big_at, small_atom_at, long_atom_at, atom_of, atom_at, pid_at, words_at, reference_at, leaf_at, Inner, text_list, string_at, pair_at, list_at, items_at, tuple_at, form_at, empty_list, after_empty_lists, whole_at, read_at, external_at}
+use Rattle.beam_model.specs.ExternalReading.{◌>>=◌, bytes_at, big_endian_at, byte_at, text_at, signed, greatest, big_at, small_atom_at, long_atom_at, atom_of_form, external_atom_at, pid_at, words_at, reference_at, leaf_at, Inner, text_list, external_string_at, pair_at, external_list_at, items_at, external_tuple_at, term_of_form, empty_list, after_empty_lists, whole_at, read_at, external_at}
 use Rattle.beam_etf.proofs.Empty.{no_empty}
 use Rattle.beam_etf.proofs.Found.{Field, byte_takes, bytes_takes, number_takes, atom_takes, is_within, counted_at}
 use Rattle.beam_etf.proofs.FoundParts.{term_takes}
@@ -45,8 +45,8 @@ bytes_err n bytes e h =
       | inr k ↦ absurd (cc (k.1))
     ]
 
-number_err : (w : Width) (bytes : List ℕ) (e : ExternalFault) → number_at w bytes ≡ Err e → (length bytes < byte_len w) × (truncated ≡ e)
-unfolding number_at
+number_err : (w : Width) (bytes : List ℕ) (e : ExternalFault) → big_endian_at w bytes ≡ Err e → (length bytes < byte_len w) × (truncated ≡ e)
+unfolding big_endian_at
 number_err w bytes e h =
     elim (bind_err (bytes_at (byte_len w) bytes) (λ field. Ok (from_be_bytes w field.0, field.1)) e h) [
       | inl k ↦ bytes_err (byte_len w) bytes e k
@@ -90,7 +90,7 @@ small_atom_err bytes e h =
 long_atom_err : (bytes : List ℕ) (e : ExternalFault) → long_atom_at bytes ≡ Err e → AtomFault (118 ∷ bytes) e
 unfolding long_atom_at
 long_atom_err bytes e h =
-    elim (bind_err (number_at w16 bytes) (λ count. text_at count.0 count.1) e h) [
+    elim (bind_err (big_endian_at w16 bytes) (λ count. text_at count.0 count.1) e h) [
       | inl k ↦ let c = number_err w16 bytes e k in subst (λ (d : ExternalFault). AtomFault (118 ∷ bytes) d) c.1 (count_cut bytes c.0)
       | inr k ↦
           let f = number_takes w16 bytes k.0.0 k.0.1 k.1 in
@@ -103,8 +103,8 @@ long_atom_err bytes e h =
 other : (tag k : ℕ) (rest : List ℕ) → tag ≡ k → k ≢ 119 → k ≢ 118 → is_left_out k ≡ false → NodeFault (tag ∷ rest) bad_tag
 other tag k rest is a b c = subst (λ (t : ℕ). NodeFault (t ∷ rest) bad_tag) (sym is) (node_no_atom k rest a b c)
 
-atom_of_err : (form : Form) (tag : ℕ) (bytes : List ℕ) (e : ExternalFault) → Tagged form tag → atom_of form bytes ≡ Err e → NodeFault (tag ∷ bytes) e
-unfolding atom_of
+atom_of_err : (form : Form) (tag : ℕ) (bytes : List ℕ) (e : ExternalFault) → Tagged form tag → atom_of_form form bytes ≡ Err e → NodeFault (tag ∷ bytes) e
+unfolding atom_of_form
 atom_of_err forms.SmallAtom tag bytes e t h = subst (λ (k : ℕ). NodeFault (k ∷ bytes) e) (sym t) (node_atom (119 ∷ bytes) e (small_atom_err bytes e h))
 atom_of_err forms.LongAtom tag bytes e t h = subst (λ (k : ℕ). NodeFault (k ∷ bytes) e) (sym t) (node_atom (118 ∷ bytes) e (long_atom_err bytes e h))
 atom_of_err forms.LeftOut tag bytes e t h = let is : out_of_profile ≡ e = cc in subst (λ (d : ExternalFault). NodeFault (tag ∷ bytes) d) is (node_left_out tag bytes t)
@@ -120,10 +120,10 @@ atom_of_err forms.LargeTuple tag bytes e t h = let is : bad_tag ≡ e = cc in su
 atom_of_err forms.Pid tag bytes e t h = let is : bad_tag ≡ e = cc in subst (λ (d : ExternalFault). NodeFault (tag ∷ bytes) d) is (other tag 88 bytes t (λ q. omega arith) (λ q. omega arith) refl)
 atom_of_err forms.Reference tag bytes e t h = let is : bad_tag ≡ e = cc in subst (λ (d : ExternalFault). NodeFault (tag ∷ bytes) d) is (other tag 90 bytes t (λ q. omega arith) (λ q. omega arith) refl)
 
-atom_err : (bytes : List ℕ) (e : ExternalFault) → atom_at bytes ≡ Err e → NodeFault bytes e
-unfolding atom_at
+atom_err : (bytes : List ℕ) (e : ExternalFault) → external_atom_at bytes ≡ Err e → NodeFault bytes e
+unfolding external_atom_at
 atom_err bytes e h =
-    elim (bind_err (byte_at bytes) (λ tag. atom_of (form_of tag.0) tag.1) e h) [
+    elim (bind_err (byte_at bytes) (λ tag. atom_of_form (form_of tag.0) tag.1) e h) [
       | inl k ↦
           let c = byte_err bytes e k in
           subst (λ (d : ExternalFault). NodeFault bytes d) c.1 (subst (λ (r : List ℕ). NodeFault r truncated) (sym c.0) node_missing)
@@ -133,20 +133,20 @@ atom_err bytes e h =
 
 -- the numbers after the node
 abbrev numbers : List ℕ → List ℕ → Result (TermValue × List ℕ) ExternalFault
-numbers node a = number_at w32 a >>= λ id. number_at w32 id.1 >>= λ serial. number_at w32 serial.1 >>= λ creation. Ok (pid_term node id.0 serial.0 creation.0, creation.1)
+numbers node a = big_endian_at w32 a >>= λ id. big_endian_at w32 id.1 >>= λ serial. big_endian_at w32 serial.1 >>= λ creation. Ok (pid_term node id.0 serial.0 creation.0, creation.1)
 
 numbers_err : (node : List ℕ) (a : List ℕ) (e : ExternalFault) → numbers node a ≡ Err e
     → (length a < 12) × (truncated ≡ e)
 numbers_err node a e h =
-    elim (bind_err (number_at w32 a) (λ id. number_at w32 id.1 >>= λ serial. number_at w32 serial.1 >>= λ creation. Ok (pid_term node id.0 serial.0 creation.0, creation.1)) e h) [
+    elim (bind_err (big_endian_at w32 a) (λ id. big_endian_at w32 id.1 >>= λ serial. big_endian_at w32 serial.1 >>= λ creation. Ok (pid_term node id.0 serial.0 creation.0, creation.1)) e h) [
       | inl k ↦ let c = number_err w32 a e k in (omega (arith, c.0), c.1)
       | inr k ↦
           let f = number_takes w32 a k.0.0 k.0.1 k.1 in
-          elim (bind_err (number_at w32 k.0.1) (λ serial. number_at w32 serial.1 >>= λ creation. Ok (pid_term node k.0.0 serial.0 creation.0, creation.1)) e k.2) [
+          elim (bind_err (big_endian_at w32 k.0.1) (λ serial. big_endian_at w32 serial.1 >>= λ creation. Ok (pid_term node k.0.0 serial.0 creation.0, creation.1)) e k.2) [
             | inl l ↦ let c = number_err w32 k.0.1 e l in (omega (arith, c.0, ap length f.1.parts, length-append f.0 k.0.1, f.1.wide), c.1)
             | inr l ↦
                 let g = number_takes w32 k.0.1 l.0.0 l.0.1 l.1 in
-                elim (bind_err (number_at w32 l.0.1) (λ creation. Ok (pid_term node k.0.0 l.0.0 creation.0, creation.1)) e l.2) [
+                elim (bind_err (big_endian_at w32 l.0.1) (λ creation. Ok (pid_term node k.0.0 l.0.0 creation.0, creation.1)) e l.2) [
                   | inl m ↦
                       let c = number_err w32 l.0.1 e m in
                       (omega (arith, c.0, ap length f.1.parts, length-append f.0 k.0.1, f.1.wide, ap length g.1.parts, length-append g.0 l.0.1, g.1.wide), c.1)
@@ -158,7 +158,7 @@ numbers_err node a e h =
 pid_err : (room : ℕ) (bytes : List ℕ) (e : ExternalFault) → pid_at bytes ≡ Err e → HasFault room (88 ∷ bytes) e
 unfolding pid_at
 pid_err room bytes e h =
-    elim (bind_err (atom_at bytes) (λ node. number_at w32 node.1 >>= λ id. number_at w32 id.1 >>= λ serial. number_at w32 serial.1 >>= λ creation. Ok (pid_term node.0 id.0 serial.0 creation.0, creation.1)) e h) [
+    elim (bind_err (external_atom_at bytes) (λ node. big_endian_at w32 node.1 >>= λ id. big_endian_at w32 id.1 >>= λ serial. big_endian_at w32 serial.1 >>= λ creation. Ok (pid_term node.0 id.0 serial.0 creation.0, creation.1)) e h) [
       | inl k ↦ node_fault room bytes e (atom_err bytes e k)
       | inr k ↦
           let node = atom_takes bytes k.0.0 k.0.1 k.1 in
@@ -173,7 +173,7 @@ words_err : (n : ℕ) (bytes : List ℕ) (e : ExternalFault) → words_at n byte
 unfolding words_at
 words_err zero bytes e h = absurd cc
 words_err (suc n) bytes e h =
-    elim (bind_err (number_at w32 bytes) (λ word. words_at n word.1 >>= λ others. Ok (word.0 ∷ others.0, others.1)) e h) [
+    elim (bind_err (big_endian_at w32 bytes) (λ word. words_at n word.1 >>= λ others. Ok (word.0 ∷ others.0, others.1)) e h) [
       | inl k ↦ let c = number_err w32 bytes e k in (omega (arith, c.0), c.1)
       | inr k ↦
           let f = number_takes w32 bytes k.0.0 k.0.1 k.1 in
@@ -185,11 +185,11 @@ words_err (suc n) bytes e h =
 
 -- the creation and the words after the node
 abbrev identity : ℕ → List ℕ → List ℕ → Result (TermValue × List ℕ) ExternalFault
-identity count node a = number_at w32 a >>= λ creation. words_at count creation.1 >>= λ words. Ok (reference_term node creation.0 words.0, words.1)
+identity count node a = big_endian_at w32 a >>= λ creation. words_at count creation.1 >>= λ words. Ok (reference_term node creation.0 words.0, words.1)
 
 identity_err : (count : ℕ) (node a : List ℕ) (e : ExternalFault) → identity count node a ≡ Err e → (length a < 4 + 4 * count) × (truncated ≡ e)
 identity_err count node a e h =
-    elim (bind_err (number_at w32 a) (λ creation. words_at count creation.1 >>= λ words. Ok (reference_term node creation.0 words.0, words.1)) e h) [
+    elim (bind_err (big_endian_at w32 a) (λ creation. words_at count creation.1 >>= λ words. Ok (reference_term node creation.0 words.0, words.1)) e h) [
       | inl k ↦ let c = number_err w32 a e k in (omega (arith, c.0), c.1)
       | inr k ↦
           let f = number_takes w32 a k.0.0 k.0.1 k.1 in
@@ -215,7 +215,7 @@ counted_err room n field bytes e half false test h =
     subst (λ (d : ExternalFault). HasFault room (90 ∷ (field ++ bytes)) d) is (reference_left_out room n field bytes half (outside n test))
 counted_err room n field bytes e half true test h =
     let within = is_within n test in
-    elim (bind_err (atom_at bytes) (λ node. identity n node.0 node.1) e h) [
+    elim (bind_err (external_atom_at bytes) (λ node. identity n node.0 node.1) e h) [
       | inl k ↦ reference_node room n field bytes e half within.0 (omega (arith, within.1)) (atom_err bytes e k)
       | inr k ↦
           let node = atom_takes bytes k.0.0 k.0.1 k.1 in
@@ -229,7 +229,7 @@ counted_err room n field bytes e half true test h =
 reference_err : (room : ℕ) (bytes : List ℕ) (e : ExternalFault) → reference_at bytes ≡ Err e → HasFault room (90 ∷ bytes) e
 unfolding reference_at
 reference_err room bytes e h =
-    elim (bind_err (number_at w16 bytes) (λ count. cond (ltb 0 count.0 && ltb count.0 6) (counted_at count.0 count.1) (Err out_of_profile)) e h) [
+    elim (bind_err (big_endian_at w16 bytes) (λ count. cond (ltb 0 count.0 && ltb count.0 6) (counted_at count.0 count.1) (Err out_of_profile)) e h) [
       | inl k ↦ let c = number_err w16 bytes e k in subst (λ (d : ExternalFault). HasFault room (90 ∷ bytes) d) c.1 (field_cut room 90 2 bytes count_of_reference c.0)
       | inr k ↦
           let f = number_takes w16 bytes k.0.0 k.0.1 k.1 in
@@ -309,7 +309,7 @@ leaf_err room forms.SmallInteger tag bytes e i t h =
       | inr k ↦ absurd (cc (k.2))
     ]
 leaf_err room forms.Integer tag bytes e i t h =
-    elim (bind_err (number_at w32 bytes) (λ n. Ok (int_term (cast_signed w32 n.0), n.1)) e h) [
+    elim (bind_err (big_endian_at w32 bytes) (λ n. Ok (int_term (cast_signed w32 n.0), n.1)) e h) [
       | inl k ↦
           let c = number_err w32 bytes e k in
           subst (λ (m : ℕ). HasFault room (m ∷ bytes) e) (sym t) (subst (λ (d : ExternalFault). HasFault room (98 ∷ bytes) d) c.1 (field_cut room 98 4 bytes word_of_integer c.0))
@@ -345,7 +345,7 @@ leaf_err room forms.LargeTuple tag bytes e i t h = absurd i
 tail_fault : (room n : ℕ) (bytes : List ℕ) (f : ExternalFault) → ListFault room n bytes f → n ≡ 0 → HasFault room bytes f
 tail_fault _ _ _ _ (this_element room n bytes f h) e = absurd (omega arith)
 tail_fault _ _ _ _ (later_element room n first rest x f s h) e = absurd (omega arith)
-tail_fault _ _ _ _ (no_room n bytes) e = absurd (omega arith)
+tail_fault _ _ _ _ (no_depth_left n bytes) e = absurd (omega arith)
 tail_fault _ _ _ _ (in_tail room bytes f h) e = h
 
 -- what is known of the reading of the parts
@@ -387,10 +387,10 @@ items_err room inner inside (suc n) bytes e h =
           ]
     ]
 
-string_err : (room : ℕ) (bytes : List ℕ) (e : ExternalFault) → string_at room bytes ≡ Err e → HasFault room (107 ∷ bytes) e
-unfolding string_at
+string_err : (room : ℕ) (bytes : List ℕ) (e : ExternalFault) → external_string_at room bytes ≡ Err e → HasFault room (107 ∷ bytes) e
+unfolding external_string_at
 string_err room bytes e h =
-    elim (bind_err (number_at w16 bytes) (λ count. cond (ltb room count.0) (Err too_deep) (bytes_at count.0 count.1 >>= λ text. Ok (text_list text.0, text.1))) e h) [
+    elim (bind_err (big_endian_at w16 bytes) (λ count. cond (ltb room count.0) (Err too_deep) (bytes_at count.0 count.1 >>= λ text. Ok (text_list text.0, text.1))) e h) [
       | inl k ↦ let c = number_err w16 bytes e k in subst (λ (d : ExternalFault). HasFault room (107 ∷ bytes) d) c.1 (field_cut room 107 2 bytes count_of_string c.0)
       | inr k ↦
           let f = number_takes w16 bytes k.0.0 k.0.1 k.1 in
@@ -410,9 +410,9 @@ string_err room bytes e h =
           ]
     ]
 
-list_err : (room : ℕ) (inner : Inner) → Deep room inner → (count : ℕ) (bytes : List ℕ) (e : ExternalFault) → 1 ≤ count → list_at inner room count bytes ≡ Err e
+list_err : (room : ℕ) (inner : Inner) → Deep room inner → (count : ℕ) (bytes : List ℕ) (e : ExternalFault) → 1 ≤ count → external_list_at inner room count bytes ≡ Err e
     → ((room < count) × (too_deep ≡ e)) ⊎ ListFault room count bytes e
-unfolding list_at
+unfolding external_list_at
 list_err room inner deep zero bytes e some h = absurd (omega arith)
 list_err zero inner deep (suc n) bytes e some h =
     elim (guard_err (ltb 0 (suc n)) too_deep e (pair_at inner n bytes) h) [
@@ -425,9 +425,9 @@ list_err (suc room) inner deep (suc n) bytes e some h =
       | inr k ↦ inr (pair_err room inner (deep room refl) n bytes e k.1)
     ]
 
-tuple_err : (room : ℕ) (inner : Inner) → Deep room inner → (count : ℕ) (bytes : List ℕ) (e : ExternalFault) → tuple_at inner room count bytes ≡ Err e
+tuple_err : (room : ℕ) (inner : Inner) → Deep room inner → (count : ℕ) (bytes : List ℕ) (e : ExternalFault) → external_tuple_at inner room count bytes ≡ Err e
     → ((room ≡ 0) × (too_deep ≡ e)) ⊎ ((part : ℕ) × (room ≡ suc part) × ItemsFault part count bytes e)
-unfolding tuple_at
+unfolding external_tuple_at
 tuple_err zero inner deep count bytes e h = inl (refl, cc)
 tuple_err (suc room) inner deep count bytes e h =
     elim (guard_err (eqb (suc room) 0) too_deep e (items_at (inner 0) count bytes >>= λ items. Ok (tuple_of items.0, items.1)) h) [
@@ -441,12 +441,12 @@ tuple_err (suc room) inner deep count bytes e h =
 
 -- a list that is read has elements
 abbrev NotEmpty : ℕ → List ℕ → Type 0
-NotEmpty tag bytes = (n : ℕ) (after : List ℕ) → tag ≡ 108 → number_at w32 bytes ≡ Ok (n, after) → 1 ≤ n
+NotEmpty tag bytes = (n : ℕ) (after : List ℕ) → tag ≡ 108 → big_endian_at w32 bytes ≡ Ok (n, after) → 1 ≤ n
 
-list_form_err : (room : ℕ) (inner : Inner) → Deep room inner → (bytes : List ℕ) (e : ExternalFault) → NotEmpty 108 bytes → form_at inner room forms.List bytes ≡ Err e → HasFault room (108 ∷ bytes) e
-unfolding form_at
+list_form_err : (room : ℕ) (inner : Inner) → Deep room inner → (bytes : List ℕ) (e : ExternalFault) → NotEmpty 108 bytes → term_of_form inner room forms.List bytes ≡ Err e → HasFault room (108 ∷ bytes) e
+unfolding term_of_form
 list_form_err room inner deep bytes e some h =
-    elim (bind_err (number_at w32 bytes) (λ count. list_at inner room count.0 count.1) e h) [
+    elim (bind_err (big_endian_at w32 bytes) (λ count. external_list_at inner room count.0 count.1) e h) [
       | inl k ↦ let c = number_err w32 bytes e k in subst (λ (d : ExternalFault). HasFault room (108 ∷ bytes) d) c.1 (field_cut room 108 4 bytes count_of_list c.0)
       | inr k ↦
           let f = number_takes w32 bytes k.0.0 k.0.1 k.1 in
@@ -458,10 +458,10 @@ list_form_err room inner deep bytes e some h =
           ])
     ]
 
-small_tuple_err : (room : ℕ) (inner : Inner) → Deep room inner → (bytes : List ℕ) (e : ExternalFault) → form_at inner room forms.SmallTuple bytes ≡ Err e → HasFault room (104 ∷ bytes) e
-unfolding form_at
+small_tuple_err : (room : ℕ) (inner : Inner) → Deep room inner → (bytes : List ℕ) (e : ExternalFault) → term_of_form inner room forms.SmallTuple bytes ≡ Err e → HasFault room (104 ∷ bytes) e
+unfolding term_of_form
 small_tuple_err room inner deep bytes e h =
-    elim (bind_err (byte_at bytes) (λ count. tuple_at inner room count.0 count.1) e h) [
+    elim (bind_err (byte_at bytes) (λ count. external_tuple_at inner room count.0 count.1) e h) [
       | inl k ↦ let c = byte_err bytes e k in subst (λ (d : ExternalFault). HasFault room (104 ∷ bytes) d) c.1 (field_cut room 104 1 bytes count_of_small_tuple (omega (arith, ap length c.0)))
       | inr k ↦
           subst (λ (r : List ℕ). HasFault room (104 ∷ r) e) (sym (byte_takes bytes k.0.0 k.0.1 k.1))
@@ -473,10 +473,10 @@ small_tuple_err room inner deep bytes e h =
           ])
     ]
 
-large_tuple_err : (room : ℕ) (inner : Inner) → Deep room inner → (bytes : List ℕ) (e : ExternalFault) → form_at inner room forms.LargeTuple bytes ≡ Err e → HasFault room (105 ∷ bytes) e
-unfolding form_at
+large_tuple_err : (room : ℕ) (inner : Inner) → Deep room inner → (bytes : List ℕ) (e : ExternalFault) → term_of_form inner room forms.LargeTuple bytes ≡ Err e → HasFault room (105 ∷ bytes) e
+unfolding term_of_form
 large_tuple_err room inner deep bytes e h =
-    elim (bind_err (number_at w32 bytes) (λ count. tuple_at inner room count.0 count.1) e h) [
+    elim (bind_err (big_endian_at w32 bytes) (λ count. external_tuple_at inner room count.0 count.1) e h) [
       | inl k ↦ let c = number_err w32 bytes e k in subst (λ (d : ExternalFault). HasFault room (105 ∷ bytes) d) c.1 (field_cut room 105 4 bytes count_of_large_tuple c.0)
       | inr k ↦
           let f = number_takes w32 bytes k.0.0 k.0.1 k.1 in
@@ -490,8 +490,8 @@ large_tuple_err room inner deep bytes e h =
           ])
     ]
 
-form_err : (room : ℕ) (inner : Inner) → Deep room inner → (form : Form) (tag : ℕ) (bytes : List ℕ) (e : ExternalFault) → Tagged form tag → NotEmpty tag bytes → form_at inner room form bytes ≡ Err e → HasFault room (tag ∷ bytes) e
-unfolding form_at
+form_err : (room : ℕ) (inner : Inner) → Deep room inner → (form : Form) (tag : ℕ) (bytes : List ℕ) (e : ExternalFault) → Tagged form tag → NotEmpty tag bytes → term_of_form inner room form bytes ≡ Err e → HasFault room (tag ∷ bytes) e
+unfolding term_of_form
 form_err room inner deep forms.String tag bytes e t some h = subst (λ (m : ℕ). HasFault room (m ∷ bytes) e) (sym t) (string_err room bytes e h)
 form_err room inner deep forms.List tag bytes e t some h =
     subst (λ (m : ℕ). HasFault room (m ∷ bytes) e) (sym t) (list_form_err room inner deep bytes e (λ n after q. some n after t) h)
@@ -530,7 +530,7 @@ whole_err : (room : ℕ) (inner : Inner) → Deep room inner → (bytes : List �
 unfolding whole_at
 whole_err room inner deep bytes e h =
     passed room bytes e
-    (elim (bind_err (byte_at (after_empty_lists bytes)) (λ tag. form_at inner room (form_of tag.0) tag.1) e h) [
+    (elim (bind_err (byte_at (after_empty_lists bytes)) (λ tag. term_of_form inner room (form_of tag.0) tag.1) e h) [
       | inl k ↦
           let c = byte_err (after_empty_lists bytes) e k in
           subst (λ (d : ExternalFault). HasFault room (after_empty_lists bytes) d) c.1 (subst (λ (r : List ℕ). HasFault room r truncated) (sym c.0) (tag_missing room))
@@ -542,7 +542,7 @@ whole_err room inner deep bytes e h =
 read_err : (room n : ℕ) (bytes : List ℕ) (e : ExternalFault) → read_at room n bytes ≡ Err e → ListFault room n bytes e
 unfolding read_at
 read_err zero zero bytes e h = in_tail 0 bytes e (whole_err 0 (λ n rest. Err too_deep) (λ part k. absurd (omega arith)) bytes e h)
-read_err zero (suc n) bytes e h = let is : too_deep ≡ e = cc in subst (λ (d : ExternalFault). ListFault 0 (suc n) bytes d) is (no_room n bytes)
+read_err zero (suc n) bytes e h = let is : too_deep ≡ e = cc in subst (λ (d : ExternalFault). ListFault 0 (suc n) bytes d) is (no_depth_left n bytes)
 read_err (suc room) zero bytes e h =
     in_tail (suc room) bytes e
     (whole_err (suc room) (read_at room) (λ part k. let same : room ≡ part = omega arith in subst (λ (p : ℕ). Inside p (read_at room)) same (record { faults = read_err room; terms = term_takes room })) bytes e h)
@@ -562,7 +562,7 @@ external_err bytes e h =
     by : (version : ℕ) (rest : List ℕ) (b : Bool) → eqb version 131 ≡ b → cond b (read_at 4096 0 rest) (Err bad_tag) ≡ Err e → HasExternalFault (version ∷ rest) e
     by version rest true v h =
         subst (λ (n : ℕ). HasExternalFault (n ∷ rest) e) (sym (eqb-true version 131 v))
-        (behind_version rest e (tail_fault 4096 0 rest e (read_err 4096 0 rest e h) refl))
+        (after_version rest e (tail_fault 4096 0 rest e (read_err 4096 0 rest e h) refl))
     by version rest false v h =
         let is : bad_tag ≡ e = cc in
         subst (λ (d : ExternalFault). HasExternalFault (version ∷ rest) d) is (version_bad version rest (λ q. let both = sym v ∙ eq-eqb version 131 q in cc))

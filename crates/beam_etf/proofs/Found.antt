@@ -9,12 +9,12 @@ use Rattle.std.proofs.lemmas.Int.{ints}
 use Rattle.std.proofs.lemmas.List.{take-append-drop, length-take}
 use Rattle.beam_term.specs.Atom.{IsAtomText}
 use Rattle.beam_term.specs.TermValue.{TermValue, int_term, atom_term, reference_term, pid_term, nil_term, depth_of, IsSmall}
-use Rattle.beam_model.specs.External.{little, IsSigned, plus_sign, minus_sign, SpellsAtom, small_atom_utf8_ext, atom_utf8_ext, AreWords, no_words, one_word, Spells, small_integer_ext, integer_ext, small_big_ext, nil_ext, utf8_atom, new_pid_ext, newer_reference_ext}
+use Rattle.beam_model.specs.External.{little, IsSigned, plus_sign, minus_sign, SpellsAtom, small_atom_utf8_ext, atom_utf8_ext, AreWords, no_words, one_word, SpellsTerm, small_integer_ext, integer_ext, small_big_ext, nil_ext, utf8_atom, new_pid_ext, newer_reference_ext}
 use Rattle.beam_model.specs.ExternalFault.{ExternalFault, truncated, bad_tag, out_of_profile, integer_too_large, bad_utf8}
 use Rattle.beam_model.specs.declared.external.Form.{Form}
 use Rattle.beam_model.specs.declared.external.Form.TheVariants as forms
 use Rattle.beam_model.specs.ExternalForm.{form_of}
-use Rattle.beam_model.specs.ExternalReading.{◌>>=◌, bytes_at, number_at, byte_at, text_at, signed, greatest, big_at, small_atom_at, long_atom_at, atom_of, atom_at, pid_at, words_at, reference_at, leaf_at}
+use Rattle.beam_model.specs.ExternalReading.{◌>>=◌, bytes_at, big_endian_at, byte_at, text_at, signed, greatest, big_at, small_atom_at, long_atom_at, atom_of_form, external_atom_at, pid_at, words_at, reference_at, leaf_at}
 use Rattle.beam_etf.proofs.Tags.{Tagged, tagged}
 
 -- the value of a step that did not fail
@@ -60,8 +60,8 @@ bytes_takes n bytes front rest e =
     subst (λ (p : List ℕ × List ℕ). Field bytes p.0 p.1 n) k f
 
 -- a number, with the bytes that it takes
-pub number_takes : (w : Width) (bytes : List ℕ) (n : ℕ) (rest : List ℕ) → number_at w bytes ≡ Ok (n, rest) → (field : List ℕ) × Field bytes field rest (byte_len w) × (from_be_bytes w field ≡ n)
-unfolding number_at
+pub number_takes : (w : Width) (bytes : List ℕ) (n : ℕ) (rest : List ℕ) → big_endian_at w bytes ≡ Ok (n, rest) → (field : List ℕ) × Field bytes field rest (byte_len w) × (from_be_bytes w field ≡ n)
+unfolding big_endian_at
 number_takes w bytes n rest e =
     let b = bind_ok (bytes_at (byte_len w) bytes) (λ field. Ok (from_be_bytes w field.0, field.1)) (n, rest) e in
     let k = ok_is (from_be_bytes w b.0.0, b.0.1) (n, rest) b.2 in
@@ -92,7 +92,7 @@ pub record AtomTaken (bytes text rest : List ℕ) : Type 0 where
 pub record Taken (room : ℕ) (bytes : List ℕ) (t : TermValue) (rest : List ℕ) : Type 0 where
   pub front : List ℕ
   pub parts : bytes ≡ front ++ rest
-  pub spelled : Spells front t
+  pub spelled : SpellsTerm front t
   pub shallow : depth_of t ≤ room
 
 small_atom_takes : (tag : ℕ) → tag ≡ 119 → (bytes text rest : List ℕ) → small_atom_at bytes ≡ Ok (text, rest) → AtomTaken (tag ∷ bytes) text rest
@@ -110,7 +110,7 @@ small_atom_takes tag is bytes text rest e =
 long_atom_takes : (tag : ℕ) → tag ≡ 118 → (bytes text rest : List ℕ) → long_atom_at bytes ≡ Ok (text, rest) → AtomTaken (tag ∷ bytes) text rest
 unfolding long_atom_at
 long_atom_takes tag is bytes text rest e =
-    let b = bind_ok (number_at w16 bytes) (λ count. text_at count.0 count.1) (text, rest) e in
+    let b = bind_ok (big_endian_at w16 bytes) (λ count. text_at count.0 count.1) (text, rest) e in
     let n = number_takes w16 bytes b.0.0 b.0.1 b.1 in
     let f = text_takes b.0.0 b.0.1 text rest b.2 in
     record {
@@ -119,8 +119,8 @@ long_atom_takes tag is bytes text rest e =
       spelled = atom_utf8_ext n.0 text (record { wide = n.1.wide; value = n.2 ∙ sym f.0.wide }) f.1;
     }
 
-atom_of_takes : (form : Form) (tag : ℕ) (bytes text rest : List ℕ) → Tagged form tag → atom_of form bytes ≡ Ok (text, rest) → AtomTaken (tag ∷ bytes) text rest
-unfolding atom_of
+atom_of_takes : (form : Form) (tag : ℕ) (bytes text rest : List ℕ) → Tagged form tag → atom_of_form form bytes ≡ Ok (text, rest) → AtomTaken (tag ∷ bytes) text rest
+unfolding atom_of_form
 atom_of_takes forms.SmallAtom tag bytes text rest t e = small_atom_takes tag t bytes text rest e
 atom_of_takes forms.LongAtom tag bytes text rest t e = long_atom_takes tag t bytes text rest e
 atom_of_takes forms.SmallInteger tag bytes text rest t e = absurd cc
@@ -136,10 +136,10 @@ atom_of_takes forms.Reference tag bytes text rest t e = absurd cc
 atom_of_takes forms.LeftOut tag bytes text rest t e = absurd cc
 atom_of_takes forms.Unknown tag bytes text rest t e = absurd cc
 
-pub atom_takes : (bytes text rest : List ℕ) → atom_at bytes ≡ Ok (text, rest) → AtomTaken bytes text rest
-unfolding atom_at
+pub atom_takes : (bytes text rest : List ℕ) → external_atom_at bytes ≡ Ok (text, rest) → AtomTaken bytes text rest
+unfolding external_atom_at
 atom_takes bytes text rest e =
-    let b = bind_ok (byte_at bytes) (λ tag. atom_of (form_of tag.0) tag.1) (text, rest) e in
+    let b = bind_ok (byte_at bytes) (λ tag. atom_of_form (form_of tag.0) tag.1) (text, rest) e in
     let one = byte_takes bytes b.0.0 b.0.1 b.1 in
     subst (λ (x : List ℕ). AtomTaken x text rest) (sym one) (atom_of_takes (form_of b.0.0) b.0.0 b.0.1 text rest (tagged b.0.0) b.2)
 
@@ -150,10 +150,10 @@ behind bytes front middle field rest e f = e ∙ ap (λ (r : List ℕ). front ++
 pid_takes : (room : ℕ) (tag : ℕ) → tag ≡ 88 → (bytes : List ℕ) (t : TermValue) (rest : List ℕ) → pid_at bytes ≡ Ok (t, rest) → Taken room (tag ∷ bytes) t rest
 unfolding pid_at
 pid_takes room tag is bytes t rest e =
-    let a = bind_ok (atom_at bytes) (λ node. number_at w32 node.1 >>= λ id. number_at w32 id.1 >>= λ serial. number_at w32 serial.1 >>= λ creation. Ok (pid_term node.0 id.0 serial.0 creation.0, creation.1)) (t, rest) e in
-    let b = bind_ok (number_at w32 a.0.1) (λ id. number_at w32 id.1 >>= λ serial. number_at w32 serial.1 >>= λ creation. Ok (pid_term a.0.0 id.0 serial.0 creation.0, creation.1)) (t, rest) a.2 in
-    let c = bind_ok (number_at w32 b.0.1) (λ serial. number_at w32 serial.1 >>= λ creation. Ok (pid_term a.0.0 b.0.0 serial.0 creation.0, creation.1)) (t, rest) b.2 in
-    let d = bind_ok (number_at w32 c.0.1) (λ creation. Ok (pid_term a.0.0 b.0.0 c.0.0 creation.0, creation.1)) (t, rest) c.2 in
+    let a = bind_ok (external_atom_at bytes) (λ node. big_endian_at w32 node.1 >>= λ id. big_endian_at w32 id.1 >>= λ serial. big_endian_at w32 serial.1 >>= λ creation. Ok (pid_term node.0 id.0 serial.0 creation.0, creation.1)) (t, rest) e in
+    let b = bind_ok (big_endian_at w32 a.0.1) (λ id. big_endian_at w32 id.1 >>= λ serial. big_endian_at w32 serial.1 >>= λ creation. Ok (pid_term a.0.0 id.0 serial.0 creation.0, creation.1)) (t, rest) a.2 in
+    let c = bind_ok (big_endian_at w32 b.0.1) (λ serial. big_endian_at w32 serial.1 >>= λ creation. Ok (pid_term a.0.0 b.0.0 serial.0 creation.0, creation.1)) (t, rest) b.2 in
+    let d = bind_ok (big_endian_at w32 c.0.1) (λ creation. Ok (pid_term a.0.0 b.0.0 c.0.0 creation.0, creation.1)) (t, rest) c.2 in
     let k = ok_is (pid_term a.0.0 b.0.0 c.0.0 d.0.0, d.0.1) (t, rest) d.2 in
     let node = atom_takes bytes a.0.0 a.0.1 a.1 in
     let id = number_takes w32 a.0.1 b.0.0 b.0.1 b.1 in
@@ -195,7 +195,7 @@ words_take zero bytes words rest e =
     let taken : WordsTaken 0 bytes [] bytes = record { front = []; parts = refl; spelled = no_words; count = refl } in
     subst (λ (x : List ℕ × List ℕ). WordsTaken 0 bytes x.0 x.1) k taken
 words_take (suc n) bytes words rest e =
-    let a = bind_ok (number_at w32 bytes) (λ word. words_at n word.1 >>= λ others. Ok (word.0 ∷ others.0, others.1)) (words, rest) e in
+    let a = bind_ok (big_endian_at w32 bytes) (λ word. words_at n word.1 >>= λ others. Ok (word.0 ∷ others.0, others.1)) (words, rest) e in
     let b = bind_ok (words_at n a.0.1) (λ others. Ok (a.0.0 ∷ others.0, others.1)) (words, rest) a.2 in
     let k = ok_is (a.0.0 ∷ b.0.0, b.0.1) (words, rest) b.2 in
     let first = number_takes w32 bytes a.0.0 a.0.1 a.1 in
@@ -210,15 +210,15 @@ words_take (suc n) bytes words rest e =
 
 -- a reference after its count of words
 abbrev pub counted_at : ℕ → List ℕ → Result (TermValue × List ℕ) ExternalFault
-counted_at count bytes = atom_at bytes >>= λ node. number_at w32 node.1 >>= λ creation. words_at count creation.1 >>= λ words. Ok (reference_term node.0 creation.0 words.0, words.1)
+counted_at count bytes = external_atom_at bytes >>= λ node. big_endian_at w32 node.1 >>= λ creation. words_at count creation.1 >>= λ words. Ok (reference_term node.0 creation.0 words.0, words.1)
 
 reference_takes : (room tag : ℕ) → tag ≡ 90 → (bytes : List ℕ) (t : TermValue) (rest : List ℕ) → reference_at bytes ≡ Ok (t, rest) → Taken room (tag ∷ bytes) t rest
 unfolding reference_at
 reference_takes room tag is bytes t rest e =
-    let a = bind_ok (number_at w16 bytes) (λ count. cond (ltb 0 count.0 && ltb count.0 6) (counted_at count.0 count.1) (Err out_of_profile)) (t, rest) e in
+    let a = bind_ok (big_endian_at w16 bytes) (λ count. cond (ltb 0 count.0 && ltb count.0 6) (counted_at count.0 count.1) (Err out_of_profile)) (t, rest) e in
     let g = guard_true (ltb 0 a.0.0 && ltb a.0.0 6) out_of_profile (counted_at a.0.0 a.0.1) (t, rest) a.2 in
-    let b = bind_ok (atom_at a.0.1) (λ node. number_at w32 node.1 >>= λ creation. words_at a.0.0 creation.1 >>= λ words. Ok (reference_term node.0 creation.0 words.0, words.1)) (t, rest) g.1 in
-    let c = bind_ok (number_at w32 b.0.1) (λ creation. words_at a.0.0 creation.1 >>= λ words. Ok (reference_term b.0.0 creation.0 words.0, words.1)) (t, rest) b.2 in
+    let b = bind_ok (external_atom_at a.0.1) (λ node. big_endian_at w32 node.1 >>= λ creation. words_at a.0.0 creation.1 >>= λ words. Ok (reference_term node.0 creation.0 words.0, words.1)) (t, rest) g.1 in
+    let c = bind_ok (big_endian_at w32 b.0.1) (λ creation. words_at a.0.0 creation.1 >>= λ words. Ok (reference_term b.0.0 creation.0 words.0, words.1)) (t, rest) b.2 in
     let d = bind_ok (words_at a.0.0 c.0.1) (λ words. Ok (reference_term b.0.0 c.0.0 words.0, words.1)) (t, rest) c.2 in
     let k = ok_is (reference_term b.0.0 c.0.0 d.0.0, d.0.1) (t, rest) d.2 in
     let count = number_takes w16 bytes a.0.0 a.0.1 a.1 in
@@ -275,7 +275,7 @@ leaf_takes room forms.SmallInteger tag is bytes t rest e =
     record { front = 97 ∷ a.0.0 ∷ []; parts = λ i. is i ∷ one i; spelled = small_integer_ext a.0.0; shallow = omega arith } in
     subst (λ (x : TermValue × List ℕ). Taken room (tag ∷ bytes) x.0 x.1) k taken
 leaf_takes room forms.Integer tag is bytes t rest e =
-    let a = bind_ok (number_at w32 bytes) (λ n. Ok (int_term (cast_signed w32 n.0), n.1)) (t, rest) e in
+    let a = bind_ok (big_endian_at w32 bytes) (λ n. Ok (int_term (cast_signed w32 n.0), n.1)) (t, rest) e in
     let k = ok_is (int_term (cast_signed w32 a.0.0), a.0.1) (t, rest) a.2 in
     let n = number_takes w32 bytes a.0.0 a.0.1 a.1 in
     let taken : Taken room (tag ∷ bytes) (int_term (cast_signed w32 a.0.0)) a.0.1 =

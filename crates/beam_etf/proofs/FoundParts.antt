@@ -7,12 +7,12 @@ use Rattle.std.specs.Cmp.Lexicographic.{bytes_decides}
 use Rattle.std.proofs.lemmas.Bool.{ltb-false, eqb-true}
 use Rattle.beam_term.specs.TermValue.{TermValue, Terms, pair_term, tuple_term, terms_of, tuple_of, count_of, depth_of, items_depth}
 use Rattle.beam_term.specs.Elements.{count_of-terms_of}
-use Rattle.beam_model.specs.External.{Spells, small_tuple_ext, large_tuple_ext, string_ext, list_ext, empty_list_ext, SpellsAll, no_elements, one_element, SpellsList, only_tail, head_before, IsExternal}
+use Rattle.beam_model.specs.External.{SpellsTerm, small_tuple_ext, large_tuple_ext, string_ext, list_ext, empty_list_ext, SpellsAll, no_elements, one_element, SpellsList, only_tail, head_before, IsExternal}
 use Rattle.beam_model.specs.ExternalFault.{ExternalFault, too_deep, bad_tag}
 use Rattle.beam_model.specs.declared.external.Form.{Form}
 use Rattle.beam_model.specs.declared.external.Form.TheVariants as forms
 use Rattle.beam_model.specs.ExternalForm.{form_of}
-use Rattle.beam_model.specs.ExternalReading.{◌>>=◌, bytes_at, number_at, byte_at, Inner, text_list, string_at, pair_at, list_at, items_at, tuple_at, form_at, empty_list, after_empty_lists, whole_at, read_at, external_at}
+use Rattle.beam_model.specs.ExternalReading.{◌>>=◌, bytes_at, big_endian_at, byte_at, Inner, text_list, external_string_at, pair_at, external_list_at, items_at, external_tuple_at, term_of_form, empty_list, after_empty_lists, whole_at, read_at, external_at}
 use Rattle.beam_etf.proofs.Found.{bind_ok, guard_ok, ok_is, byte_takes, bytes_takes, number_takes, Taken, leaf_takes}
 use Rattle.beam_etf.proofs.TextDepth.{text_depth}
 use Rattle.beam_etf.proofs.Tags.{Tagged, tagged}
@@ -32,7 +32,7 @@ pub record ItemsTaken (room n : ℕ) (bytes : List ℕ) (xs : List TermValue) (r
   pub count : length xs ≡ n
   pub shallow : items_depth (terms_of xs) ≤ room
 
-single_is : (n : ℕ) (a : List ℕ) (t : TermValue) → SpellsList n a t → n ≡ 0 → Spells a t
+single_is : (n : ℕ) (a : List ℕ) (t : TermValue) → SpellsList n a t → n ≡ 0 → SpellsTerm a t
 single_is _ _ _ (only_tail a t s) e = s
 single_is _ _ _ (head_before n a b h t s r) e = absurd (omega arith)
 
@@ -84,10 +84,10 @@ items_takes room item takes (suc n) bytes xs rest e =
     } in
     subst (λ (x : List TermValue × List ℕ). ItemsTaken room (suc n) bytes x.0 x.1) k taken
 
-string_takes : (room tag : ℕ) → tag ≡ 107 → (bytes : List ℕ) (t : TermValue) (rest : List ℕ) → string_at room bytes ≡ Ok (t, rest) → Taken room (tag ∷ bytes) t rest
-unfolding string_at
+string_takes : (room tag : ℕ) → tag ≡ 107 → (bytes : List ℕ) (t : TermValue) (rest : List ℕ) → external_string_at room bytes ≡ Ok (t, rest) → Taken room (tag ∷ bytes) t rest
+unfolding external_string_at
 string_takes room tag is bytes t rest e =
-    let a = bind_ok (number_at w16 bytes) (λ count. cond (ltb room count.0) (Err too_deep) (bytes_at count.0 count.1 >>= λ text. Ok (text_list text.0, text.1))) (t, rest) e in
+    let a = bind_ok (big_endian_at w16 bytes) (λ count. cond (ltb room count.0) (Err too_deep) (bytes_at count.0 count.1 >>= λ text. Ok (text_list text.0, text.1))) (t, rest) e in
     let g = guard_ok (ltb room a.0.0) too_deep (bytes_at a.0.0 a.0.1 >>= λ text. Ok (text_list text.0, text.1)) (t, rest) a.2 in
     let b = bind_ok (bytes_at a.0.0 a.0.1) (λ text. Ok (text_list text.0, text.1)) (t, rest) g.1 in
     let k = ok_is (text_list b.0.0, b.0.1) (t, rest) b.2 in
@@ -106,9 +106,9 @@ string_takes room tag is bytes t rest e =
 abbrev pub Deeper : ℕ → Inner → Type 0
 Deeper room inner = (part : ℕ) → room ≡ suc part → Takes part inner
 
-list_takes : (room : ℕ) (inner : Inner) → Deeper room inner → (count : ℕ) (bytes : List ℕ) (t : TermValue) (rest : List ℕ) → list_at inner room count bytes ≡ Ok (t, rest)
+list_takes : (room : ℕ) (inner : Inner) → Deeper room inner → (count : ℕ) (bytes : List ℕ) (t : TermValue) (rest : List ℕ) → external_list_at inner room count bytes ≡ Ok (t, rest)
     → ListTaken room count bytes t rest × ((n : ℕ) × (count ≡ suc n))
-unfolding list_at
+unfolding external_list_at
 list_takes room inner deeper zero bytes t rest e = absurd cc
 list_takes zero inner deeper (suc n) bytes t rest e =
     let g = guard_ok (ltb 0 (suc n)) too_deep (pair_at inner n bytes) (t, rest) e in
@@ -118,9 +118,9 @@ list_takes (suc room) inner deeper (suc n) bytes t rest e =
     let g = guard_ok (ltb (suc room) (suc n)) too_deep (pair_at inner n bytes) (t, rest) e in
     (pair_takes room inner (deeper room refl) n bytes t rest g.1, (n, refl))
 
-tuple_takes : (room : ℕ) (inner : Inner) → Deeper room inner → (count : ℕ) (bytes : List ℕ) (t : TermValue) (rest : List ℕ) → tuple_at inner room count bytes ≡ Ok (t, rest)
+tuple_takes : (room : ℕ) (inner : Inner) → Deeper room inner → (count : ℕ) (bytes : List ℕ) (t : TermValue) (rest : List ℕ) → external_tuple_at inner room count bytes ≡ Ok (t, rest)
     → (front : List ℕ) × (xs : Terms) × (bytes ≡ front ++ rest) × (t ≡ tuple_term xs) × SpellsAll front xs × (count_of xs ≡ count) × (depth_of t ≤ room)
-unfolding tuple_at
+unfolding external_tuple_at
 tuple_takes zero inner deeper count bytes t rest e = absurd cc
 tuple_takes (suc room) inner deeper count bytes t rest e =
     let g = guard_ok (eqb (suc room) 0) too_deep (items_at (inner 0) count bytes >>= λ items. Ok (tuple_of items.0, items.1)) (t, rest) e in
@@ -131,11 +131,11 @@ tuple_takes (suc room) inner deeper count bytes t rest e =
     let r : a.0.1 ≡ rest = ap (λ (p : TermValue × List ℕ). p.1) k in
     (x.front, terms_of a.0.0, x.parts ∙ ap (λ (r : List ℕ). x.front ++ r) r, sym is, x.spelled, count_of-terms_of a.0.0 ∙ x.count, omega (arith, x.shallow, ap depth_of is))
 
-form_takes : (room : ℕ) (inner : Inner) → Deeper room inner → (form : Form) (tag : ℕ) → Tagged form tag → (bytes : List ℕ) (t : TermValue) (rest : List ℕ) → form_at inner room form bytes ≡ Ok (t, rest) → Taken room (tag ∷ bytes) t rest
-unfolding form_at
+form_takes : (room : ℕ) (inner : Inner) → Deeper room inner → (form : Form) (tag : ℕ) → Tagged form tag → (bytes : List ℕ) (t : TermValue) (rest : List ℕ) → term_of_form inner room form bytes ≡ Ok (t, rest) → Taken room (tag ∷ bytes) t rest
+unfolding term_of_form
 form_takes room inner deeper forms.String tag is bytes t rest e = string_takes room tag is bytes t rest e
 form_takes room inner deeper forms.List tag is bytes t rest e =
-    let a = bind_ok (number_at w32 bytes) (λ count. list_at inner room count.0 count.1) (t, rest) e in
+    let a = bind_ok (big_endian_at w32 bytes) (λ count. external_list_at inner room count.0 count.1) (t, rest) e in
     let n = number_takes w32 bytes a.0.0 a.0.1 a.1 in
     let x = list_takes room inner deeper a.0.0 a.0.1 t rest a.2 in
     let m = x.1.0 in
@@ -146,7 +146,7 @@ form_takes room inner deeper forms.List tag is bytes t rest e =
       shallow = x.0.shallow;
     }
 form_takes room inner deeper forms.SmallTuple tag is bytes t rest e =
-    let a = bind_ok (byte_at bytes) (λ count. tuple_at inner room count.0 count.1) (t, rest) e in
+    let a = bind_ok (byte_at bytes) (λ count. external_tuple_at inner room count.0 count.1) (t, rest) e in
     let one = byte_takes bytes a.0.0 a.0.1 a.1 in
     let x = tuple_takes room inner deeper a.0.0 a.0.1 t rest a.2 in
     let taken : Taken room (tag ∷ bytes) (tuple_term x.1) rest = record {
@@ -157,7 +157,7 @@ form_takes room inner deeper forms.SmallTuple tag is bytes t rest e =
     } in
     subst (λ (u : TermValue). Taken room (tag ∷ bytes) u rest) (sym x.3) taken
 form_takes room inner deeper forms.LargeTuple tag is bytes t rest e =
-    let a = bind_ok (number_at w32 bytes) (λ count. tuple_at inner room count.0 count.1) (t, rest) e in
+    let a = bind_ok (big_endian_at w32 bytes) (λ count. external_tuple_at inner room count.0 count.1) (t, rest) e in
     let n = number_takes w32 bytes a.0.0 a.0.1 a.1 in
     let x = tuple_takes room inner deeper a.0.0 a.0.1 t rest a.2 in
     let taken : Taken room (tag ∷ bytes) (tuple_term x.1) rest = record {
@@ -204,7 +204,7 @@ passed room (a ∷ b ∷ c ∷ d ∷ e ∷ others) t rest x = by (passed room ot
 whole_takes : (room : ℕ) (inner : Inner) → Deeper room inner → (bytes : List ℕ) (t : TermValue) (rest : List ℕ) → whole_at inner room bytes ≡ Ok (t, rest) → Taken room bytes t rest
 unfolding whole_at
 whole_takes room inner deeper bytes t rest e =
-    let a = bind_ok (byte_at (after_empty_lists bytes)) (λ tag. form_at inner room (form_of tag.0) tag.1) (t, rest) e in
+    let a = bind_ok (byte_at (after_empty_lists bytes)) (λ tag. term_of_form inner room (form_of tag.0) tag.1) (t, rest) e in
     let one = byte_takes (after_empty_lists bytes) a.0.0 a.0.1 a.1 in
     let taken = form_takes room inner deeper (form_of a.0.0) a.0.0 (tagged a.0.0) a.0.1 t rest a.2 in
     passed room bytes t rest (subst (λ (r : List ℕ). Taken room r t rest) (sym one) taken)

@@ -12,7 +12,7 @@ use Rattle.beam_model.specs.ExternalFault.{ExternalFault, truncated, bad_tag, ou
 use Rattle.beam_model.specs.declared.external.Form.{Form}
 use Rattle.beam_model.specs.declared.external.Form.TheVariants as forms
 use Rattle.beam_model.specs.ExternalForm.{form_of}
-use Rattle.beam_model.specs.ExternalReading.{◌>>=◌, bytes_at, number_at, byte_at, text_at, signed, greatest, big_at, small_atom_at, long_atom_at, atom_of, atom_at, pid_at, words_at, reference_at, leaf_at, Inner, text_list, string_at, pair_at, list_at, items_at, tuple_at, form_at, empty_list, after_empty_lists, whole_at, read_at, external_at}
+use Rattle.beam_model.specs.ExternalReading.{◌>>=◌, bytes_at, big_endian_at, byte_at, text_at, signed, greatest, big_at, small_atom_at, long_atom_at, atom_of_form, external_atom_at, pid_at, words_at, reference_at, leaf_at, Inner, text_list, external_string_at, pair_at, external_list_at, items_at, external_tuple_at, term_of_form, empty_list, after_empty_lists, whole_at, read_at, external_at}
 use Rattle.beam_etf.proofs.Empty.{skip_none}
 use Rattle.beam_etf.proofs.Found.{counted_at}
 
@@ -53,8 +53,8 @@ bytes_grow n bytes more = by (ltb (length bytes) n) refl
         let long : ltb (length (bytes ++ more)) n ≡ false = le-ltb _ _ (omega (arith, length-append bytes more)) in
         rw (long, take-append-le n bytes more fits, drop-append-le n bytes more fits) refl
 
-number_grows : (w : Width) → Grows (number_at w)
-unfolding number_at
+number_grows : (w : Width) → Grows (big_endian_at w)
+unfolding big_endian_at
 number_grows w bytes more = grown_bind more (bytes_at (byte_len w) bytes) _ (λ field. Ok (from_be_bytes w field.0, field.1)) (bytes_grow (byte_len w) bytes more) (λ field rest. refl)
 
 text_grows : (n : ℕ) → Grows (text_at n)
@@ -83,50 +83,50 @@ small_atom_grows bytes more = grown_bind more (byte_at bytes) _ (λ count. text_
 
 long_atom_grows : Grows long_atom_at
 unfolding long_atom_at
-long_atom_grows bytes more = grown_bind more (number_at w16 bytes) _ (λ count. text_at count.0 count.1) (number_grows w16 bytes more) (λ count rest. text_grows count rest more)
+long_atom_grows bytes more = grown_bind more (big_endian_at w16 bytes) _ (λ count. text_at count.0 count.1) (number_grows w16 bytes more) (λ count rest. text_grows count rest more)
 
-atom_of_grows : (form : Form) → Grows (atom_of form)
-unfolding atom_of
+atom_of_grows : (form : Form) → Grows (atom_of_form form)
+unfolding atom_of_form
 atom_of_grows forms.SmallAtom bytes more = small_atom_grows bytes more
 atom_of_grows forms.LongAtom bytes more = long_atom_grows bytes more
 atom_of_grows forms.LeftOut bytes more = λ n. refl
 atom_of_grows form bytes more = λ n. refl
 
-atom_grows : Grows atom_at
-unfolding atom_at
-atom_grows bytes more = grown_bind more (byte_at bytes) _ (λ tag. atom_of (form_of tag.0) tag.1) (byte_grows bytes more) (λ tag rest. atom_of_grows (form_of tag) rest more)
+atom_grows : Grows external_atom_at
+unfolding external_atom_at
+atom_grows bytes more = grown_bind more (byte_at bytes) _ (λ tag. atom_of_form (form_of tag.0) tag.1) (byte_grows bytes more) (λ tag rest. atom_of_grows (form_of tag) rest more)
 
 pid_grows : Grows pid_at
 unfolding pid_at
 pid_grows bytes more =
-    grown_bind more (atom_at bytes) _ (λ node. number_at w32 node.1 >>= λ id. number_at w32 id.1 >>= λ serial. number_at w32 serial.1 >>= λ creation. Ok (pid_term node.0 id.0 serial.0 creation.0, creation.1)) (atom_grows bytes more)
-    (λ node a. grown_bind more (number_at w32 a) _ (λ id. number_at w32 id.1 >>= λ serial. number_at w32 serial.1 >>= λ creation. Ok (pid_term node id.0 serial.0 creation.0, creation.1)) (number_grows w32 a more)
-    (λ id b. grown_bind more (number_at w32 b) _ (λ serial. number_at w32 serial.1 >>= λ creation. Ok (pid_term node id serial.0 creation.0, creation.1)) (number_grows w32 b more)
-    (λ serial c. grown_bind more (number_at w32 c) _ (λ creation. Ok (pid_term node id serial creation.0, creation.1)) (number_grows w32 c more) (λ creation d. refl))))
+    grown_bind more (external_atom_at bytes) _ (λ node. big_endian_at w32 node.1 >>= λ id. big_endian_at w32 id.1 >>= λ serial. big_endian_at w32 serial.1 >>= λ creation. Ok (pid_term node.0 id.0 serial.0 creation.0, creation.1)) (atom_grows bytes more)
+    (λ node a. grown_bind more (big_endian_at w32 a) _ (λ id. big_endian_at w32 id.1 >>= λ serial. big_endian_at w32 serial.1 >>= λ creation. Ok (pid_term node id.0 serial.0 creation.0, creation.1)) (number_grows w32 a more)
+    (λ id b. grown_bind more (big_endian_at w32 b) _ (λ serial. big_endian_at w32 serial.1 >>= λ creation. Ok (pid_term node id serial.0 creation.0, creation.1)) (number_grows w32 b more)
+    (λ serial c. grown_bind more (big_endian_at w32 c) _ (λ creation. Ok (pid_term node id serial creation.0, creation.1)) (number_grows w32 c more) (λ creation d. refl))))
 
 words_grow : (n : ℕ) → Grows (words_at n)
 unfolding words_at
 words_grow zero bytes more = refl
 words_grow (suc n) bytes more =
-    grown_bind more (number_at w32 bytes) _ (λ word. words_at n word.1 >>= λ others. Ok (word.0 ∷ others.0, others.1)) (number_grows w32 bytes more)
+    grown_bind more (big_endian_at w32 bytes) _ (λ word. words_at n word.1 >>= λ others. Ok (word.0 ∷ others.0, others.1)) (number_grows w32 bytes more)
     (λ word rest. grown_bind more (words_at n rest) _ (λ others. Ok (word ∷ others.0, others.1)) (words_grow n rest more) (λ others after. refl))
 
 counted_grows : (count : ℕ) → Grows (counted_at count)
 counted_grows count bytes more =
-    grown_bind more (atom_at bytes) _ (λ node. number_at w32 node.1 >>= λ creation. words_at count creation.1 >>= λ words. Ok (reference_term node.0 creation.0 words.0, words.1)) (atom_grows bytes more)
-    (λ node a. grown_bind more (number_at w32 a) _ (λ creation. words_at count creation.1 >>= λ words. Ok (reference_term node creation.0 words.0, words.1)) (number_grows w32 a more)
+    grown_bind more (external_atom_at bytes) _ (λ node. big_endian_at w32 node.1 >>= λ creation. words_at count creation.1 >>= λ words. Ok (reference_term node.0 creation.0 words.0, words.1)) (atom_grows bytes more)
+    (λ node a. grown_bind more (big_endian_at w32 a) _ (λ creation. words_at count creation.1 >>= λ words. Ok (reference_term node creation.0 words.0, words.1)) (number_grows w32 a more)
     (λ creation b. grown_bind more (words_at count b) _ (λ words. Ok (reference_term node creation words.0, words.1)) (words_grow count b more) (λ words c. refl)))
 
 reference_grows : Grows reference_at
 unfolding reference_at
 reference_grows bytes more =
-    grown_bind more (number_at w16 bytes) _ (λ count. cond (ltb 0 count.0 && ltb count.0 6) (counted_at count.0 count.1) (Err out_of_profile)) (number_grows w16 bytes more)
+    grown_bind more (big_endian_at w16 bytes) _ (λ count. cond (ltb 0 count.0 && ltb count.0 6) (counted_at count.0 count.1) (Err out_of_profile)) (number_grows w16 bytes more)
     (λ count rest. grown_test more (ltb 0 count && ltb count 6) out_of_profile _ _ (counted_grows count rest more))
 
 leaf_grows : (form : Form) → Grows (leaf_at form)
 unfolding leaf_at
 leaf_grows forms.SmallInteger bytes more = grown_bind more (byte_at bytes) _ (λ n. Ok (int_term (pos n.0), n.1)) (byte_grows bytes more) (λ n rest. refl)
-leaf_grows forms.Integer bytes more = grown_bind more (number_at w32 bytes) _ (λ n. Ok (int_term (cast_signed w32 n.0), n.1)) (number_grows w32 bytes more) (λ n rest. refl)
+leaf_grows forms.Integer bytes more = grown_bind more (big_endian_at w32 bytes) _ (λ n. Ok (int_term (cast_signed w32 n.0), n.1)) (number_grows w32 bytes more) (λ n rest. refl)
 leaf_grows forms.SmallBig bytes more = grown_bind more (big_at bytes) _ (λ n. Ok (int_term n.0, n.1)) (big_grows bytes more) (λ n rest. refl)
 leaf_grows forms.Nil bytes more = refl
 leaf_grows forms.SmallAtom bytes more = grown_bind more (small_atom_at bytes) _ (λ text. Ok (atom_term text.0, text.1)) (small_atom_grows bytes more) (λ n rest. refl)
@@ -140,10 +140,10 @@ leaf_grows form bytes more = λ n. refl
 abbrev InnerGrows : Inner → Type 0
 InnerGrows inner = (n : ℕ) → Grows (inner n)
 
-string_grows : (room : ℕ) → Grows (string_at room)
-unfolding string_at
+string_grows : (room : ℕ) → Grows (external_string_at room)
+unfolding external_string_at
 string_grows room bytes more =
-    grown_bind more (number_at w16 bytes) _ (λ count. cond (ltb room count.0) (Err too_deep) (bytes_at count.0 count.1 >>= λ text. Ok (text_list text.0, text.1))) (number_grows w16 bytes more)
+    grown_bind more (big_endian_at w16 bytes) _ (λ count. cond (ltb room count.0) (Err too_deep) (bytes_at count.0 count.1 >>= λ text. Ok (text_list text.0, text.1))) (number_grows w16 bytes more)
     (λ count rest. grown_guard more (ltb room count) too_deep _ _
     (grown_bind more (bytes_at count rest) _ (λ text. Ok (text_list text.0, text.1)) (bytes_grow count rest more) (λ text last. refl)))
 
@@ -153,8 +153,8 @@ pair_grows inner h n bytes more =
     grown_bind more (inner 0 bytes) _ (λ head. inner n head.1 >>= λ last. Ok (pair_term head.0 last.0, last.1)) (h 0 bytes more)
     (λ head rest. grown_bind more (inner n rest) _ (λ last. Ok (pair_term head last.0, last.1)) (h n rest more) (λ last after. refl))
 
-list_grows : (inner : Inner) → InnerGrows inner → (room count : ℕ) → Grows (list_at inner room count)
-unfolding list_at
+list_grows : (inner : Inner) → InnerGrows inner → (room count : ℕ) → Grows (external_list_at inner room count)
+unfolding external_list_at
 list_grows inner h room zero bytes more = λ n. refl
 list_grows inner h room (suc count) bytes more = grown_guard more (ltb room (suc count)) too_deep _ _ (pair_grows inner h count bytes more)
 
@@ -165,35 +165,35 @@ items_grow item h (suc n) bytes more =
     grown_bind more (item bytes) _ (λ first. items_at item n first.1 >>= λ others. Ok (first.0 ∷ others.0, others.1)) (h bytes more)
     (λ first rest. grown_bind more (items_at item n rest) _ (λ others. Ok (first ∷ others.0, others.1)) (items_grow item h n rest more) (λ others after. refl))
 
-tuple_grows : (inner : Inner) → InnerGrows inner → (room count : ℕ) → Grows (tuple_at inner room count)
-unfolding tuple_at
+tuple_grows : (inner : Inner) → InnerGrows inner → (room count : ℕ) → Grows (external_tuple_at inner room count)
+unfolding external_tuple_at
 tuple_grows inner h room count bytes more =
     grown_guard more (eqb room 0) too_deep _ _
     (grown_bind more (items_at (inner 0) count bytes) _ (λ items. Ok (tuple_of items.0, items.1)) (items_grow (inner 0) (h 0) count bytes more) (λ items rest. refl))
 
-form_grows : (inner : Inner) → InnerGrows inner → (room : ℕ) (form : Form) → Grows (form_at inner room form)
-unfolding form_at
+form_grows : (inner : Inner) → InnerGrows inner → (room : ℕ) (form : Form) → Grows (term_of_form inner room form)
+unfolding term_of_form
 form_grows inner h room forms.String bytes more = string_grows room bytes more
 form_grows inner h room forms.List bytes more =
-    grown_bind more (number_at w32 bytes) _ (λ count. list_at inner room count.0 count.1) (number_grows w32 bytes more) (λ count rest. list_grows inner h room count rest more)
+    grown_bind more (big_endian_at w32 bytes) _ (λ count. external_list_at inner room count.0 count.1) (number_grows w32 bytes more) (λ count rest. list_grows inner h room count rest more)
 form_grows inner h room forms.SmallTuple bytes more =
-    grown_bind more (byte_at bytes) _ (λ count. tuple_at inner room count.0 count.1) (byte_grows bytes more) (λ count rest. tuple_grows inner h room count rest more)
+    grown_bind more (byte_at bytes) _ (λ count. external_tuple_at inner room count.0 count.1) (byte_grows bytes more) (λ count rest. tuple_grows inner h room count rest more)
 form_grows inner h room forms.LargeTuple bytes more =
-    grown_bind more (number_at w32 bytes) _ (λ count. tuple_at inner room count.0 count.1) (number_grows w32 bytes more) (λ count rest. tuple_grows inner h room count rest more)
+    grown_bind more (big_endian_at w32 bytes) _ (λ count. external_tuple_at inner room count.0 count.1) (number_grows w32 bytes more) (λ count rest. tuple_grows inner h room count rest more)
 form_grows inner h room form bytes more = leaf_grows form bytes more
 
 -- the front of a term, where no list of no elements stands before it
-front_grows : (inner : Inner) → InnerGrows inner → (room : ℕ) → Grows (λ bytes. byte_at bytes >>= λ tag. form_at inner room (form_of tag.0) tag.1)
+front_grows : (inner : Inner) → InnerGrows inner → (room : ℕ) → Grows (λ bytes. byte_at bytes >>= λ tag. term_of_form inner room (form_of tag.0) tag.1)
 front_grows inner h room bytes more =
-    grown_bind more (byte_at bytes) _ (λ tag. form_at inner room (form_of tag.0) tag.1) (byte_grows bytes more) (λ tag rest. form_grows inner h room (form_of tag) rest more)
+    grown_bind more (byte_at bytes) _ (λ tag. term_of_form inner room (form_of tag.0) tag.1) (byte_grows bytes more) (λ tag rest. form_grows inner h room (form_of tag) rest more)
 
 not_list : (tag : ℕ) (xs : List ℕ) → eqb 108 tag ≡ false → starts_with nat_eq (tag ∷ xs) empty_list ≡ false
 not_list tag xs h = rw h refl
 
 -- a tag with fewer than four bytes after it
-short_grows : (inner : Inner) → InnerGrows inner → (room tag : ℕ) (xs more : List ℕ) → number_at w32 xs ≡ Err truncated → after_empty_lists (tag ∷ xs) ≡ tag ∷ xs
+short_grows : (inner : Inner) → InnerGrows inner → (room tag : ℕ) (xs more : List ℕ) → big_endian_at w32 xs ≡ Err truncated → after_empty_lists (tag ∷ xs) ≡ tag ∷ xs
     → Grown more (whole_at inner room (tag ∷ xs)) (whole_at inner room (tag ∷ (xs ++ more)))
-unfolding whole_at byte_at form_at form_of
+unfolding whole_at byte_at term_of_form form_of
 short_grows inner h room tag xs more cut same = by (eqb 108 tag) refl
   where
     by : (b : Bool) → eqb 108 tag ≡ b → Grown more (whole_at inner room (tag ∷ xs)) (whole_at inner room (tag ∷ (xs ++ more)))
@@ -204,7 +204,7 @@ short_grows inner h room tag xs more cut same = by (eqb 108 tag) refl
     by false e = rw (same, skip_none (tag ∷ (xs ++ more)) (not_list tag (xs ++ more) e)) (front_grows inner h room (tag ∷ xs) more)
 
 whole_grows : (inner : Inner) → InnerGrows inner → (room : ℕ) → Grows (whole_at inner room)
-unfolding whole_at byte_at after_empty_lists number_at bytes_at
+unfolding whole_at byte_at after_empty_lists big_endian_at bytes_at
 whole_grows inner h room [] more = λ n. absurd (n refl)
 whole_grows inner h room (a ∷ []) more = short_grows inner h room a [] more refl refl
 whole_grows inner h room (a ∷ b ∷ []) more = short_grows inner h room a (b ∷ []) more refl refl
@@ -213,8 +213,8 @@ whole_grows inner h room (a ∷ b ∷ c ∷ d ∷ []) more = short_grows inner h
 whole_grows inner h room (a ∷ b ∷ c ∷ d ∷ e ∷ others) more = by (whole_grows inner h room others more) (starts_with nat_eq (a ∷ b ∷ c ∷ d ∷ e ∷ others) empty_list)
   where
     by : Grown more (whole_at inner room others) (whole_at inner room (others ++ more)) → (test : Bool)
-        → Grown more (byte_at (cond test (after_empty_lists others) (a ∷ b ∷ c ∷ d ∷ e ∷ others)) >>= λ tag. form_at inner room (form_of tag.0) tag.1)
-        (byte_at (cond test (after_empty_lists (others ++ more)) (a ∷ b ∷ c ∷ d ∷ e ∷ (others ++ more))) >>= λ tag. form_at inner room (form_of tag.0) tag.1)
+        → Grown more (byte_at (cond test (after_empty_lists others) (a ∷ b ∷ c ∷ d ∷ e ∷ others)) >>= λ tag. term_of_form inner room (form_of tag.0) tag.1)
+        (byte_at (cond test (after_empty_lists (others ++ more)) (a ∷ b ∷ c ∷ d ∷ e ∷ (others ++ more))) >>= λ tag. term_of_form inner room (form_of tag.0) tag.1)
     by k true = k
     by k false = front_grows inner h room (a ∷ b ∷ c ∷ d ∷ e ∷ others) more
 

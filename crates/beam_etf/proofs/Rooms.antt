@@ -1,7 +1,7 @@
 -- How a term's room passes to its parts.
 use Rattle.std.proofs.Common.{◌≡◌, ℕ, zero, suc, ◌≤◌, Bool, true, false, eqb, List, Result, Ok, refl, ap, arith}
 use Rattle.std.proofs.lemmas.Bool.{le-ltb, eqb-true}
-use Rattle.beam_model.specs.ExternalReading.{◌>>=◌, read_at, below, list_at, whole_at, pair_at, tuple_at, items_at}
+use Rattle.beam_model.specs.ExternalReading.{◌>>=◌, read_at, below, external_list_at, whole_at, pair_at, external_tuple_at, items_at}
 use Rattle.beam_term.specs.TermValue.{TermValue, tuple_of}
 use Rattle.beam_model.specs.ExternalFault.{ExternalFault}
 
@@ -21,16 +21,16 @@ not_zero room = by (eqb (suc room) 0) refl
     by false e = refl
 
 -- the elements of a tuple have one level of room less
-pub tuple_at-items : (room part count : ℕ) (bytes : List ℕ) → room ≡ suc part → tuple_at (below room) room count bytes ≡ as_tuple (items_at (read_at part 0) count bytes)
-unfolding below tuple_at
+pub tuple_at-items : (room part count : ℕ) (bytes : List ℕ) → room ≡ suc part → external_tuple_at (below room) room count bytes ≡ as_tuple (items_at (read_at part 0) count bytes)
+unfolding below external_tuple_at
 tuple_at-items zero part count bytes e = absurd (omega arith)
 tuple_at-items (suc room) part count bytes e =
     let same : room ≡ part = omega arith in
     rw (not_zero room) (ap (λ (r : ℕ). as_tuple (items_at (read_at r 0) count bytes)) same)
 
 -- a list that has room for its elements
-pub list_at-read : (room count : ℕ) (bytes : List ℕ) → 1 ≤ count → count ≤ room → list_at (below room) room count bytes ≡ read_at room count bytes
-unfolding list_at read_at below pair_at
+pub list_at-read : (room count : ℕ) (bytes : List ℕ) → 1 ≤ count → count ≤ room → external_list_at (below room) room count bytes ≡ read_at room count bytes
+unfolding external_list_at read_at below pair_at
 list_at-read room zero bytes h k = absurd (omega arith)
 list_at-read zero (suc n) bytes h k = absurd (omega arith)
 list_at-read (suc room) (suc n) bytes h k = rw (le-ltb (suc room) (suc n) k) refl

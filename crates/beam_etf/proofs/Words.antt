@@ -3,7 +3,7 @@ use Rattle.std.proofs.Common.{◌≡◌, ℕ, suc, ◌-◌, ◌+◌, ◌≤◌, 
 use Rattle.std.specs.Int.{w32}
 use Rattle.std.proofs.lemmas.List.{append-nil}
 use Rattle.beam_model.specs.ExternalFault.{ExternalFault}
-use Rattle.beam_model.specs.ExternalReading.{◌>>=◌, number_at, words_at}
+use Rattle.beam_model.specs.ExternalReading.{◌>>=◌, big_endian_at, words_at}
 
 -- the words that were read, and then those of the rest
 abbrev pub before_words : List ℕ → Result (List ℕ × List ℕ) ExternalFault → Result (List ℕ × List ℕ) ExternalFault
@@ -14,7 +14,7 @@ regroup front word (Ok x) = ap (λ (words : List ℕ). Ok (words, x.1)) (simp ap
 regroup front word (Err e) = refl
 
 pub words_go_on : (front : List ℕ) (count i : ℕ) (bytes : List ℕ) (word : ℕ) (after : List ℕ) (total : Result (List ℕ × List ℕ) ExternalFault)
-    → i < count → number_at w32 bytes ≡ Ok (word, after) → before_words front (words_at (count - i) bytes) ≡ total → before_words (front ++ word ∷ []) (words_at (count - (i + 1)) after) ≡ total
+    → i < count → big_endian_at w32 bytes ≡ Ok (word, after) → before_words front (words_at (count - i) bytes) ≡ total → before_words (front ++ word ∷ []) (words_at (count - (i + 1)) after) ≡ total
 unfolding words_at
 words_go_on front count i bytes word after total lt h so_far =
     let k : count - i ≡ suc (count - (i + 1)) = omega arith in
@@ -22,7 +22,7 @@ words_go_on front count i bytes word after total lt h so_far =
     sym one ∙ so_far
 
 pub words_end : (e : ExternalFault) (front : List ℕ) (count i : ℕ) (bytes : List ℕ) (total : Result (List ℕ × List ℕ) ExternalFault)
-    → i < count → number_at w32 bytes ≡ Err e → before_words front (words_at (count - i) bytes) ≡ total → total ≡ Err e
+    → i < count → big_endian_at w32 bytes ≡ Err e → before_words front (words_at (count - i) bytes) ≡ total → total ≡ Err e
 unfolding words_at
 words_end e front count i bytes total lt h so_far =
     let k : count - i ≡ suc (count - (i + 1)) = omega arith in

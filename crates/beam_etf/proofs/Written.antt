@@ -11,7 +11,7 @@ use Rattle.std.proofs.lemmas.Nat.{from_be_bytes-to_be_bytes_2, from_be_bytes-to_
 use Rattle.beam_term.specs.Atom.{IsAtomText}
 use Rattle.beam_term.specs.Reference.{AreReferenceWords}
 use Rattle.beam_term.specs.TermValue.{TermValue, Terms, int_term, atom_term, reference_term, pid_term, nil_term, pair_term, tuple_term, no_terms, more_terms, count_of, list_of, depth_of, items_depth, IsSmall, IsInRange, AreInRange, IsTerm}
-use Rattle.beam_model.specs.External.{IsHalf, IsWord, little, IsSigned, plus_sign, minus_sign, SpellsAtom, small_atom_utf8_ext, atom_utf8_ext, AreWords, no_words, one_word, Spells, small_integer_ext, integer_ext, small_big_ext, nil_ext, utf8_atom, new_pid_ext, newer_reference_ext, small_tuple_ext, large_tuple_ext, string_ext, list_ext, SpellsAll, no_elements, one_element, SpellsList, only_tail, head_before, IsExternal, byte_count, written_big, sign_of, written_integer, written_atom, written_pid, written_reference, tuple_front, is_byte, byte_of, is_text, text_of, pair_count, written_list, written_part, all_written, written}
+use Rattle.beam_model.specs.External.{IsHalf, IsWord, little, IsSigned, plus_sign, minus_sign, SpellsAtom, small_atom_utf8_ext, atom_utf8_ext, AreWords, no_words, one_word, SpellsTerm, small_integer_ext, integer_ext, small_big_ext, nil_ext, utf8_atom, new_pid_ext, newer_reference_ext, small_tuple_ext, large_tuple_ext, string_ext, list_ext, SpellsAll, no_elements, one_element, SpellsList, only_tail, head_before, IsExternal, byte_count, written_big, sign_of, written_integer, written_atom, written_pid, written_reference, tuple_front, is_byte, byte_of, is_byte_list, bytes_of_list, pair_count, written_list, written_part, all_written, external_bytes}
 use Rattle.beam_etf.proofs.Integers.{small_is, word_below, word_above, big_below, big_above}
 use Rattle.beam_etf.proofs.Lengths.{atom_short}
 
@@ -48,18 +48,18 @@ abs_small : (z : ℤ) → IsSmall z → unsigned_abs z < 2 ^ 64
 abs_small (pos n) h = omega (arith, ints, h.1)
 abs_small (negsuc n) h = omega (arith, ints, h.0)
 
-big_spelled : (z : ℤ) → IsSmall z → Spells (written_big (sign_of z) (unsigned_abs z)) (int_term z)
+big_spelled : (z : ℤ) → IsSmall z → SpellsTerm (written_big (sign_of z) (unsigned_abs z)) (int_term z)
 big_spelled z h =
     let k = counted (unsigned_abs z) (abs_small z h) in
-    subst (λ (n : ℕ). Spells (110 ∷ n ∷ sign_of z ∷ digits_of (unsigned_abs z)) (int_term z)) k.0
+    subst (λ (n : ℕ). SpellsTerm (110 ∷ n ∷ sign_of z ∷ digits_of (unsigned_abs z)) (int_term z)) k.0
     (small_big_ext (sign_of z) (digits_of (unsigned_abs z)) z (subst (λ (n : ℕ). IsSigned (sign_of z) n z) (sym k.1) (signed_so z)) h)
 
 below_32 : (z : ℤ) → FitsSigned w32 z → cast_unsigned w32 z < 2 ^ 32
 below_32 z h = (Fits-of_z h).fits
 
-word_spelled : (z : ℤ) → FitsSigned w32 z → Spells (98 ∷ to_be_bytes w32 (cast_unsigned w32 z)) (int_term z)
+word_spelled : (z : ℤ) → FitsSigned w32 z → SpellsTerm (98 ∷ to_be_bytes w32 (cast_unsigned w32 z)) (int_term z)
 word_spelled z h =
-    subst (λ (y : ℤ). Spells (98 ∷ to_be_bytes w32 (cast_unsigned w32 z)) (int_term y)) (to_z-of_z w32 z h)
+    subst (λ (y : ℤ). SpellsTerm (98 ∷ to_be_bytes w32 (cast_unsigned w32 z)) (int_term y)) (to_z-of_z w32 z h)
     (integer_ext (to_be_bytes w32 (cast_unsigned w32 z)) (cast_unsigned w32 z) (word_of (cast_unsigned w32 z) (below_32 z h)))
 
 word_fits : (z : ℤ) → neg_ℤ (pos (2 ^ 31)) ≤ℤ z → z <ℤ pos (2 ^ 31) → FitsSigned w32 z
@@ -70,13 +70,13 @@ abs_is : (z : ℤ) → pos 0 ≤ℤ z → pos (unsigned_abs z) ≡ z
 abs_is (pos n) h = refl
 abs_is (negsuc n) h = absurd (omega (arith, ints, h))
 
-small_spelled : (z : ℤ) → pos 0 ≤ℤ z → Spells (97 ∷ unsigned_abs z ∷ []) (int_term z)
-small_spelled z h = subst (λ (y : ℤ). Spells (97 ∷ unsigned_abs z ∷ []) (int_term y)) (abs_is z h) (small_integer_ext (unsigned_abs z))
+small_spelled : (z : ℤ) → pos 0 ≤ℤ z → SpellsTerm (97 ∷ unsigned_abs z ∷ []) (int_term z)
+small_spelled z h = subst (λ (y : ℤ). SpellsTerm (97 ∷ unsigned_abs z ∷ []) (int_term y)) (abs_is z h) (small_integer_ext (unsigned_abs z))
 
 abbrev Integer : ℤ → List ℕ → Type 0
-Integer z bytes = Spells bytes (int_term z)
+Integer z bytes = SpellsTerm bytes (int_term z)
 
-integer_spelled : (z : ℤ) → IsSmall z → Spells (written_integer z) (int_term z)
+integer_spelled : (z : ℤ) → IsSmall z → SpellsTerm (written_integer z) (int_term z)
 integer_spelled z h =
     by_lt_z z (neg_ℤ (pos (2 ^ 31))) (λ k. subst (Integer z) (sym (big_below z k)) (big_spelled z h))
     (λ k. by_lt_z z (pos 0) (λ l. subst (Integer z) (sym (word_below z k l)) (word_spelled z (word_fits z k (omega (arith, ints, l)))))
@@ -94,7 +94,7 @@ atom_spelled text h = by (ltb (length text) 256)
     by true = small_atom_utf8_ext text h
     by false = atom_utf8_ext (to_be_bytes w16 (length text)) text (half_of (length text) (omega (arith, atom_short text h))) h
 
-pid_spelled : (node : List ℕ) (id serial creation : ℕ) → IsAtomText node → id < 2 ^ 32 → serial < 2 ^ 32 → creation < 2 ^ 32 → Spells (written_pid node id serial creation) (pid_term node id serial creation)
+pid_spelled : (node : List ℕ) (id serial creation : ℕ) → IsAtomText node → id < 2 ^ 32 → serial < 2 ^ 32 → creation < 2 ^ 32 → SpellsTerm (written_pid node id serial creation) (pid_term node id serial creation)
 unfolding written_pid
 pid_spelled node id serial creation h i s c =
     new_pid_ext (written_atom node) node (to_be_bytes w32 id) (to_be_bytes w32 serial) (to_be_bytes w32 creation) id serial creation (atom_spelled node h) (word_of id i) (word_of serial s) (word_of creation c)
@@ -105,7 +105,7 @@ words_spelled (word ∷ words) fit =
     one_word (to_be_bytes w32 word) (flat_map (to_be_bytes w32) words) word words (word_of word (All-head (λ w. w < 2 ^ 32) word words fit))
     (words_spelled words (All-tail (λ w. w < 2 ^ 32) word words fit))
 
-reference_spelled : (node : List ℕ) (creation : ℕ) (words : List ℕ) → IsAtomText node → creation < 2 ^ 32 → AreReferenceWords words → Spells (written_reference node creation words) (reference_term node creation words)
+reference_spelled : (node : List ℕ) (creation : ℕ) (words : List ℕ) → IsAtomText node → creation < 2 ^ 32 → AreReferenceWords words → SpellsTerm (written_reference node creation words) (reference_term node creation words)
 unfolding written_reference
 reference_spelled node creation words h c w =
     newer_reference_ext (to_be_bytes w16 (length words)) (written_atom node) node (to_be_bytes w32 creation) (flat_map (to_be_bytes w32) words) words creation
@@ -122,7 +122,7 @@ pairs_deep nil_term = omega arith
 pairs_deep (pair_term h t) = omega (arith, pairs_deep t)
 pairs_deep (tuple_term xs) = omega arith
 
-text_long : (t : TermValue) → length (text_of t) ≡ pair_count t
+text_long : (t : TermValue) → length (bytes_of_list t) ≡ pair_count t
 text_long (int_term n) = refl
 text_long (atom_term text) = refl
 text_long (reference_term node creation words) = refl
@@ -145,38 +145,38 @@ byte_is nil_term e = absurd cc
 byte_is (pair_term h t) e = absurd cc
 byte_is (tuple_term xs) e = absurd cc
 
-text_is : (t : TermValue) → is_text t ≡ true → list_of (map (λ byte. int_term (pos byte)) (text_of t)) ≡ t
+text_is : (t : TermValue) → is_byte_list t ≡ true → list_of (map (λ byte. int_term (pos byte)) (bytes_of_list t)) ≡ t
 text_is (int_term n) e = absurd cc
 text_is (atom_term text) e = absurd cc
 text_is (reference_term node creation words) e = absurd cc
 text_is (pid_term node id serial creation) e = absurd cc
 text_is nil_term e = refl
-text_is (pair_term h t) e = let k = both (is_byte h) (is_text t) e in λ i. pair_term (byte_is h k.0 i) (text_is t k.1 i)
+text_is (pair_term h t) e = let k = both (is_byte h) (is_byte_list t) e in λ i. pair_term (byte_is h k.0 i) (text_is t k.1 i)
 text_is (tuple_term xs) e = absurd cc
 
-list_spelled : (t : TermValue) (elements : List ℕ) (n : ℕ) → pair_count t ≡ suc n → depth_of t ≤ 4096 → SpellsList (suc n) elements t → Spells (written_list t elements) t
+list_spelled : (t : TermValue) (elements : List ℕ) (n : ℕ) → pair_count t ≡ suc n → depth_of t ≤ 4096 → SpellsList (suc n) elements t → SpellsTerm (written_list t elements) t
 unfolding written_list
-list_spelled t elements n c d s = by (is_text t && ltb (pair_count t) 65536) refl
+list_spelled t elements n c d s = by (is_byte_list t && ltb (pair_count t) 65536) refl
   where
-    by : (b : Bool) → (is_text t && ltb (pair_count t) 65536) ≡ b
-        → Spells (cond b (107 ∷ (to_be_bytes w16 (pair_count t) ++ text_of t)) (108 ∷ (to_be_bytes w32 (pair_count t) ++ elements))) t
+    by : (b : Bool) → (is_byte_list t && ltb (pair_count t) 65536) ≡ b
+        → SpellsTerm (cond b (107 ∷ (to_be_bytes w16 (pair_count t) ++ bytes_of_list t)) (108 ∷ (to_be_bytes w32 (pair_count t) ++ elements))) t
     by true e =
-        let k = both (is_text t) (ltb (pair_count t) 65536) e in
-        let half : IsHalf (to_be_bytes w16 (pair_count t)) (length (text_of t)) =
+        let k = both (is_byte_list t) (ltb (pair_count t) 65536) e in
+        let half : IsHalf (to_be_bytes w16 (pair_count t)) (length (bytes_of_list t)) =
         subst (λ (m : ℕ). IsHalf (to_be_bytes w16 (pair_count t)) m) (sym (text_long t)) (half_of (pair_count t) (omega (arith, pairs_deep t))) in
-        subst (λ (u : TermValue). Spells (107 ∷ (to_be_bytes w16 (pair_count t) ++ text_of t)) u) (text_is t k.0) (string_ext (to_be_bytes w16 (pair_count t)) (text_of t) half)
+        subst (λ (u : TermValue). SpellsTerm (107 ∷ (to_be_bytes w16 (pair_count t) ++ bytes_of_list t)) u) (text_is t k.0) (string_ext (to_be_bytes w16 (pair_count t)) (bytes_of_list t) half)
     by false e = list_ext (to_be_bytes w32 (pair_count t)) elements n t (subst (λ (m : ℕ). IsWord (to_be_bytes w32 (pair_count t)) m) c (word_of (pair_count t) (omega (arith, pairs_deep t)))) s
 
-tuple_spelled : (xs : Terms) (body : List ℕ) → count_of xs < 2 ^ 32 → SpellsAll body xs → Spells (tuple_front (count_of xs) ++ body) (tuple_term xs)
+tuple_spelled : (xs : Terms) (body : List ℕ) → count_of xs < 2 ^ 32 → SpellsAll body xs → SpellsTerm (tuple_front (count_of xs) ++ body) (tuple_term xs)
 unfolding tuple_front
 tuple_spelled xs body h s = by (ltb (count_of xs) 256)
   where
-    by : (b : Bool) → Spells (cond b (104 ∷ count_of xs ∷ []) (105 ∷ to_be_bytes w32 (count_of xs)) ++ body) (tuple_term xs)
+    by : (b : Bool) → SpellsTerm (cond b (104 ∷ count_of xs ∷ []) (105 ∷ to_be_bytes w32 (count_of xs)) ++ body) (tuple_term xs)
     by true = small_tuple_ext body xs s
     by false = large_tuple_ext (to_be_bytes w32 (count_of xs)) body xs (word_of (count_of xs) h) s
 
 mutual
-  pub part_spelled : (t : TermValue) → IsInRange t → depth_of t ≤ 4096 → Spells (written_part false t) t
+  pub part_spelled : (t : TermValue) → IsInRange t → depth_of t ≤ 4096 → SpellsTerm (written_part false t) t
   part_spelled (int_term n) h d = integer_spelled n h
   part_spelled (atom_term text) h d = utf8_atom (written_atom text) text (atom_spelled text h)
   part_spelled (reference_term node creation words) h d = reference_spelled node creation words h.0 h.1 h.2
@@ -203,5 +203,5 @@ mutual
   all_spelled no_terms h d = no_elements
   all_spelled (more_terms x xs) h d = one_element (written_part false x) (all_written xs) x xs (part_spelled x h.0 (omega arith)) (all_spelled xs h.1 (omega arith))
 
-pub written_spelled : (t : TermValue) → IsTerm t → IsExternal (written t) t
+pub written_spelled : (t : TermValue) → IsTerm t → IsExternal (external_bytes t) t
 written_spelled t h = record { body = written_part false t; versioned = refl; spelled = part_spelled t h.in_range h.shallow; shallow = h.shallow }

@@ -3,7 +3,7 @@ use Rattle.std.specs.Prelude.{◌≡◌, ◌≢◌, ℕ, ◌≤◌, List, [], �
 use Rattle.std.specs.Borrow.{Bor}
 use Rattle.beam_term.specs.TermValue.{TermValue}
 use Rattle.beam_model.specs.ExternalFault.{ExternalFault}
-use Rattle.beam_model.specs.ExternalReading.{below, whole_at, list_at, tuple_at}
+use Rattle.beam_model.specs.ExternalReading.{below, whole_at, external_list_at, external_tuple_at}
 use Rattle.beam_etf.specs.declared.error.EtfError.{EtfError}
 use Rattle.beam_etf.specs.declared.error.EtfError.TheVariants.{NoMemory}
 use Rattle.beam_etf.specs.declared.reading.Front.{Front}
@@ -19,8 +19,8 @@ Puts read rest old new (Err e) = e ≢ NoMemory → read ≡ Err (fault_of e)
 
 abbrev pub begins_with : ℕ → Front → List ℕ → Result (TermValue × List ℕ) ExternalFault
 begins_with room (front.Whole t) rest = Ok (t, rest)
-begins_with room (front.List count) rest = list_at (below room) room count rest
-begins_with room (front.Tuple count) rest = tuple_at (below room) room count rest
+begins_with room (front.List count) rest = external_list_at (below room) room count rest
+begins_with room (front.Tuple count) rest = external_tuple_at (below room) room count rest
 
 -- a list that is read has elements
 abbrev pub HasElements : Front → Type 0
@@ -35,6 +35,6 @@ BeginsWith room bytes (Err e) = e ≢ NoMemory → whole_at (below room) room by
 -- a whole term goes onto the stack; of a list and a tuple the parts are still to be read
 abbrev pub LeavesParts : ℕ → List ℕ → List ℕ → List TermValue → List TermValue → Result Parts EtfError → Type 0
 LeavesParts room bytes rest old new (Ok parts.None) = (t : TermValue) × (new ≡ old ++ t ∷ []) × (whole_at (below room) room bytes ≡ Ok (t, rest))
-LeavesParts room bytes rest old new (Ok (parts.List count)) = (new ≡ old) × (1 ≤ count) × (whole_at (below room) room bytes ≡ list_at (below room) room count rest)
-LeavesParts room bytes rest old new (Ok (parts.Tuple count)) = (new ≡ old) × (whole_at (below room) room bytes ≡ tuple_at (below room) room count rest)
+LeavesParts room bytes rest old new (Ok (parts.List count)) = (new ≡ old) × (1 ≤ count) × (whole_at (below room) room bytes ≡ external_list_at (below room) room count rest)
+LeavesParts room bytes rest old new (Ok (parts.Tuple count)) = (new ≡ old) × (whole_at (below room) room bytes ≡ external_tuple_at (below room) room count rest)
 LeavesParts room bytes rest old new (Err e) = e ≢ NoMemory → whole_at (below room) room bytes ≡ Err (fault_of e)

@@ -1,7 +1,7 @@
 // The fields of the format: numbers, bytes and the texts of atoms. Each answers the field and the bytes after it.
 ghost use Rattle.std.specs.Prelude.{◌≡◌, IfOk, length};
 ghost use Rattle.std.specs.Int.{w16, w32};
-ghost use Rattle.beam_model.specs.ExternalReading.{bytes_at, byte_at, number_at, text_at};
+ghost use Rattle.beam_model.specs.ExternalReading.{bytes_at, byte_at, big_endian_at, text_at};
 ghost use Rattle.beam_etf.specs.Faults.{Gives};
 
 use crate::error::EtfError;
@@ -29,9 +29,9 @@ pub fn read_byte(bytes: &[u8]) -> Result<(u8, &[u8]), EtfError>
     }
 }
 
-#[tactic(auto, unfolding(beam_model::specs::ExternalReading::number_at, beam_model::specs::ExternalReading::bytes_at))]
+#[tactic(auto, unfolding(beam_model::specs::ExternalReading::big_endian_at, beam_model::specs::ExternalReading::bytes_at))]
 pub fn read_u16(bytes: &[u8]) -> Result<(u16, &[u8]), EtfError>
-    ensures { Gives (λ x. (x.0, x.1.now)) result (number_at w16 bytes.now) }
+    ensures { Gives (λ x. (x.0, x.1.now)) result (big_endian_at w16 bytes.now) }
 {
     if bytes.len() < 2 {
         return Err(EtfError::Truncated);
@@ -40,9 +40,9 @@ pub fn read_u16(bytes: &[u8]) -> Result<(u16, &[u8]), EtfError>
     Ok((u16::from_be_bytes([field[0], field[1]]), rest))
 }
 
-#[tactic(auto, unfolding(beam_model::specs::ExternalReading::number_at, beam_model::specs::ExternalReading::bytes_at))]
+#[tactic(auto, unfolding(beam_model::specs::ExternalReading::big_endian_at, beam_model::specs::ExternalReading::bytes_at))]
 pub fn read_u32(bytes: &[u8]) -> Result<(u32, &[u8]), EtfError>
-    ensures { Gives (λ x. (x.0, x.1.now)) result (number_at w32 bytes.now) }
+    ensures { Gives (λ x. (x.0, x.1.now)) result (big_endian_at w32 bytes.now) }
 {
     if bytes.len() < 4 {
         return Err(EtfError::Truncated);

@@ -2,7 +2,7 @@
 ghost use Rattle.std.specs.Prelude.{◌≡◌, ◌≤◌, ◌^◌, MatchOption, IfOk, vec_len};
 ghost use Rattle.beam_term.specs.TermValue.{IsSmall};
 ghost use Rattle.beam_model.specs.External.{little};
-ghost use Rattle.beam_model.specs.ExternalReading.{big_at, small_atom_at, long_atom_at, atom_of, atom_at, pid_at, words_at, reference_at, leaf_at};
+ghost use Rattle.beam_model.specs.ExternalReading.{big_at, small_atom_at, long_atom_at, atom_of_form, external_atom_at, pid_at, words_at, reference_at, leaf_at};
 ghost use Rattle.beam_etf.specs.Faults.{Gives};
 
 use crate::error::EtfError;
@@ -73,9 +73,9 @@ fn read_long_atom(alloc: Global, bytes: &[u8]) -> Result<(Atom, &[u8]), EtfError
 }
 
 // An atom where one is wanted.
-#[tactic(auto, unfolding(beam_model::specs::ExternalReading::atom_at, beam_model::specs::ExternalReading::atom_of))]
+#[tactic(auto, unfolding(beam_model::specs::ExternalReading::external_atom_at, beam_model::specs::ExternalReading::atom_of_form))]
 fn read_atom(alloc: Global, bytes: &[u8]) -> Result<(Atom, &[u8]), EtfError>
-    ensures { Gives (λ x. (x.0, x.1.now)) result (atom_at bytes.now) }
+    ensures { Gives (λ x. (x.0, x.1.now)) result (external_atom_at bytes.now) }
 {
     let (tag, rest) = read_byte(bytes)?;
     match form_of(tag) {

@@ -4,7 +4,7 @@ ghost use Rattle.beam_term.specs.TermValue.{TermValue, list_before, tuple_of, de
 ghost use Rattle.beam_model.specs.External.{IsExternal};
 ghost use Rattle.beam_model.specs.ExternalFault.{HasExternalFault};
 ghost use Rattle.std.specs.Result.{IsOkUnless};
-ghost use Rattle.beam_model.specs.ExternalReading.{text_list, string_at, after_empty_lists, below, whole_at, tuple_at, list_at, external_at};
+ghost use Rattle.beam_model.specs.ExternalReading.{text_list, external_string_at, after_empty_lists, below, whole_at, external_tuple_at, external_list_at, external_at};
 ghost use Rattle.beam_etf.specs.Faults.{Gives, fault_of};
 ghost use Rattle.beam_etf.specs.Puts.{Puts, BeginsWith, HasElements, LeavesParts};
 
@@ -32,10 +32,10 @@ fn text_list(alloc: Global, text: &[u8]) -> Result<Term, TermError>
     Ok(list)
 }
 
-#[tactic(auto, unfolding(beam_model::specs::ExternalReading::string_at))]
+#[tactic(auto, unfolding(beam_model::specs::ExternalReading::external_string_at))]
 fn read_string(alloc: Global, room: u16, bytes: &[u8]) -> Result<(Term, &[u8]), EtfError>
     requires { room ≤ 4096 }
-    ensures { Gives (λ x. (x.0, x.1.now)) result (string_at room bytes.now) }
+    ensures { Gives (λ x. (x.0, x.1.now)) result (external_string_at room bytes.now) }
 {
     let (count, rest) = read_u16(bytes)?;
     if count > room {
@@ -65,7 +65,7 @@ enum Front {
     Tuple(u32),
 }
 
-#[tactic(auto, unfolding(beam_model::specs::ExternalReading::whole_at, beam_model::specs::ExternalReading::form_at))]
+#[tactic(auto, unfolding(beam_model::specs::ExternalReading::whole_at, beam_model::specs::ExternalReading::term_of_form))]
 fn read_front(alloc: Global, room: u16, bytes: &[u8]) -> Result<(Front, &[u8]), EtfError>
     requires { room ≤ 4096 }
     ensures front { BeginsWith room bytes.now result }
@@ -170,7 +170,7 @@ fn read(alloc: Global, room: u16, rest: &mut &[u8], done: &mut Vec<Term>) -> Res
 
 // Reads `count` elements and a tail, with one level of room less at each element, and puts their list onto the stack.
 #[cycle(read)]
-#[tactic(auto, unfolding(beam_model::specs::ExternalReading::list_at))]
+#[tactic(auto, unfolding(beam_model::specs::ExternalReading::external_list_at))]
 fn read_list(
     alloc: Global,
     room: u16,
@@ -180,7 +180,7 @@ fn read_list(
 ) -> Result<(), EtfError>
     requires shallow { room ≤ 4096 }
     requires some { 1 ≤ count }
-    ensures { Puts (list_at (below room) room count rest.old.now) rest.new.now done.old.items done.new.items result }
+    ensures { Puts (external_list_at (below room) room count rest.old.now) rest.new.now done.old.items done.new.items result }
 {
     if count > room as u32 {
         return Err(EtfError::TooDeep);
@@ -198,7 +198,7 @@ fn read_list(
 
 // Reads `count` elements, with one level of room less, and puts their tuple onto the stack.
 #[cycle(read)]
-#[tactic(auto, unfolding(beam_model::specs::ExternalReading::tuple_at))]
+#[tactic(auto, unfolding(beam_model::specs::ExternalReading::external_tuple_at))]
 fn read_tuple(
     alloc: Global,
     room: u16,
@@ -207,7 +207,7 @@ fn read_tuple(
     done: &mut Vec<Term>,
 ) -> Result<(), EtfError>
     requires { room ≤ 4096 }
-    ensures { Puts (tuple_at (below room) room count rest.old.now) rest.new.now done.old.items done.new.items result }
+    ensures { Puts (external_tuple_at (below room) room count rest.old.now) rest.new.now done.old.items done.new.items result }
 {
     if room == 0 {
         return Err(EtfError::TooDeep);

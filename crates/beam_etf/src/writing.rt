@@ -3,7 +3,7 @@ ghost use Rattle.std.specs.Prelude.{◌≡◌, ◌≤◌, ◌<◌, ◌^◌, ◌+
 ghost use Rattle.std.specs.Result.{IsOkUnless};
 ghost use Rattle.std.specs.Int.{w16, w32, to_be_bytes, cast_unsigned};
 ghost use Rattle.beam_term.specs.TermValue.{TermValue, IsTerm, terms_of, pair_term};
-ghost use Rattle.beam_model.specs.External.{byte_count, sign_of, written_big, written_integer, written_atom, written_pid, written_reference, tuple_front, is_byte, is_text, pair_count, text_of, written_part, all_written, written, IsExternal};
+ghost use Rattle.beam_model.specs.External.{byte_count, sign_of, written_big, written_integer, written_atom, written_pid, written_reference, tuple_front, is_byte, is_byte_list, pair_count, bytes_of_list, written_part, all_written, external_bytes, IsExternal};
 
 use crate::error::EtfError;
 use beam_term::{Atom, Pid, Reference, Term, TermView};
@@ -154,7 +154,7 @@ fn is_byte(term: &Term) -> bool
 // Whether it is a proper list of integers from 0 to 255.
 #[inline(never)]
 fn is_text(list: &Term) -> bool
-    ensures { result ≡ is_text list.now }
+    ensures { result ≡ is_byte_list list.now }
 {
     let mut rest = list;
     while let TermView::Pair(head, tail) = rest.view() {
@@ -184,8 +184,8 @@ fn pair_count(list: &Term) -> u32
 
 // The integers of a text, each as a byte.
 fn write_text(text: &Term, out: &mut Vec<u8>) -> Result<(), AllocError>
-    requires { IsTrue (is_text text.now) }
-    ensures { OnOk result (out.new.items ≡ out.old.items ++ text_of text.now) }
+    requires { IsTrue (is_byte_list text.now) }
+    ensures { OnOk result (out.new.items ≡ out.old.items ++ bytes_of_list text.now) }
 {
     let mut rest = text;
     while let TermView::Pair(head, tail) = rest.view() {
@@ -200,8 +200,8 @@ fn write_text(text: &Term, out: &mut Vec<u8>) -> Result<(), AllocError>
 // A text that is written as its bytes.
 #[inline(never)]
 fn write_string(list: &Term, out: &mut Vec<u8>) -> Result<(), AllocError>
-    requires { IsTrue (is_text list.now) }
-    ensures { OnOk result (out.new.items ≡ out.old.items ++ (107 ∷ (to_be_bytes w16 (pair_count list.now) ++ text_of list.now))) }
+    requires { IsTrue (is_byte_list list.now) }
+    ensures { OnOk result (out.new.items ≡ out.old.items ++ (107 ∷ (to_be_bytes w16 (pair_count list.now) ++ bytes_of_list list.now))) }
 {
     out.push(107)?;
     out.extend_from_slice(&(pair_count(list) as u16).to_be_bytes())?;
@@ -285,7 +285,7 @@ fn write_items(items: &[Term], out: &mut Vec<u8>) -> Result<(), AllocError>
 ///
 /// Source: External Term Format.
 pub fn write_term(term: &Term, out: &mut Vec<u8>) -> Result<(), EtfError>
-    ensures ok { OnOk result (out.new.items ≡ out.old.items ++ written term.now) }
+    ensures ok { OnOk result (out.new.items ≡ out.old.items ++ external_bytes term.now) }
     ensures unchanged { OnErr result (out.new.items ≡ out.old.items) }
     ensures memory { IsOkUnless result EtfError.NoMemory }
 {
@@ -298,5 +298,5 @@ pub fn write_term(term: &Term, out: &mut Vec<u8>) -> Result<(), EtfError>
 
 /// The bytes that are written for a term spell it, so that they are read as that term.
 pub fn written_again()
-    ensures { (t : TermValue) → IsTerm t → IsExternal (written t) t }
+    ensures { (t : TermValue) → IsTerm t → IsExternal (external_bytes t) t }
 {}

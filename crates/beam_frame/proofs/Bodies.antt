@@ -9,7 +9,7 @@ use Rattle.beam_term.specs.Order.{rank_of}
 use Rattle.beam_model.specs.ExternalFault.{ExternalFault}
 use Rattle.beam_model.specs.ExternalReading.{external_at}
 use Rattle.beam_model.specs.Native.{elements_in, put_before}
-use Rattle.beam_machine.specs.Frames.{only_term, term_read, term_in, fields_of, spawn_of, send_of, spot_of, atom_in}
+use Rattle.beam_machine.specs.Frames.{only_term, term_read, term_in, fields_of, spawn_of, send_of, spot_of, atom_in_body}
 
 empty_rest : (t : TermValue) (rest : List ℕ) → length rest ≡ 0 → only_term t rest ≡ Some t
 empty_rest t [] e = refl
@@ -105,18 +105,18 @@ none_before None = refl
 
 pub ruleset elements = (no_elements, put_before-append, none_before)
 
-pub atom_there : (body text atom : List ℕ) → text ≡ body → IsUtf8 body → (255 < length (chars text) → ⊥) → atom ≡ text → atom_in body ≡ Some atom
-unfolding atom_in
+pub atom_there : (body text atom : List ℕ) → text ≡ body → IsUtf8 body → (255 < length (chars text) → ⊥) → atom ≡ text → atom_in_body body ≡ Some atom
+unfolding atom_in_body
 atom_there body text atom same utf8 few is =
     let short : length (chars text) ≤ 255 = omega (arith, few) in
     let short_body : length (chars body) ≤ 255 = rw same at short in
     rw (is_utf8-from_IsUtf8 body utf8, le-ltb 255 (length (chars body)) short_body) (ap Some (sym (is ∙ same)))
 
-pub no_text : (body : List ℕ) → (IsUtf8 body → ⊥) → atom_in body ≡ None
-unfolding atom_in
+pub no_text : (body : List ℕ) → (IsUtf8 body → ⊥) → atom_in_body body ≡ None
+unfolding atom_in_body
 no_text body h = no_text_by (is_utf8 body) refl
   where
-    no_text_by : (b : Bool) → is_utf8 body ≡ b → atom_in body ≡ None
+    no_text_by : (b : Bool) → is_utf8 body ≡ b → atom_in_body body ≡ None
     no_text_by true e = absurd (h (IsUtf8-from_is_utf8 body e))
     no_text_by false e = rw e refl
 

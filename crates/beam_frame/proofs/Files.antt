@@ -3,7 +3,7 @@ use Rattle.std.proofs.Common.{◌≡◌, ℕ, suc, ◌-◌, ◌+◌, ◌≤◌, 
 use Rattle.std.specs.Prelude.{nat_lt}
 use Rattle.std.specs.Option.{option_map, option_and_then}
 use Rattle.std.proofs.lemmas.List.{append-nil}
-use Rattle.beam_machine.specs.Frames.{number_in, after_number, file_before, files_in}
+use Rattle.beam_machine.specs.Frames.{number_in_body, after_number, file_before, files_in}
 use Rattle.beam_frame.specs.Faults.{Misses}
 use Rattle.beam_frame.specs.Files.{sized_file}
 use Rattle.beam_frame.specs.declared.error.FrameError.{FrameError}
@@ -46,7 +46,7 @@ unfolding files_in
 goes_on front count i bytes file after total lt h so_far =
     let k : count - i ≡ suc (count - (i + 1)) = omega arith in
     let first : files_in (count - i) bytes ≡ option_map (λ files. file ∷ files) (files_in (count - (i + 1)) after) =
-    rw k (found_first (number_in 4 (take 4 bytes)) (files_in (count - (i + 1))) (drop 4 bytes) file after h) in
+    rw k (found_first (number_in_body 4 (take 4 bytes)) (files_in (count - (i + 1))) (drop 4 bytes) file after h) in
     let one : with_front front (files_in (count - i) bytes) ≡ with_front (front ++ file ∷ []) (files_in (count - (i + 1)) after) =
     rw first (regroup front file (files_in (count - (i + 1)) after)) in
     sym one ∙ so_far
@@ -57,7 +57,7 @@ none_ends : (front : List (List ℕ)) (count i : ℕ) (bytes : List ℕ) (total 
 unfolding files_in
 none_ends front count i bytes total lt h so_far =
     let k : count - i ≡ suc (count - (i + 1)) = omega arith in
-    let none : files_in (count - i) bytes ≡ None = rw k (missed_first (number_in 4 (take 4 bytes)) (files_in (count - (i + 1))) (drop 4 bytes) h) in
+    let none : files_in (count - i) bytes ≡ None = rw k (missed_first (number_in_body 4 (take 4 bytes)) (files_in (count - (i + 1))) (drop 4 bytes) h) in
     let one : with_front front (files_in (count - i) bytes) ≡ None = rw none refl in
     sym so_far ∙ one
 

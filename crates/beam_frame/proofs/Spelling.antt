@@ -27,16 +27,16 @@ use Rattle.beam_machine.specs.declared.debug.Version.TheVariants.{Current, Old}
 use Rattle.beam_machine.specs.declared.event.Event.TheVariants as event
 use Rattle.beam_machine.specs.declared.event.Mode.{Mode}
 use Rattle.beam_machine.specs.declared.event.Mode.TheVariants.{Strict, Soft, Hard}
-use Rattle.beam_machine.specs.Frames.{Command, IsNumber, names_process, version_text, spot_term, spot_at, mode_number, AreFiles, no_files, one_file, SpellsCommand, load, load_strict, delete, soft_purge, purge, spawn, send, steps, deliver, clock, timeout, set_break, clear_break, resume, step_one, inspect, versions, atomic_load, kind_of, atom_in, number_in, only_term, term_read, term_in, fields_of, fields_in, spawned, spawn_of, send_of, version_of, spot_of, steps_in, mode_of, after_number, file_before, files_in, atomic_load_in, command_in, command_of}
+use Rattle.beam_machine.specs.Frames.{Command, IsNumber, names_process, version_text, spot_term, spot_at, mode_number, AreFiles, no_files, one_file, SpellsCommand, load, load_strict, delete, soft_purge, purge, spawn, send, steps, deliver, clock, timeout, set_break, clear_break, resume, step_one, inspect, versions, atomic_load, kind_of, atom_in_body, number_in_body, only_term, term_read, term_in, fields_of, fields_in, spawned, spawn_of, send_of, version_of, spot_of, steps_in, mode_of, after_number, file_before, files_in, atomic_load_in, command_in, command_of}
 
 -- ---- a spelled command is read
 
-pub atom_again : (name : List ℕ) → IsAtomText name → atom_in name ≡ Some name
-unfolding atom_in
+pub atom_again : (name : List ℕ) → IsAtomText name → atom_in_body name ≡ Some name
+unfolding atom_in_body
 atom_again name h = rw (is_utf8-from_IsUtf8 name h.utf8, le-ltb 255 (length (chars name)) h.short) refl
 
-number_again : (count : ℕ) (field : List ℕ) (n : ℕ) → IsNumber count field n → number_in count field ≡ Some n
-unfolding number_in
+number_again : (count : ℕ) (field : List ℕ) (n : ℕ) → IsNumber count field n → number_in_body count field ≡ Some n
+unfolding number_in_body
 number_again count field n h = rw (eq-eqb (length field) count h.wide) (ap Some h.value)
 
 term_again : (body : List ℕ) (t : TermValue) → IsExternal body t → term_in body ≡ Some t
@@ -168,15 +168,15 @@ record AtomIs (body name : List ℕ) : Type 0 where
   is : name ≡ body
   lawful : IsAtomText body
 
-atom_is : (body name : List ℕ) → atom_in body ≡ Some name → AtomIs body name
-unfolding atom_in
+atom_is : (body name : List ℕ) → atom_in_body body ≡ Some name → AtomIs body name
+unfolding atom_in_body
 atom_is body name e =
     let t = if_some (is_utf8 body && not (nat_lt 255 (length (chars body)))) (Some body) name e in
     let p = and_true (is_utf8 body) (nat_lt 255 (length (chars body))) t.0 in
     record { is = sym (some_is body name t.1); lawful = record { utf8 = IsUtf8-from_is_utf8 body p.0; short = ltb-false 255 (length (chars body)) p.1 } }
 
-number_is : (count : ℕ) (body : List ℕ) (n : ℕ) → number_in count body ≡ Some n → IsNumber count body n
-unfolding number_in
+number_is : (count : ℕ) (body : List ℕ) (n : ℕ) → number_in_body count body ≡ Some n → IsNumber count body n
+unfolding number_in_body
 number_is count body n e =
     let t = if_some (eqb (length body) count) (Some (big_number count body)) n e in
     record { wide = eqb-true (length body) count t.0; value = some_is (big_number count body) n t.1 }
@@ -279,16 +279,16 @@ spot_in body s e =
     spot_is body p.0 s (fields_are body p.0 p.1) p.2
 
 by_atom : (n : ℕ) (make : List ℕ → Command) (body : List ℕ) (c : Command) → ((name : List ℕ) → IsAtomText name → SpellsCommand n name (make name))
-    → option_map make (atom_in body) ≡ Some c → SpellsCommand n body c
+    → option_map make (atom_in_body body) ≡ Some c → SpellsCommand n body c
 by_atom n make body c spells e =
-    let p = map_some make (atom_in body) c e in
+    let p = map_some make (atom_in_body body) c e in
     let a = atom_is body p.0 p.1 in
     subst (λ (d : Command). SpellsCommand n body d) (ap make (sym a.is) ∙ p.2) (spells body a.lawful)
 
 by_number : (n count : ℕ) (make : ℕ → Command) (body : List ℕ) (c : Command) → ((field : List ℕ) (m : ℕ) → IsNumber count field m → SpellsCommand n field (make m))
-    → option_map make (number_in count body) ≡ Some c → SpellsCommand n body c
+    → option_map make (number_in_body count body) ≡ Some c → SpellsCommand n body c
 by_number n count make body c spells e =
-    let p = map_some make (number_in count body) c e in
+    let p = map_some make (number_in_body count body) c e in
     subst (λ (d : Command). SpellsCommand n body d) p.2 (spells body p.0 (number_is count body p.0 p.1))
 
 by_spot : (n : ℕ) (make : Spot → Command) (body : List ℕ) (c : Command)
@@ -301,8 +301,8 @@ by_spot n make body c spells e =
 
 steps_is : (body : List ℕ) (c : Command) → steps_in body ≡ Some c → SpellsCommand 8 body c
 steps_is body c e =
-    let p = then_some (λ pid. option_map (λ rows. Node (event.Steps pid rows)) (number_in 4 (drop 4 body))) (number_in 4 (take 4 body)) c e in
-    let q = map_some (λ rows. Node (event.Steps p.0 rows)) (number_in 4 (drop 4 body)) c p.2 in
+    let p = then_some (λ pid. option_map (λ rows. Node (event.Steps pid rows)) (number_in_body 4 (drop 4 body))) (number_in_body 4 (take 4 body)) c e in
+    let q = map_some (λ rows. Node (event.Steps p.0 rows)) (number_in_body 4 (drop 4 body)) c p.2 in
     let both : SpellsCommand 8 (take 4 body ++ drop 4 body) (Node (event.Steps p.0 q.0)) =
     steps (take 4 body) (drop 4 body) p.0 q.0 (number_is 4 (take 4 body) p.0 p.1) (number_is 4 (drop 4 body) q.0 q.1) in
     subst (λ (b : List ℕ). SpellsCommand 8 b c) (take-append-drop 4 body) (subst (λ (d : Command). SpellsCommand 8 (take 4 body ++ drop 4 body) d) q.2 both)
@@ -328,7 +328,7 @@ files_are zero [] files e = subst (λ (files : List (List ℕ)). FilesAre zero [
 files_are zero (byte ∷ rest) files e = none_is files e
 files_are (suc n) bytes files e =
     let rest : List ℕ = drop 4 bytes in
-    let p = then_some (λ size. file_before (files_in n) size rest) (number_in 4 (take 4 bytes)) files e in
+    let p = then_some (λ size. file_before (files_in n) size rest) (number_in_body 4 (take 4 bytes)) files e in
     let size : ℕ = p.0 in
     let q = unless_some (nat_lt (length rest) size) (option_map (λ others. take size rest ∷ others) (files_in n (drop size rest))) files p.2 in
     let r = map_some (λ others. take size rest ∷ others) (files_in n (drop size rest)) files q.1 in
@@ -348,7 +348,7 @@ atomic_is [] c e = none_is c e
 atomic_is (n ∷ body) c e =
     let p = then_some (λ mode. option_map (λ files. Node (event.AtomicLoad mode files)) (after_number files_in body)) (mode_of n) c e in
     let q = map_some (λ files. Node (event.AtomicLoad p.0 files)) (after_number files_in body) c p.2 in
-    let r = then_some (λ count. files_in count (drop 4 body)) (number_in 4 (take 4 body)) q.0 q.1 in
+    let r = then_some (λ count. files_in count (drop 4 body)) (number_in_body 4 (take 4 body)) q.0 q.1 in
     let files = files_are r.0 (drop 4 body) q.0 r.2 in
     let field = number_is 4 (take 4 body) (length q.0) (r.1 ∙ ap Some (sym files.counts)) in
     let whole : SpellsCommand 18 (mode_number p.0 ∷ (take 4 body ++ drop 4 body)) (Node (event.AtomicLoad p.0 q.0)) =

@@ -6,7 +6,7 @@ use Rattle.std.specs.Str.{IsAscii}
 use Rattle.std.proofs.lemmas.Str.{IsUtf8-from_ascii, chars-IsAscii}
 use Rattle.beam_term.specs.Atom.{IsAtomText}
 use Rattle.beam_term.specs.TermValue.{int_term, atom_term, tuple_of, list_of, terms_of, no_terms}
-use Rattle.beam_model.specs.External.{written_integer, written_atom, small_atom_utf8_ext, Spells, utf8_atom, string_ext, small_tuple_ext, no_elements, one_element}
+use Rattle.beam_model.specs.External.{written_integer, written_atom, small_atom_utf8_ext, SpellsTerm, utf8_atom, string_ext, small_tuple_ext, no_elements, one_element}
 use Rattle.beam_machine.specs.declared.command.FrameFault.TheVariants.{TooLong, BadKind, BadCommand}
 use Rattle.beam_machine.specs.declared.command.Response.TheVariants as response
 use Rattle.beam_machine.specs.declared.debug.DebugEvent.TheVariants.{Node}
@@ -15,37 +15,37 @@ use Rattle.beam_machine.specs.declared.event.Mode.TheVariants.{Soft}
 use Rattle.beam_machine.specs.declared.event.Reply.TheVariants.{Ran, Started, Upgraded, Versions as InstancesOf}
 use Rattle.beam_machine.specs.declared.event.Then.TheVariants.{Ended}
 use Rattle.beam_frame.proofs.Spelling.{atom_again}
-use Rattle.beam_machine.specs.Frames.{SpellsCommand, spawn, kind_of, number_in, files_in, spelled, after_length, frame_in, one, fault, reply_body, frame_of, fault_frame}
+use Rattle.beam_machine.specs.Frames.{SpellsCommand, spawn, kind_of, number_in_body, files_in, command_or_fault, after_length, frame_in, one_frame, bad_frame, reply_body, frame_of, fault_frame}
 
-pub steps_frame : frame_in (0 ∷ 0 ∷ 0 ∷ 9 ∷ 8 ∷ 0 ∷ 0 ∷ 0 ∷ 1 ∷ 0 ∷ 0 ∷ 0 ∷ 100 ∷ []) ≡ one (Node (Steps 1 100)) []
-unfolding frame_in after_length kind_of number_in
+pub steps_frame : frame_in (0 ∷ 0 ∷ 0 ∷ 9 ∷ 8 ∷ 0 ∷ 0 ∷ 0 ∷ 1 ∷ 0 ∷ 0 ∷ 0 ∷ 100 ∷ []) ≡ one_frame (Node (Steps 1 100)) []
+unfolding frame_in after_length kind_of number_in_body
 steps_frame = refl
 
-pub upgrade_frame : frame_in (0 ∷ 0 ∷ 0 ∷ 17 ∷ 18 ∷ 1 ∷ 0 ∷ 0 ∷ 0 ∷ 2 ∷ 0 ∷ 0 ∷ 0 ∷ 1 ∷ 70 ∷ 0 ∷ 0 ∷ 0 ∷ 2 ∷ 79 ∷ 82 ∷ []) ≡ one (Node (AtomicLoad Soft ((70 ∷ []) ∷ (79 ∷ 82 ∷ []) ∷ []))) []
-unfolding frame_in after_length kind_of number_in files_in
+pub upgrade_frame : frame_in (0 ∷ 0 ∷ 0 ∷ 17 ∷ 18 ∷ 1 ∷ 0 ∷ 0 ∷ 0 ∷ 2 ∷ 0 ∷ 0 ∷ 0 ∷ 1 ∷ 70 ∷ 0 ∷ 0 ∷ 0 ∷ 2 ∷ 79 ∷ 82 ∷ []) ≡ one_frame (Node (AtomicLoad Soft ((70 ∷ []) ∷ (79 ∷ 82 ∷ []) ∷ []))) []
+unfolding frame_in after_length kind_of number_in_body files_in
 upgrade_frame = refl
 
-pub cut_file : frame_in (0 ∷ 0 ∷ 0 ∷ 11 ∷ 18 ∷ 0 ∷ 0 ∷ 0 ∷ 0 ∷ 1 ∷ 0 ∷ 0 ∷ 0 ∷ 2 ∷ 70 ∷ []) ≡ fault BadCommand
-unfolding frame_in after_length kind_of number_in files_in
+pub cut_file : frame_in (0 ∷ 0 ∷ 0 ∷ 11 ∷ 18 ∷ 0 ∷ 0 ∷ 0 ∷ 0 ∷ 1 ∷ 0 ∷ 0 ∷ 0 ∷ 2 ∷ 70 ∷ []) ≡ bad_frame BadCommand
+unfolding frame_in after_length kind_of number_in_body files_in
 cut_file = refl
 
-pub empty_frame : frame_in (0 ∷ 0 ∷ 0 ∷ 0 ∷ []) ≡ fault BadKind
+pub empty_frame : frame_in (0 ∷ 0 ∷ 0 ∷ 0 ∷ []) ≡ bad_frame BadKind
 unfolding frame_in after_length
 empty_frame = refl
 
-pub unknown_frame : frame_in (0 ∷ 0 ∷ 0 ∷ 1 ∷ 99 ∷ []) ≡ fault BadKind
+pub unknown_frame : frame_in (0 ∷ 0 ∷ 0 ∷ 1 ∷ 99 ∷ []) ≡ bad_frame BadKind
 unfolding frame_in after_length kind_of
 unknown_frame = refl
 
-pub long_frame : frame_in (0 ∷ 128 ∷ 0 ∷ 1 ∷ []) ≡ fault TooLong
+pub long_frame : frame_in (0 ∷ 128 ∷ 0 ∷ 1 ∷ []) ≡ bad_frame TooLong
 unfolding frame_in after_length
 long_frame = refl
 
-pub cut_body : frame_in (0 ∷ 0 ∷ 0 ∷ 8 ∷ 8 ∷ 0 ∷ 0 ∷ 0 ∷ 1 ∷ 0 ∷ 0 ∷ 0 ∷ []) ≡ fault BadCommand
-unfolding frame_in after_length kind_of number_in
+pub cut_body : frame_in (0 ∷ 0 ∷ 0 ∷ 8 ∷ 8 ∷ 0 ∷ 0 ∷ 0 ∷ 1 ∷ 0 ∷ 0 ∷ 0 ∷ []) ≡ bad_frame BadCommand
+unfolding frame_in after_length kind_of number_in_body
 cut_body = refl
 
-name : (text : List ℕ) → IsAtomText text → Spells (119 ∷ length text ∷ text) (atom_term text)
+name : (text : List ℕ) → IsAtomText text → SpellsTerm (119 ∷ length text ∷ text) (atom_term text)
 name text h = utf8_atom (119 ∷ length text ∷ text) text (small_atom_utf8_ext text h)
 
 ascii_t : IsAscii (codes "t")
@@ -67,14 +67,14 @@ lawful_t = lawful (codes "t") ascii_t (omega arith)
 lawful_sum : IsAtomText (codes "sum")
 lawful_sum = lawful (codes "sum") ascii_sum (omega arith)
 
-pub versions_frame : frame_in (0 ∷ 0 ∷ 0 ∷ 2 ∷ 17 ∷ 116 ∷ []) ≡ one (Node (Versions (codes "t"))) []
+pub versions_frame : frame_in (0 ∷ 0 ∷ 0 ∷ 2 ∷ 17 ∷ 116 ∷ []) ≡ one_frame (Node (Versions (codes "t"))) []
 unfolding frame_in after_length kind_of
-versions_frame = ap (λ o. spelled (option_map (λ name. Node (Versions name)) o) []) (atom_again (codes "t") lawful_t)
+versions_frame = ap (λ o. command_or_fault (option_map (λ name. Node (Versions name)) o) []) (atom_again (codes "t") lawful_t)
 
-four : Spells (107 ∷ 0 ∷ 1 ∷ 4 ∷ []) (list_of (int_term (pos 4) ∷ []))
+four : SpellsTerm (107 ∷ 0 ∷ 1 ∷ 4 ∷ []) (list_of (int_term (pos 4) ∷ []))
 four = string_ext (0 ∷ 1 ∷ []) (4 ∷ []) (record { wide = refl; value = refl })
 
-call : Spells (104 ∷ 3 ∷ 119 ∷ 1 ∷ 116 ∷ 119 ∷ 3 ∷ 115 ∷ 117 ∷ 109 ∷ 107 ∷ 0 ∷ 1 ∷ 4 ∷ []) (tuple_of (atom_term (codes "t") ∷ atom_term (codes "sum") ∷ list_of (int_term (pos 4) ∷ []) ∷ []))
+call : SpellsTerm (104 ∷ 3 ∷ 119 ∷ 1 ∷ 116 ∷ 119 ∷ 3 ∷ 115 ∷ 117 ∷ 109 ∷ 107 ∷ 0 ∷ 1 ∷ 4 ∷ []) (tuple_of (atom_term (codes "t") ∷ atom_term (codes "sum") ∷ list_of (int_term (pos 4) ∷ []) ∷ []))
 call = small_tuple_ext (119 ∷ 1 ∷ 116 ∷ 119 ∷ 3 ∷ 115 ∷ 117 ∷ 109 ∷ 107 ∷ 0 ∷ 1 ∷ 4 ∷ []) (terms_of (atom_term (codes "t") ∷ atom_term (codes "sum") ∷ list_of (int_term (pos 4) ∷ []) ∷ []))
     (one_element (119 ∷ 1 ∷ 116 ∷ []) (119 ∷ 3 ∷ 115 ∷ 117 ∷ 109 ∷ 107 ∷ 0 ∷ 1 ∷ 4 ∷ []) (atom_term (codes "t")) (terms_of (atom_term (codes "sum") ∷ list_of (int_term (pos 4) ∷ []) ∷ [])) (name (codes "t") lawful_t)
     (one_element (119 ∷ 3 ∷ 115 ∷ 117 ∷ 109 ∷ []) (107 ∷ 0 ∷ 1 ∷ 4 ∷ []) (atom_term (codes "sum")) (terms_of (list_of (int_term (pos 4) ∷ []) ∷ [])) (name (codes "sum") lawful_sum)

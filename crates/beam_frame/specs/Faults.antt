@@ -2,7 +2,7 @@
 use Rattle.std.specs.Prelude.{◌≡◌, ℕ, Option, Some, None, Result, Ok, Err}
 use Rattle.beam_machine.specs.declared.command.FrameFault.{FrameFault}
 use Rattle.beam_machine.specs.declared.command.FrameFault.TheVariants as faults
-use Rattle.beam_machine.specs.Frames.{Found, one, fault}
+use Rattle.beam_machine.specs.Frames.{FirstFrame, one_frame, bad_frame}
 use Rattle.beam_frame.specs.declared.error.FrameError.{FrameError}
 use Rattle.beam_frame.specs.declared.error.FrameError.TheVariants.{TooLong, BadKind, BadCommand, NoMemory, Failed}
 
@@ -41,15 +41,15 @@ Gives view (Ok x) read = read ≡ Some (view x)
 Gives view (Err e) read = Misses e read
 
 -- the frame at the front has a body of a known kind, whose reading may take memory
-abbrev pub HasBody : Found → Type 0
-HasBody (one c rest) = Unit {0}
-HasBody (fault faults.BadCommand) = Unit {0}
+abbrev pub HasBody : FirstFrame → Type 0
+HasBody (one_frame c rest) = Unit {0}
+HasBody (bad_frame faults.BadCommand) = Unit {0}
 HasBody found = ⊥
 
 -- the error is the fault of the frame at the front
-abbrev pub Tells : FrameError → Found → Type 0
-Tells TooLong found = found ≡ fault faults.TooLong
-Tells BadKind found = found ≡ fault faults.BadKind
-Tells BadCommand found = found ≡ fault faults.BadCommand
+abbrev pub Tells : FrameError → FirstFrame → Type 0
+Tells TooLong found = found ≡ bad_frame faults.TooLong
+Tells BadKind found = found ≡ bad_frame faults.BadKind
+Tells BadCommand found = found ≡ bad_frame faults.BadCommand
 Tells NoMemory found = HasBody found
 Tells Failed found = ⊥

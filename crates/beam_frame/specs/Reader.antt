@@ -1,7 +1,7 @@
 -- The state of a reader of frames.
 use Rattle.std.specs.Prelude.{◌≡◌, ℕ, zero, suc, Bool, true, false, List, [], ◌∷◌, ◌++◌, length}
 use Rattle.beam_machine.specs.declared.command.FrameFault.{FrameFault}
-use Rattle.beam_machine.specs.Frames.{Command, Found, none, one, fault, frame_in, at_fault, Stream, end_of, ended}
+use Rattle.beam_machine.specs.Frames.{Command, FirstFrame, no_frame, one_frame, bad_frame, frame_in, at_fault, Stream, stream_end, empty_stream}
 use Rattle.beam_frame.specs.declared.error.FrameError.{FrameError}
 use Rattle.beam_frame.specs.declared.error.FrameError.TheVariants.{Failed}
 use Rattle.beam_frame.specs.Faults.{Tells}
@@ -23,10 +23,10 @@ Answers e reader = (reader.failed ≡ false) × Tells e (frame_in reader.pending
 -- ---- a stream that comes in pieces
 
 -- the front that was found, with more bytes after its frame
-abbrev pub before_more : List ℕ → Found → Found
-before_more more none = none
-before_more more (one c rest) = one c (rest ++ more)
-before_more more (fault f) = fault f
+abbrev pub before_more : List ℕ → FirstFrame → FirstFrame
+before_more more no_frame = no_frame
+before_more more (one_frame c rest) = one_frame c (rest ++ more)
+before_more more (bad_frame f) = bad_frame f
 
 -- the rest once `next` answers no command: bytes without a whole frame, or a fault
 pub data Left : Type 0 where
@@ -40,10 +40,10 @@ pub record Told : Type 0 where
 abbrev pub told_after : Command → Told → Told
 told_after c told = record told { commands = c ∷ told.commands }
 
-abbrev pub tells : (List ℕ → Told) → List ℕ → Found → Told
-tells again bytes none = record { commands = []; left = waits bytes }
-tells again bytes (one c rest) = told_after c (again rest)
-tells again bytes (fault f) = record { commands = []; left = broken f }
+abbrev pub tells : (List ℕ → Told) → List ℕ → FirstFrame → Told
+tells again bytes no_frame = record { commands = []; left = waits bytes }
+tells again bytes (one_frame c rest) = told_after c (again rest)
+tells again bytes (bad_frame f) = record { commands = []; left = broken f }
 
 -- the answers of at most n calls of `next`
 unfoldable pub told_within : ℕ → List ℕ → Told
@@ -60,5 +60,5 @@ then_stream next commands (broken f) = record { commands = commands; end = at_fa
 
 -- the answers for a stream in pieces: each is fed after the rest of those before, and then `next` is called until it answers no command
 unfoldable pub stream_in : List (List ℕ) → List ℕ → Stream
-stream_in [] bytes = ended (end_of bytes)
+stream_in [] bytes = empty_stream (stream_end bytes)
 stream_in (piece ∷ pieces) bytes = then_stream (stream_in pieces) (told_of (bytes ++ piece)).commands (told_of (bytes ++ piece)).left

@@ -1,7 +1,7 @@
 //! Commands, read from the bodies of their frames.
 ghost use Rattle.std.specs.Prelude.{◌≡◌, IfOk, drop, option_and_then, take};
 ghost use Rattle.beam_model.specs.Native.{elements_in};
-ghost use Rattle.beam_machine.specs.Frames.{kind_of, atom_in, number_in, term_in, fields_of, fields_in, spawn_of, names_process, send_of, spot_number, version_of, spot_of, steps_in, mode_of, after_number, files_in, atomic_load_in, command_in};
+ghost use Rattle.beam_machine.specs.Frames.{kind_of, atom_in_body, number_in_body, term_in, fields_of, fields_in, spawn_of, names_process, send_of, spot_number, version_of, spot_of, steps_in, mode_of, after_number, files_in, atomic_load_in, command_in};
 ghost use Rattle.beam_frame.specs.Faults.{Gives};
 ghost use Rattle.beam_frame.specs.Files.{sized_file};
 
@@ -9,7 +9,7 @@ use crate::error::FrameError;
 use beam_etf::{EtfError, read_term};
 use beam_machine::command::{Bytes, Command, CommandKind};
 use beam_machine::debug::{DebugEvent, Spot, Version};
-use beam_machine::event::{Event, Images, Mode, Terms};
+use beam_machine::event::{Event, Images, Mode, SpawnArguments};
 use beam_term::{Atom, AtomError, Term, TermView};
 use byteorder::{BigEndian, ByteOrder};
 use std::alloc::Global;
@@ -50,9 +50,9 @@ fn file(alloc: Global, body: &[u8]) -> Result<Bytes, FrameError>
 }
 
 /// The name of a module: the whole body.
-#[tactic(auto, unfolding(beam_machine::specs::Frames::atom_in))]
+#[tactic(auto, unfolding(beam_machine::specs::Frames::atom_in_body))]
 fn atom(alloc: Global, body: &[u8]) -> Result<Atom, FrameError>
-    ensures { Gives (λ a. a) result (atom_in body.now) }
+    ensures { Gives (λ a. a) result (atom_in_body body.now) }
 {
     let Ok(text) = str::from_utf8(body) else {
         return Err(FrameError::BadCommand);
@@ -65,9 +65,9 @@ fn atom(alloc: Global, body: &[u8]) -> Result<Atom, FrameError>
 }
 
 /// A number in four bytes: the whole body.
-#[tactic(auto, unfolding(beam_machine::specs::Frames::number_in))]
+#[tactic(auto, unfolding(beam_machine::specs::Frames::number_in_body))]
 fn number(body: &[u8]) -> Result<u32, FrameError>
-    ensures { Gives (λ n. n) result (number_in 4 body.now) }
+    ensures { Gives (λ n. n) result (number_in_body 4 body.now) }
 {
     if body.len() != 4 {
         return Err(FrameError::BadCommand);
@@ -76,9 +76,9 @@ fn number(body: &[u8]) -> Result<u32, FrameError>
 }
 
 /// A time in eight bytes: the whole body.
-#[tactic(auto, unfolding(beam_machine::specs::Frames::number_in))]
+#[tactic(auto, unfolding(beam_machine::specs::Frames::number_in_body))]
 fn time(body: &[u8]) -> Result<u64, FrameError>
-    ensures { Gives (λ n. n) result (number_in 8 body.now) }
+    ensures { Gives (λ n. n) result (number_in_body 8 body.now) }
 {
     if body.len() != 8 {
         return Err(FrameError::BadCommand);
@@ -156,7 +156,7 @@ fn spawn_of(alloc: Global, fields: &[Term]) -> Result<Command, FrameError>
     let Some(function) = function.as_atom() else {
         return Err(FrameError::BadCommand);
     };
-    let Some(arguments) = Terms::new(elements(alloc, arguments)?) else {
+    let Some(arguments) = SpawnArguments::new(elements(alloc, arguments)?) else {
         return Err(FrameError::BadCommand);
     };
     Ok(DebugEvent::Node(Event::Spawn {
@@ -272,7 +272,7 @@ fn mode_of(number: u8) -> Result<Mode, FrameError>
 
 /// The number in the first four bytes, and the bytes after it.
 fn number_before(bytes: &[u8]) -> Result<(u32, &[u8]), FrameError>
-    ensures number { Gives (λ p. p.0) result (number_in 4 (take 4 bytes.now)) }
+    ensures number { Gives (λ p. p.0) result (number_in_body 4 (take 4 bytes.now)) }
     ensures rest { IfOk result (λ p. p.1.now ≡ drop 4 bytes.now) }
 {
     let (field, rest) = bytes.split_at(bytes.len().min(4));

@@ -10,7 +10,7 @@ ghost use Rattle.beam_machine.specs.declared.event.Event.TheVariants.{AtomicLoad
 ghost use Rattle.beam_machine.specs.declared.event.Mode.TheVariants.{Soft};
 ghost use Rattle.beam_machine.specs.declared.event.Reply.TheVariants.{Ran, Started, Upgraded, Versions as InstancesOf};
 ghost use Rattle.beam_machine.specs.declared.event.Then.TheVariants.{Ended};
-ghost use Rattle.beam_machine.specs.Frames.{Command, SpellsCommand, command_of, frame_in, none, one, fault, at_fault, end_of, ended, with_command, stream_of, reply_body, frame_of, fault_frame};
+ghost use Rattle.beam_machine.specs.Frames.{Command, SpellsCommand, command_of, frame_in, no_frame, one_frame, bad_frame, at_fault, stream_end, empty_stream, with_command, stream_of, reply_body, frame_of, fault_frame};
 ghost use Rattle.beam_frame.specs.Reader.{before_more, stream_in};
 
 /// The command that is read from a kind and a body is the one that they spell.
@@ -25,11 +25,11 @@ pub fn one_command()
 
 /// The frame that is found at the front of bytes is found also with any bytes after it, and is the first of their stream.
 pub fn found_first()
-    ensures stays { (bytes more : List ℕ) → frame_in bytes ≢ none → frame_in (bytes ++ more) ≡ before_more more (frame_in bytes) }
-    ensures none { (bytes : List ℕ) → frame_in bytes ≡ none → stream_of bytes ≡ ended (end_of bytes) }
-    ensures one { (bytes : List ℕ) (c : Command) (rest : List ℕ) → frame_in bytes ≡ one c rest
+    ensures stays { (bytes more : List ℕ) → frame_in bytes ≢ no_frame → frame_in (bytes ++ more) ≡ before_more more (frame_in bytes) }
+    ensures none { (bytes : List ℕ) → frame_in bytes ≡ no_frame → stream_of bytes ≡ empty_stream (stream_end bytes) }
+    ensures one { (bytes : List ℕ) (c : Command) (rest : List ℕ) → frame_in bytes ≡ one_frame c rest
         → stream_of bytes ≡ with_command c (stream_of rest) }
-    ensures fault { (bytes : List ℕ) (f : FrameFault) → frame_in bytes ≡ fault f → stream_of bytes ≡ ended (at_fault f) }
+    ensures fault { (bytes : List ℕ) (f : FrameFault) → frame_in bytes ≡ bad_frame f → stream_of bytes ≡ empty_stream (at_fault f) }
 {}
 
 /// However a stream is cut into pieces, the commands that `next` answers after each piece are together those of the whole stream, and
@@ -42,17 +42,17 @@ pub fn any_pieces()
 /// files; a length of 0, a kind 99, a length of 8,388,609, a pid and a count of rows in seven bytes, and a file of two bytes of which
 /// one is there.
 pub fn worked_frames()
-    ensures steps { frame_in (0 ∷ 0 ∷ 0 ∷ 9 ∷ 8 ∷ 0 ∷ 0 ∷ 0 ∷ 1 ∷ 0 ∷ 0 ∷ 0 ∷ 100 ∷ []) ≡ one (Node (Steps 1 100)) [] }
-    ensures versions { frame_in (0 ∷ 0 ∷ 0 ∷ 2 ∷ 17 ∷ 116 ∷ []) ≡ one (Node (Versions (codes "t"))) [] }
+    ensures steps { frame_in (0 ∷ 0 ∷ 0 ∷ 9 ∷ 8 ∷ 0 ∷ 0 ∷ 0 ∷ 1 ∷ 0 ∷ 0 ∷ 0 ∷ 100 ∷ []) ≡ one_frame (Node (Steps 1 100)) [] }
+    ensures versions { frame_in (0 ∷ 0 ∷ 0 ∷ 2 ∷ 17 ∷ 116 ∷ []) ≡ one_frame (Node (Versions (codes "t"))) [] }
     ensures spawn { SpellsCommand 6 (131 ∷ 104 ∷ 3 ∷ 119 ∷ 1 ∷ 116 ∷ 119 ∷ 3 ∷ 115 ∷ 117 ∷ 109 ∷ 107 ∷ 0 ∷ 1 ∷ 4 ∷ [])
         (Node (Spawn (codes "t") (codes "sum") (int_term (pos 4) ∷ []))) }
     ensures upgrade { frame_in (0 ∷ 0 ∷ 0 ∷ 17 ∷ 18 ∷ 1 ∷ 0 ∷ 0 ∷ 0 ∷ 2 ∷ 0 ∷ 0 ∷ 0 ∷ 1 ∷ 70 ∷ 0 ∷ 0 ∷ 0 ∷ 2 ∷ 79 ∷ 82 ∷ [])
-        ≡ one (Node (AtomicLoad Soft ((70 ∷ []) ∷ (79 ∷ 82 ∷ []) ∷ []))) [] }
-    ensures empty { frame_in (0 ∷ 0 ∷ 0 ∷ 0 ∷ []) ≡ fault BadKind }
-    ensures kind { frame_in (0 ∷ 0 ∷ 0 ∷ 1 ∷ 99 ∷ []) ≡ fault BadKind }
-    ensures long { frame_in (0 ∷ 128 ∷ 0 ∷ 1 ∷ []) ≡ fault TooLong }
-    ensures cut { frame_in (0 ∷ 0 ∷ 0 ∷ 8 ∷ 8 ∷ 0 ∷ 0 ∷ 0 ∷ 1 ∷ 0 ∷ 0 ∷ 0 ∷ []) ≡ fault BadCommand }
-    ensures cut_file { frame_in (0 ∷ 0 ∷ 0 ∷ 11 ∷ 18 ∷ 0 ∷ 0 ∷ 0 ∷ 0 ∷ 1 ∷ 0 ∷ 0 ∷ 0 ∷ 2 ∷ 70 ∷ []) ≡ fault BadCommand }
+        ≡ one_frame (Node (AtomicLoad Soft ((70 ∷ []) ∷ (79 ∷ 82 ∷ []) ∷ []))) [] }
+    ensures empty { frame_in (0 ∷ 0 ∷ 0 ∷ 0 ∷ []) ≡ bad_frame BadKind }
+    ensures kind { frame_in (0 ∷ 0 ∷ 0 ∷ 1 ∷ 99 ∷ []) ≡ bad_frame BadKind }
+    ensures long { frame_in (0 ∷ 128 ∷ 0 ∷ 1 ∷ []) ≡ bad_frame TooLong }
+    ensures cut { frame_in (0 ∷ 0 ∷ 0 ∷ 8 ∷ 8 ∷ 0 ∷ 0 ∷ 0 ∷ 1 ∷ 0 ∷ 0 ∷ 0 ∷ []) ≡ bad_frame BadCommand }
+    ensures cut_file { frame_in (0 ∷ 0 ∷ 0 ∷ 11 ∷ 18 ∷ 0 ∷ 0 ∷ 0 ∷ 0 ∷ 1 ∷ 0 ∷ 0 ∷ 0 ∷ 2 ∷ 70 ∷ []) ≡ bad_frame BadCommand }
 {}
 
 /// Worked replies: 22 rows, after which the process ended with reason normal and value 10; process 1 was started; instance 1 is

@@ -1,6 +1,6 @@
 //! Commands of a stream that comes in pieces.
 ghost use Rattle.std.specs.Prelude.{◌≡◌, ◌≤◌, ◌++◌, ◌↔◌, ◌⊎◌, [], List, ℕ, length, drop, true, false, IfOk, IfErr, IfSome, OnOk, OnErr, IsErrOf, IsTrue, MatchOption, None};
-ghost use Rattle.beam_machine.specs.Frames.{frame_in, after_length, framed, none, one, fault};
+ghost use Rattle.beam_machine.specs.Frames.{frame_in, after_length, frame_content, no_frame, one_frame, bad_frame};
 ghost use Rattle.beam_frame.specs.Faults.{Tells};
 ghost use Rattle.beam_frame.specs.Reader.{Reader, waiting, Answers};
 
@@ -17,8 +17,8 @@ pub(crate) const LONGEST_FRAME: usize = 8_388_608;
 /// The command of the first frame, and how many bytes the frame takes; none while the frame isn't whole.
 #[tactic(auto, unfolding(beam_machine::specs::Frames::frame_in, beam_machine::specs::Frames::after_length))]
 fn read_frame(alloc: Global, bytes: &[u8]) -> Result<Option<(Command, usize)>, FrameError>
-    ensures found { IfOk result (λ o. MatchOption o (frame_in bytes.now ≡ none)
-        (λ p. (p.1 ≤ length bytes.now) × (frame_in bytes.now ≡ one p.0 (drop p.1 bytes.now)))) }
+    ensures found { IfOk result (λ o. MatchOption o (frame_in bytes.now ≡ no_frame)
+        (λ p. (p.1 ≤ length bytes.now) × (frame_in bytes.now ≡ one_frame p.0 (drop p.1 bytes.now)))) }
     ensures fault { IfErr result (λ e. Tells e (frame_in bytes.now)) }
 {
     if bytes.len() < 4 {
@@ -129,8 +129,8 @@ impl FrameReader {
     /// `NoMemory` where memory is refused for the command. `Failed` exactly after an error.
     pub fn next(&mut self) -> Result<Option<Command>, FrameError>
         ensures found { IfOk result (λ o. IfSome o (λ c. (rest : List ℕ) × (self.old.failed ≡ false)
-            × (frame_in self.old.pending ≡ one c rest) × (self.new ≡ waiting rest))) }
-        ensures none { IfOk result (λ o. o ≡ None → (self.old.failed ≡ false) × (frame_in self.old.pending ≡ none) × (self.new ≡ self.old)) }
+            × (frame_in self.old.pending ≡ one_frame c rest) × (self.new ≡ waiting rest))) }
+        ensures none { IfOk result (λ o. o ≡ None → (self.old.failed ≡ false) × (frame_in self.old.pending ≡ no_frame) × (self.new ≡ self.old)) }
         ensures fault { IfErr result (λ e. Answers e self.old) }
         ensures failed { OnErr result (self.new ≡ record self.old { failed = true }) }
     {

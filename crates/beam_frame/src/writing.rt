@@ -1,7 +1,7 @@
 //! Replies as frames.
 ghost use Rattle.std.specs.Prelude.{◌≡◌, ◌≤◌, ◌<◌, ◌^◌, ◌++◌, ◌∷◌, [], length, ◌⊎◌, OnOk, OnErr, IfErr, IsErrOf};
 ghost use Rattle.std.specs.List.{flat_map};
-ghost use Rattle.beam_model.specs.External.{written};
+ghost use Rattle.beam_model.specs.External.{external_bytes};
 ghost use Rattle.beam_machine.specs.declared.command.Response.TheVariants.{Node};
 ghost use Rattle.std.specs.Result.{IsOkUnless};
 ghost use Rattle.byteorder.specs.Endian.{big_bytes};
@@ -28,7 +28,7 @@ fn put_number(out: &mut Vec<u8>, number: u32) -> Result<(), FrameError>
 
 /// Adds a term as external term with its version byte.
 fn put_term(out: &mut Vec<u8>, term: &Term) -> Result<(), FrameError>
-    ensures ok { OnOk result (out.new.items ≡ out.old.items ++ written term.now) }
+    ensures ok { OnOk result (out.new.items ≡ out.old.items ++ external_bytes term.now) }
     ensures memory { IsOkUnless result FrameError.NoMemory }
 {
     match write_term(term, out) {

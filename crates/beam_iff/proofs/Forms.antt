@@ -9,7 +9,7 @@ use Rattle.std.proofs.lemmas.List.{append-nil, take_at, take-append-drop, length
 use Rattle.std.proofs.lemmas.Slice.Eq.{bytes_eq-Decides}
 use Rattle.byteorder.specs.Endian.{big_number}
 use Rattle.beam_model.specs.Form.{Form, FormFault, Chunk, not_form, truncated, compressed_file, ◌>>=◌, agree, size_at, content_at, chunk_at, once, with_chunk, with_chunks, empty_form, form_at}
-use Rattle.beam_model.specs.FormLaws.{goes_on, is_done}
+use Rattle.beam_model.specs.FormLaws.{after_chunk, is_done}
 use Rattle.beam_model.specs.ChunkForm.{IsWord, AreChunks, contents_of, IsForm}
 use Rattle.beam_iff.proofs.EachChunk.{guard_ok, bind_ok, ok_is, four, chunk_told, chunk_read, Added, Adds, contents_by, contents_more, added_on}
 
@@ -290,7 +290,7 @@ chunks_read [] limit form total bytes none a le =
 chunks_read (chunk ∷ chunks) limit form total bytes (front, padding, rest, parts, is, pads, others) a le =
     let n = next form total chunk chunks a in
     let at : chunk_at bytes ≡ Ok (chunk, rest) = ap chunk_at parts ∙ chunk_read chunk front padding rest is pads in
-    let on = goes_on limit form n.mid bytes rest chunk (with_chunks limit form bytes) at n.is le refl in
+    let on = after_chunk limit form n.mid bytes rest chunk (with_chunks limit form bytes) at n.is le refl in
     sym on.2 ∙ chunks_read chunks on.0 n.mid total rest others n.adds on.1
 
 -- ---- the form

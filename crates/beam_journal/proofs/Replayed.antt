@@ -7,7 +7,7 @@ use Rattle.beam_model.specs.Listing.{Listing}
 use Rattle.beam_machine.specs.State.{empty}
 use Rattle.beam_machine.specs.View.{View}
 use Rattle.beam_machine.specs.Debug.{Debugged, DebugAnswer, debug_next, debug_run, undisturbed}
-use Rattle.beam_machine.specs.DebugRun.{debug_cut, is_quiet_debug_event}
+use Rattle.beam_machine.specs.DebugRun.{debug_cut_event, is_quiet_debug_event}
 use Rattle.beam_machine.specs.Journal.{Entry, IsLawful, replay}
 use Rattle.beam_journal.specs.Entering.{Sending, Accepts, Accepted, entry_of, sending_of, reply_in, answered_from, entries_of, takes_memory}
 
@@ -61,10 +61,10 @@ answered_more d (x ∷ ss) s =
 
 -- the entries after one more sending
 pub entries_more : (ss : List Sending) (event : DebugEvent Listing) (seat : Option ℕ) (reply : DebugReply View) → Accepts (replay (entries_of ss)) event reply
-    → entries_of (ss ++ record { event = debug_cut event (Ok reply); seat = seat } ∷ []) ≡ entries_of ss ++ entry_of event seat reply ∷ []
+    → entries_of (ss ++ record { event = debug_cut_event event (Ok reply); seat = seat } ∷ []) ≡ entries_of ss ++ entry_of event seat reply ∷ []
 entries_more ss event seat reply accepts =
-    answered_more (undisturbed empty) ss (record { event = debug_cut event (Ok reply); seat = seat })
-    ∙ ap (λ (a : DebugAnswer). entries_of ss ++ record { event = debug_cut event (Ok reply); seat = seat; reply = reply_in a } ∷ []) accepts
+    answered_more (undisturbed empty) ss (record { event = debug_cut_event event (Ok reply); seat = seat })
+    ∙ ap (λ (a : DebugAnswer). entries_of ss ++ record { event = debug_cut_event event (Ok reply); seat = seat; reply = reply_in a } ∷ []) accepts
 
 sendings_from : (d : Debugged) (ss : List Sending) → map sending_of (answered_from d ss) ≡ ss
 sendings_from d [] = refl

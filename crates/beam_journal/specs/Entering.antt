@@ -6,7 +6,7 @@ use Rattle.beam_machine.specs.declared.debug.DebugReply.TheVariants.{Node}
 use Rattle.beam_machine.specs.declared.event.Reply.TheVariants.{Done}
 use Rattle.beam_model.specs.Listing.{Listing}
 use Rattle.beam_machine.specs.Debug.{Debugged, DebugAnswer, debug_next, undisturbed}
-use Rattle.beam_machine.specs.DebugRun.{debug_cut, is_quiet_debug_event}
+use Rattle.beam_machine.specs.DebugRun.{debug_cut_event, is_quiet_debug_event}
 use Rattle.beam_machine.specs.Journal.{Entry}
 use Rattle.beam_machine.specs.State.{empty}
 use Rattle.beam_machine.specs.View.{View}
@@ -23,11 +23,11 @@ most_entries = 16777216
 
 -- in this state the node accepts the event with this reply, which may say that an allocation failure cut it
 abbrev pub Accepts : Debugged → DebugEvent Listing → DebugReply View → Type 0
-Accepts d event reply = (debug_next d (debug_cut event (Ok reply))).answer ≡ Ok reply
+Accepts d event reply = (debug_next d (debug_cut_event event (Ok reply))).answer ≡ Ok reply
 
 -- the event as its reply cuts it, the seat that sent it, and the reply
 abbrev pub entry_of : DebugEvent Listing → Option ℕ → DebugReply View → Entry
-entry_of event seat reply = record { event = debug_cut event (Ok reply); seat = seat; reply = reply }
+entry_of event seat reply = record { event = debug_cut_event event (Ok reply); seat = seat; reply = reply }
 
 -- in this state the node accepts the event
 abbrev pub Accepted : Debugged → DebugEvent Listing → Type 0

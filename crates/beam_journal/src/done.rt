@@ -1,8 +1,8 @@
 //! What is executed of an event if memory is refused in the middle of it.
 ghost use Rattle.std.specs.Prelude.{◌≡◌, Ok, true, false};
 ghost use Rattle.beam_machine.specs.Debug.{Debugged};
-ghost use Rattle.beam_machine.specs.Run.{granted};
-ghost use Rattle.beam_machine.specs.DebugRun.{debug_cut, is_quiet_debug_event};
+ghost use Rattle.beam_machine.specs.Run.{effective_rows};
+ghost use Rattle.beam_machine.specs.DebugRun.{debug_cut_event, is_quiet_debug_event};
 ghost use Rattle.beam_debug.specs.Answers.{said};
 
 use beam_debug::outcome::Outcome;
@@ -12,7 +12,7 @@ use beam_machine::event::{Event, Reply, Then};
 
 /// How many rows were executed of those that were asked for.
 fn rows_done(rows: u32, count: u32, then: &Then) -> u32
-    ensures { result ≡ granted rows count then.now }
+    ensures { result ≡ effective_rows rows count then.now }
 {
     match then {
         Then::GoesOn => {
@@ -29,7 +29,7 @@ fn rows_done(rows: u32, count: u32, then: &Then) -> u32
 
 /// The event as it was executed: a `Steps` that was cut has the rows that the reply counts.
 pub(crate) fn as_done(event: DebugEvent<Image>, reply: &Outcome) -> DebugEvent<Image>
-    ensures { result ≡ debug_cut event (Ok (said reply.now)) }
+    ensures { result ≡ debug_cut_event event (Ok (said reply.now)) }
 {
     match (event, reply) {
         (DebugEvent::Node(Event::Steps { pid, rows }), Outcome::Node(Reply::Ran { count, then })) =>
@@ -43,7 +43,7 @@ pub(crate) fn as_done(event: DebugEvent<Image>, reply: &Outcome) -> DebugEvent<I
 
 /// Whether `Steps` was cut: fewer rows were executed than asked, since memory was refused.
 pub(crate) fn is_cut(event: &DebugEvent<Image>, reply: &Outcome) -> bool
-    ensures whole { result ≡ false → debug_cut event.now (Ok (said reply.now)) ≡ event.now }
+    ensures whole { result ≡ false → debug_cut_event event.now (Ok (said reply.now)) ≡ event.now }
     ensures rows { (d : Debugged) → result ≡ true → is_quiet_debug_event d event.now ≡ false }
 {
     match (event, reply) {

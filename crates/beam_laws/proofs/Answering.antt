@@ -15,7 +15,7 @@ use Rattle.beam_machine.specs.Change.{IsHome, AreHome}
 use Rattle.beam_machine.specs.Process.{Process, is_ended, started, own_pid, own_reference}
 use Rattle.beam_machine.specs.Row.{own_number}
 use Rattle.beam_machine.specs.State.{process_of, with_process, alive, live_process, registered, posted_to, posted}
-use Rattle.beam_machine.specs.NodeNative.{Answered, answer, fault, most_processes, spawns, spawns_with, is_free, names, registers, unnames, unregisters, is_alive, signalled, sends_named, most_references, makes_reference, or_noproc, watching, monitored, monitors_by, answer_of}
+use Rattle.beam_machine.specs.NodeNative.{Answered, answer, fault, most_processes, spawns, spawns_with, is_free, names, registers, unnames, unregisters, is_alive, posted_if_own, sends_named, most_references, makes_reference, or_noproc, put_monitor, monitored, monitors_by, answer_of}
 
 -- ---- the list of processes
 
@@ -60,7 +60,7 @@ posted_to_home code ps pid signal (Some p) h i = set_home code ps (pid - 1) (rec
 pub posted_home : (code : Code) (ps : List Process) (pid : ℕ) (signal : Signal) → AreHome code ps → AreHome code (posted ps pid signal)
 posted_home code ps pid signal h = posted_to_home code ps pid signal (live_process ps pid) h (live_home code ps pid h)
 
-signalled_home : (code : Code) (ps : List Process) (o : Option ℕ) (signal : Signal) → AreHome code ps → AreHome code (signalled ps o signal)
+signalled_home : (code : Code) (ps : List Process) (o : Option ℕ) (signal : Signal) → AreHome code ps → AreHome code (posted_if_own ps o signal)
 signalled_home code ps None signal h = h
 signalled_home code ps (Some pid) signal h = posted_home code ps pid signal h
 
@@ -106,7 +106,7 @@ unregisters_home code ps (Some pid) h = unnames_home code ps pid (live_process p
 
 -- ---- references and monitors
 
-watching_home : (code : Code) (ps : List Process) (caller n : ℕ) (watched : TermValue) (o : Option Process) → AreHome code ps → IsHomeIf code o → AreHome code (watching ps caller n watched o)
+watching_home : (code : Code) (ps : List Process) (caller n : ℕ) (watched : TermValue) (o : Option Process) → AreHome code ps → IsHomeIf code o → AreHome code (put_monitor ps caller n watched o)
 watching_home code ps caller n watched None h i = h
 watching_home code ps caller n watched (Some p) h i = set_home code ps (caller - 1) _ h i
 

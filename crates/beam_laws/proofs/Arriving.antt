@@ -14,7 +14,7 @@ use Rattle.beam_machine.specs.declared.process.Status.TheVariants.{Running}
 use Rattle.beam_machine.specs.Process.{Process, is_running, is_ended, own_reference}
 use Rattle.beam_machine.specs.Row.{Outcome, makes, sends, asks, sleeps, arguments_of, answers, outcome}
 use Rattle.beam_machine.specs.State.{State, process_of, with_process, alive, posted, with_made}
-use Rattle.beam_machine.specs.NodeNative.{Answered, fault, most_references, or_noproc, watching, keeping, monitored, monitors_by, answer_of}
+use Rattle.beam_machine.specs.NodeNative.{Answered, fault, most_references, or_noproc, put_monitor, with_new_monitor, monitored, monitors_by, answer_of}
 use Rattle.beam_machine.specs.Next.{Rows, raised, continues, goes_on_with, done_by, row, running, row_and, steps, next}
 use Rattle.beam_machine.specs.Private.{Sent}
 use Rattle.beam_laws.specs.Private.{having, heard}
@@ -148,15 +148,15 @@ module _ (pid : ℕ) where
   grown_asked xs q o g = (g.0, (having g.0 (q.transit ++ xs) q).monitors, g.1)
 
   watched_asked : (ps : List Process) (n : ℕ) (watched : TermValue) (xs : List Signal) (q : Process) → is_ended q.status ≡ false → Grown xs (Some q) (process_of ps pid)
-      → Asked xs q (process_of (keeping ps pid n watched) pid)
+      → Asked xs q (process_of (with_new_monitor ps pid n watched) pid)
   watched_asked ps n watched xs q lives g =
       let x : Process = having g.0 (q.transit ++ xs) q in
       let on : is_ended x.status ≡ false = ap is_ended (having_status g.0 (q.transit ++ xs) q) ∙ lives in
       let ms : List MonitorValue = x.monitors ++ record { reference = n; pid = watched } ∷ [] in (
         g.0,
         ms,
-        ap (λ o. process_of (watching ps pid n watched (alive o)) pid) g.1
-            ∙ (ap (λ o. process_of (watching ps pid n watched o) pid) (alive_of x on) ∙ put_here ps pid x (record x { monitors = ms }) g.1),
+        ap (λ o. process_of (put_monitor ps pid n watched (alive o)) pid) g.1
+            ∙ (ap (λ o. process_of (put_monitor ps pid n watched o) pid) (alive_of x on) ∙ put_here ps pid x (record x { monitors = ms }) g.1),
       )
 
   noproc_asked : (ps : List Process) (n : ℕ) (watched : TermValue) (q : Process) → process_of ps pid ≡ Some q → is_ended q.status ≡ false

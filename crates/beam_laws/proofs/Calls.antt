@@ -29,7 +29,7 @@ use Rattle.beam_laws.proofs.Places.{IsLivePlace, GoesHome, FramesHome, IsDeadlin
 use Rattle.beam_machine.specs.Process.{Process, read, read_x, put_x, dropped, words_of, own_pid, bared}
 use Rattle.beam_machine.specs.declared.callee.After.{After}
 use Rattle.beam_machine.specs.declared.callee.After.TheVariants.{NextRow, Return}
-use Rattle.beam_machine.specs.Row.{Outcome, makes, sends, asks, sleeps, returns_to, returns_from, returns, follows, answers, changed_by, answers_true, arguments_of, enters, framed, pushes, calls, calls_only, after_dropping, applies, callee_at, chosen, selects, size_chosen, selects_size, controls, own_number, sends_own, sends_to, peeks, with_message_at, waits, Duration, forever, milliseconds, duration_of, sleeps_at, sleeps_for, waits_for, waits_with, message_rows, perform, performs, outcome_at, outcome, goes_on, goes_to, faults, illegal, exits, finds_message}
+use Rattle.beam_machine.specs.Row.{Outcome, makes, sends, asks, sleeps, returns_to, returns_from, returns, follows, answers, changed_by, answers_true, arguments_of, enters, with_new_frame, pushes, calls, calls_only, after_dropping, applies, callee_at, chosen, selects, size_chosen, selects_size, controls, own_number, sends_own, sends_to, peeks, with_message_at, waits, Duration, forever, milliseconds, duration_of, sleeps_at, sleeps_for, waits_for, waits_with, message_rows, perform, performs, outcome_at, outcome, goes_on, goes_to, faults, illegal, exits, finds_message}
 use Rattle.beam_laws.proofs.Demonitoring.{answers_keep}
 use Rattle.beam_laws.proofs.Lookups.{entry_live}
 use Rattle.beam_laws.proofs.Registers.{WholeIf, raises_home, faults_home, illegal_home, dropped_whole, bared_whole}
@@ -80,8 +80,8 @@ enters_home code p (Some place) s l = (l, s)
 
 pushes_home : (code : Code) (p : Process) (does : Process → Process) (back : Place) → Stands code p → Live code back → ((q : Process) → Stands code q → Whole code (does q)) → Whole code (pushes p does back)
 pushes_home code p does back s l h =
-    elim (nat_lt (words_of p.frames) 65536) as (λ c. Whole code (cond c (does (framed p back)) (faults p SystemLimit))) [
-      | true ↦ h (framed p back) (s.0, ((l, tt), s.1))
+    elim (nat_lt (words_of p.frames) 65536) as (λ c. Whole code (cond c (does (with_new_frame p back)) (faults p SystemLimit))) [
+      | true ↦ h (with_new_frame p back) (s.0, ((l, tt), s.1))
       | false ↦ faults_home code p SystemLimit s
     ]
 

@@ -10,7 +10,7 @@ use Rattle.beam_machine.specs.Process.{Process, is_running, is_ended}
 use Rattle.beam_machine.specs.Row.{Outcome, makes, sends, asks, sleeps, outcome}
 use Rattle.beam_machine.specs.State.{State, process_of, with_process, alive, live_process, posted_to, posted, hearing_by}
 use Rattle.beam_machine.specs.Next.{Rows, put_process, made_process, done_by, row, one_more, running, row_and, steps}
-use Rattle.beam_machine.specs.Private.{Private, End, at_limit, after_row, before_node_row, stops, first, first_sending, private_by, private_rows}
+use Rattle.beam_machine.specs.Private.{Private, End, at_limit, after_row, before_node_row, stops, with_first_row, with_first_sending, private_by, private_rows}
 use Rattle.beam_laws.specs.Private.{having, posted_all, after_private, before}
 use Rattle.beam_laws.proofs.Ending.{alive_is}
 use Rattle.beam_laws.proofs.Numbered.{positive, put_same, put_put, put_commutes, put_here, put_elsewhere, alive_of, gone}
@@ -109,13 +109,13 @@ over_rows code (suc n) q over = (after_row, ap (λ b. cond b (private_by (privat
 
 makes_commits : (code : Code) (n pid m : ℕ) → Commits code n pid m → (s : State) (p q : Process) → s.code ≡ code → process_of s.processes pid ≡ Some p
     → ((k : ℕ) → steps s pid (suc k) ≡ one_more (steps (done_by s pid (makes q)) pid k))
-    → Runs s pid ((private_rows code n q).count + 1) (after_private s pid (first (private_rows code n q))) m
+    → Runs s pid ((private_rows code n q).count + 1) (after_private s pid (with_first_row (private_rows code n q))) m
 makes_commits code n pid m commits s p q c e first_row = go (is_ended q.status) refl
   where
-    go : (b : Bool) → is_ended q.status ≡ b → Runs s pid ((private_rows code n q).count + 1) (after_private s pid (first (private_rows code n q))) m
+    go : (b : Bool) → is_ended q.status ≡ b → Runs s pid ((private_rows code n q).count + 1) (after_private s pid (with_first_row (private_rows code n q))) m
     go true over =
         let none = over_rows code n q over in
-        subst (λ (rows : Private). Runs s pid (rows.count + 1) (after_private s pid (first rows)) m) (sym none.1)
+        subst (λ (rows : Private). Runs s pid (rows.count + 1) (after_private s pid (with_first_row rows)) m) (sym none.1)
         (then_more s (made_process s pid q) (made_process s pid q) pid 0 m first_row (none_run (made_process s pid q) pid m))
     go false lives =
         let rows : Private = private_rows code n q in
@@ -131,11 +131,11 @@ from_post : (code : Code) (n pid m : ℕ) → Commits code n pid m → (s : Stat
     → process_of (posted (with_process s.processes pid q) to signal) pid ≡ Some x → is_ended x.status ≡ false → private_rows code n x ≡ record rows { process = r } → r.status ≡ rows.process.status
     → with_process (posted (with_process s.processes pid q) to signal) pid r ≡ posted (with_process (with_process s.processes pid q) pid rows.process) to signal
     → ((k : ℕ) → steps s pid (suc k) ≡ one_more (steps (done_by s pid (sends q to signal)) pid k))
-    → Runs s pid (rows.count + 1) (after_private s pid (first_sending (record { to = to; signal = signal }) rows)) m
+    → Runs s pid (rows.count + 1) (after_private s pid (with_first_sending (record { to = to; signal = signal }) rows)) m
 from_post code n pid m commits s p q x r to signal rows c there lives same stands put first_row =
     let ps : List Process = with_process s.processes pid q in
     let u : State = with_processes s (posted ps to signal) in
-    let after : State = after_private s pid (first_sending (record { to = to; signal = signal }) rows) in
+    let after : State = after_private s pid (with_first_sending (record { to = to; signal = signal }) rows) in
     let again : with_process ps pid rows.process ≡ with_process s.processes pid rows.process = put_put s.processes pid q rows.process in
     let reached : after_private u pid (record rows { process = r }) ≡ after =
     ap (λ qs. with_processes s (hearing_by pid r.status (posted_all qs rows.sent))) (put ∙ ap (λ qs. posted qs to signal) again)
@@ -148,7 +148,7 @@ from_post code n pid m commits s p q x r to signal rows c there lives same stand
 sends_commits : (code : Code) (n pid m : ℕ) → Commits code n pid m → (s : State) (p q : Process) (to : ℕ) (signal : Signal) (b : Bool) → (pid == to) ≡ b
     → s.code ≡ code → process_of s.processes pid ≡ Some p → is_ended q.status ≡ false
     → ((k : ℕ) → steps s pid (suc k) ≡ one_more (steps (done_by s pid (sends q to signal)) pid k))
-    → Runs s pid ((private_rows code n q).count + 1) (after_private s pid (first_sending (record { to = to; signal = signal }) (private_rows code n q))) m
+    → Runs s pid ((private_rows code n q).count + 1) (after_private s pid (with_first_sending (record { to = to; signal = signal }) (private_rows code n q))) m
 sends_commits code n pid m commits s p q to signal false ne c e lives first_row =
     let ps : List Process = with_process s.processes pid q in
     let here : process_of ps pid ≡ Some q = put_here s.processes pid p q e in
@@ -168,7 +168,7 @@ sends_commits code n pid m commits s p q to signal true is c e lives first_row =
     ap (λ qs. with_process qs pid r) posts ∙ (put_put ps pid x r ∙ own_commutes ps pid signal q rows.process (is_ended rows.process.status) refl here (rows_keep code n q)) in
     let there : process_of (posted ps pid signal) pid ≡ Some x = ap (λ qs. process_of qs pid) posts ∙ put_here ps pid q x here in
     let row_to : (k : ℕ) → steps s pid (suc k) ≡ one_more (steps (done_by s pid (sends q pid signal)) pid k) = subst (λ to. (k : ℕ) → steps s pid (suc k) ≡ one_more (steps (done_by s pid (sends q to signal)) pid k)) (sym own_to) first_row in
-    subst (λ to. Runs s pid (rows.count + 1) (after_private s pid (first_sending (record { to = to; signal = signal }) rows)) m) own_to
+    subst (λ to. Runs s pid (rows.count + 1) (after_private s pid (with_first_sending (record { to = to; signal = signal }) rows)) m) own_to
     (from_post code n pid m commits s p q x r pid signal rows c there lives unread (having_status q.name x.transit rows.process) put row_to)
 
 row_commits : (code : Code) (n pid m : ℕ) → Commits code n pid m → (s : State) (p : Process) (o : Outcome) → s.code ≡ code → process_of s.processes pid ≡ Some p → is_ended p.status ≡ false

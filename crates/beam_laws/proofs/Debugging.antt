@@ -20,7 +20,7 @@ use Rattle.beam_machine.specs.Process.{Process, is_waiting, then_of}
 use Rattle.beam_machine.specs.State.{State, process_of, live_process}
 use Rattle.beam_machine.specs.Next.{Answer, Next, Rows, next, one_more, ran, ran_to, refused, row, row_and, running, steps, next_steps}
 use Rattle.beam_machine.specs.Run.{run}
-use Rattle.beam_machine.specs.Debug.{Debugged, DebugAnswer, DebugNext, undisturbed, is_among, is_live_process, is_at_spot, with_pid, without_pid, with_spot, without_spot, after_rows, Halting, no_rows, and_one, halts_or, halting, refuses, replies, settled, answered, of_node, halted, halts, debug_steps, held_at, stepped, debug_step_one, debug_resume, debug_set, debug_clear, debug_inspect, place_named, debug_next, debug_run, rows_told, steps_of, erased, erase}
+use Rattle.beam_machine.specs.Debug.{Debugged, DebugAnswer, DebugNext, undisturbed, is_among, is_live_process, is_at_spot, with_pid, without_pid, with_spot, without_spot, after_rows, Halting, no_rows, and_one, halts_or, halting, refuses, replies, pruned, answered, of_node, halted, halts, debug_steps, held_at, stepped, debug_step_one, debug_resume, debug_set, debug_clear, debug_inspect, place_named, debug_next, debug_run, rows_of_answer, steps_of, erased, erase}
 use Rattle.beam_laws.proofs.Refusing.{refusal, steps_longer, stays, there}
 use Rattle.beam_laws.proofs.Sending.{steps_state}
 
@@ -77,38 +77,38 @@ either d events true x y h k = h
 either d events false x y h k = k
 
 halts_erased : (d : Debugged) (pid n : ℕ) (h : Halting) (o : Option Process) → steps d.node pid h.rows.count ≡ h.rows
-    → Erased d (steps_of pid (rows_told (halted d pid h o).answer)) (halted d pid h o)
+    → Erased d (steps_of pid (rows_of_answer (halted d pid h o).answer)) (halted d pid h o)
 halts_erased d pid n h None e = refl
 halts_erased d pid n h (Some p) e = by h.stopped
   where
-    by : (b : Bool) → Erased d (steps_of pid (rows_told (halted d pid (record h { stopped = b }) (Some p)).answer)) (halted d pid (record h { stopped = b }) (Some p))
+    by : (b : Bool) → Erased d (steps_of pid (rows_of_answer (halted d pid (record h { stopped = b }) (Some p)).answer)) (halted d pid (record h { stopped = b }) (Some p))
     by true = told_state d.node pid h.rows.count ∙ ap (λ rows. rows.state) e
     by false = told_state d.node pid h.rows.count ∙ ap (λ rows. rows.state) e
 
-steps_erased : (d : Debugged) (pid n : ℕ) (o : Option Process) → Erased d (steps_of pid (rows_told (debug_steps d pid n o).answer)) (debug_steps d pid n o)
+steps_erased : (d : Debugged) (pid n : ℕ) (o : Option Process) → Erased d (steps_of pid (rows_of_answer (debug_steps d pid n o).answer)) (debug_steps d pid n o)
 steps_erased d pid n None = refl
 steps_erased d pid n (Some p) =
     let h : Halting = halting d.spots (is_among pid d.passing) d.node pid n in
-    either d (λ a. steps_of pid (rows_told a)) (is_among pid d.held) _ _ refl
-    (either d (λ a. steps_of pid (rows_told a)) (is_waiting p.status) _ _ refl
+    either d (λ a. steps_of pid (rows_of_answer a)) (is_among pid d.held) _ _ refl
+    (either d (λ a. steps_of pid (rows_of_answer a)) (is_waiting p.status) _ _ refl
     (halts_erased d pid n h (process_of h.rows.state.processes pid) (halting_rows n d.spots (is_among pid d.passing) d.node pid)))
 
-told_held : (count : ℕ) (then' : Then) → rows_told (Ok (held_at count then')) ≡ count
+told_held : (count : ℕ) (then' : Then) → rows_of_answer (Ok (held_at count then')) ≡ count
 told_held count GoesOn = refl
 told_held count Waits = refl
 told_held count (Ended reason value) = refl
 
 stepped_erased : (d : Debugged) (pid : ℕ) (rows : Rows) (o : Option Process) → steps d.node pid rows.count ≡ rows
-    → Erased d (steps_of pid (rows_told (stepped d pid rows o).answer)) (stepped d pid rows o)
+    → Erased d (steps_of pid (rows_of_answer (stepped d pid rows o).answer)) (stepped d pid rows o)
 stepped_erased d pid rows None e = refl
 stepped_erased d pid rows (Some p) e =
     ap (λ c. (run d.node (steps_of pid c)).state) (told_held rows.count (then_of p.status)) ∙ (told_state d.node pid rows.count ∙ ap (λ r. r.state) e)
 
-step_one_erased : (d : Debugged) (pid : ℕ) (o : Option Process) → Erased d (steps_of pid (rows_told (debug_step_one d pid o).answer)) (debug_step_one d pid o)
+step_one_erased : (d : Debugged) (pid : ℕ) (o : Option Process) → Erased d (steps_of pid (rows_of_answer (debug_step_one d pid o).answer)) (debug_step_one d pid o)
 step_one_erased d pid None = refl
 step_one_erased d pid (Some p) =
     let rows : Rows = steps d.node pid 1 in
-    either d (λ a. steps_of pid (rows_told a)) (is_among pid d.held && not (is_waiting p.status)) _ _
+    either d (λ a. steps_of pid (rows_of_answer a)) (is_among pid d.held && not (is_waiting p.status)) _ _
     (stepped_erased d pid rows (process_of rows.state.processes pid) (counted 1 d.node pid)) refl
 
 -- an event of the node
@@ -194,7 +194,7 @@ ran_as : (s : State) (pid : ℕ) (p : Process) (rows : Rows) (o : Option Process
     → halted (undisturbed s) pid (whole rows) o ≡ of_node (undisturbed s) (ran_to rows o)
 ran_as s pid p rows None e some = absurd (some e)
 ran_as s pid p rows (Some q) e some =
-    ap (λ (ps : List ℕ). record { answer = Ok (Node (Ran rows.count (then_of q.status))); state = settled (record { node = rows.state; spots = []; held = []; passing = ps }) })
+    ap (λ (ps : List ℕ). record { answer = Ok (Node (Ran rows.count (then_of q.status))); state = pruned (record { node = rows.state; spots = []; held = []; passing = ps }) })
     (none_passing pid (nat_lt 0 rows.count))
 
 steps_as : (s : State) (pid n : ℕ) (o : Option Process) → live_process s.processes pid ≡ o → debug_steps (undisturbed s) pid n o ≡ of_node (undisturbed s) (next_steps s pid n o)
@@ -232,7 +232,7 @@ kept test (x ∷ xs) = kept_by test x (filter test xs) (test x) refl (kept test 
 abbrev Settled : Debugged → Type 0
 Settled d = AllByRecursion (λ (spot : Place). is_live d.node.code spot.instance ≡ true) d.spots × AllByRecursion (λ (pid : ℕ). is_live_process d.node pid ≡ true) d.held
 
-settles : (d : Debugged) → Settled (settled d)
+settles : (d : Debugged) → Settled (pruned d)
 settles d = (kept (λ (spot : Place). is_live d.node.code spot.instance) d.spots, kept (is_live_process d.node) d.held)
 
 one_of : (b : Bool) (x y : DebugNext) → Settled x.state → Settled y.state → Settled (cond b x y).state

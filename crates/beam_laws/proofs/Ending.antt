@@ -20,7 +20,7 @@ use Rattle.beam_machine.specs.declared.callee.After.{After}
 use Rattle.beam_machine.specs.Row.{Outcome, makes, sends, asks, sleeps, answers, outcome, own_number, arguments_of}
 use Rattle.beam_machine.specs.State.{State, process_of, with_process, alive, live_process, registered, posted_to, posted, with_signals, downs, hearing_by}
 use Rattle.beam_machine.specs.Change.{lingers, old_of, lingers_in_old, lingers_in_olds, pids_of, ends_or_hears, killing}
-use Rattle.beam_machine.specs.NodeNative.{Answered, answer, fault, most_processes, spawns_with, names, registers, unnames, unregisters, is_alive, signalled, sends_named, most_references, makes_reference, or_noproc, watching, monitored, answer_of}
+use Rattle.beam_machine.specs.NodeNative.{Answered, answer, fault, most_processes, spawns_with, names, registers, unnames, unregisters, is_alive, posted_if_own, sends_named, most_references, makes_reference, or_noproc, put_monitor, monitored, answer_of}
 use Rattle.beam_machine.specs.Next.{Rows, raised, delivered, continues, done_by, row, running, row_and, steps, next}
 use Rattle.beam_machine.specs.Run.{run}
 use Rattle.beam_machine.specs.Touch.{Touch, touch_of, Touches, stays, in_turn, loads, deletes, ends, purges, runs, arrives, times_out, ticks, posts, starts}
@@ -141,7 +141,7 @@ module _ (pid : ℕ) (p : Process) (over : is_ended p.status ≡ true) (nowhere 
   unregisters_stays ps None h = h
   unregisters_stays ps (Some at) h = unnames_stays ps at (live_process ps at) refl h
 
-  signalled_stays : (ps : List Process) (o : Option ℕ) (signal : Signal) → Stays ps → Stays (signalled ps o signal)
+  signalled_stays : (ps : List Process) (o : Option ℕ) (signal : Signal) → Stays ps → Stays (posted_if_own ps o signal)
   signalled_stays ps None signal h = h
   signalled_stays ps (Some to) signal h = posted_stays ps to signal (live_process ps to) refl h
 
@@ -150,7 +150,7 @@ module _ (pid : ℕ) (p : Process) (over : is_ended p.status ≡ true) (nowhere 
   sends_stays ps (Some to) message h = posted_stays ps to (Message message) (live_process ps to) refl h
 
   -- the caller keeps one monitor more
-  watching_stays : (ps : List Process) (caller n : ℕ) (watched : TermValue) (o : Option Process) → live_process ps caller ≡ o → Stays ps → Stays (watching ps caller n watched o)
+  watching_stays : (ps : List Process) (caller n : ℕ) (watched : TermValue) (o : Option Process) → live_process ps caller ≡ o → Stays ps → Stays (put_monitor ps caller n watched o)
   watching_stays ps caller n watched None e h = h
   watching_stays ps caller n watched (Some x) e h = live_stays ps caller x _ e h
 

@@ -43,14 +43,14 @@ use Rattle.beam_machine.specs.declared.process.Goes.{Goes}
 use Rattle.beam_machine.specs.declared.process.Goes.TheVariants.{At, Enter, Nowhere}
 use Rattle.beam_machine.specs.declared.process.Status.TheVariants.{Running, Waiting}
 use Rattle.beam_model.specs.Place.{Place}
-use Rattle.beam_model.specs.Exception.{clause_exception, end_of}
+use Rattle.beam_model.specs.Exception.{clause_exception, exit_reason}
 use Rattle.beam_model.specs.Mailbox.{message_at, with_next, with_removed}
 use Rattle.beam_model.specs.declared.native.ProcessNative.{ProcessNative}
-use Rattle.beam_model.specs.Native.{compares, is_of_type, truth, made, nullary_value, unary_value, binary_value, native_value, class_in}
+use Rattle.beam_model.specs.Native.{compares, is_of_type, truth, limited_term, nullary_value, unary_value, binary_value, native_value, class_in}
 use Rattle.beam_machine.specs.Callee.{callee_named}
 use Rattle.beam_machine.specs.Code.{Code, step_of, entry_of}
 use Rattle.beam_machine.specs.Process.{Process, is_ended, ended, normal, read, read_x, read_all, put, put_x, put_y, put_slots, with_slots, without_slots, dropped, words_of, own_pid, bared}
-use Rattle.beam_machine.specs.Row.{Outcome, makes, sends, asks, sleeps, tag_of, caught_at, unwound, raises, faults, illegal, goes_on, goes_to, changes, stores, stores_made, stores_second, stores_two, decides, has_size, is_tagged, with_one, with_two, tests, fails, stores_computed, computes, held_in, splits, opens, put_elements, stores_tuple, updates_record, moves, allocates_in, trims_in, trims, cleared, stacks, tags, traced, raises_again, raises_raw, catches, handles, catch_rows, returns_to, returns_from, returns, follows, answers, changed_by, answers_true, arguments_of, enters, framed, pushes, calls, calls_only, after_dropping, applies, callee_at, chosen, selects, size_chosen, selects_size, controls, own_number, sends_own, sends_to, peeks, with_message_at, settled, waits, Duration, forever, milliseconds, duration_of, sleeps_at, sleeps_for, waits_for, waits_with, message_rows, perform, performs, outcome_at, outcome, exits, finds_message}
+use Rattle.beam_machine.specs.Row.{Outcome, makes, sends, asks, sleeps, tag_of, caught_at, unwound, raises, faults, illegal, goes_on, goes_to, changes, stores, stores_made, stores_second, stores_two, decides, has_size, is_tagged, with_one, with_two, tests, fails, stores_computed, computes, held_in, splits, opens, put_elements, stores_tuple, updates_record, moves, allocates_in, trims_in, trims_newest, cleared, stacks, tags, traced, raises_again, raises_raw, catches, handles, catch_rows, returns_to, returns_from, returns, follows, answers, changed_by, answers_true, arguments_of, enters, with_new_frame, pushes, calls, calls_only, after_dropping, applies, callee_at, chosen, selects, size_chosen, selects_size, controls, own_number, sends_own, sends_to, peeks, with_message_at, waits_for_message, waits, Duration, forever, milliseconds, duration_of, sleeps_at, sleeps_for, waits_for, waits_with, message_rows, perform, performs, outcome_at, outcome, exits, finds_message}
 pub use Rattle.beam_laws.specs.Orderly.{Ends, Follows}
 use Rattle.beam_laws.proofs.Demonitoring.{answers_keep}
 
@@ -90,7 +90,7 @@ module _ (pid : ℕ) (name : Option (List ℕ)) (R : List Monitor → Type 0) (n
   caught p e frames otherwise (Some tag) k h = lives (record p { frames = frames; goes = At tag.place; pending = Some e }) k
 
   unwinds : (p : Process) (e : Exception) (frames : List Frame) → On p → Right (unwound p e frames)
-  unwinds p e [] k = ends p (end_of e) nil_term k.0.0
+  unwinds p e [] k = ends p (exit_reason e) nil_term k.0.0
   unwinds p e (frame ∷ older) k = caught p e (frame ∷ older) (unwound p e older) (tag_of frame.y) k (unwinds p e older k)
 
   raised : (p : Process) (e : Exception) → On p → Right (raises p e)
@@ -203,7 +203,7 @@ module _ (pid : ℕ) (name : Option (List ℕ)) (R : List Monitor → Type 0) (n
 
   stored_tuple : (p : Process) (next : Place) (dest : Register) (o : Option (List TermValue)) → On p → Right (stores_tuple p next dest o)
   stored_tuple p next dest None k = wrong p k
-  stored_tuple p next dest (Some items) k = stored_made p next dest (made (tuple_of items)) k
+  stored_tuple p next dest (Some items) k = stored_made p next dest (limited_term (tuple_of items)) k
 
   updated : (p : Process) (next : Place) (size : ℕ) (dest : Register) (updates : _) (items : List TermValue) → On p → Right (updates_record p next size dest updates items)
   updated p next size dest updates items k =
@@ -220,7 +220,7 @@ module _ (pid : ℕ) (name : Option (List ℕ)) (R : List Monitor → Type 0) (n
   moved (data'.GetTail v dest) next p k = one p (read p v) _ k (λ a. split p a _ k (λ h r. stored p next dest r k))
   moved (data'.GetElement v index dest) next p k =
       one p (read p v) _ k (λ a. opened p a _ k (λ items. one p (slice_get items index) _ k (λ e. stored p next dest e k)))
-  moved (data'.PutList head tail dest) next p k = two p (read p head) (read p tail) _ k (λ a b. stored_made p next dest (made (pair_term a b)) k)
+  moved (data'.PutList head tail dest) next p k = two p (read p head) (read p tail) _ k (λ a b. stored_made p next dest (limited_term (pair_term a b)) k)
   moved (data'.PutTuple dest elements) next p k = stored_tuple p next dest (read_all p elements) k
   moved (data'.UpdateRecord size v dest updates) next p k = one p (read p v) _ k (λ a. opened p a _ k (λ items. updated p next size dest updates items k))
 
@@ -241,7 +241,7 @@ module _ (pid : ℕ) (name : Option (List ℕ)) (R : List Monitor → Type 0) (n
       let q : Process = goes_on (with_slots p frame older (Some (drop m y))) next in
       elim (length y == m + n) as (λ c. Right (cond c q (illegal p))) [ true ↦ lives q k | false ↦ wrong p k ]
 
-  trimmed : (m n : ℕ) (next : Place) (p : Process) (frames : List Frame) → On p → Right (trims m n next p frames)
+  trimmed : (m n : ℕ) (next : Place) (p : Process) (frames : List Frame) → On p → Right (trims_newest m n next p frames)
   trimmed m n next p [] k = wrong p k
   trimmed m n next p (frame ∷ older) k = trimmed_in m n next p frame older frame.y k
 
@@ -326,7 +326,7 @@ module _ (pid : ℕ) (name : Option (List ℕ)) (R : List Monitor → Type 0) (n
 
   pushed : (p : Process) (does : Process → Process) (back : Place) → On p → ((q : Process) → On q → Right (does q)) → Right (pushes p does back)
   pushed p does back k h =
-      elim (nat_lt (words_of p.frames) 65536) as (λ c. Right (cond c (does (framed p back)) (faults p SystemLimit))) [ true ↦ h (framed p back) k | false ↦ faulted p SystemLimit k ]
+      elim (nat_lt (words_of p.frames) 65536) as (λ c. Right (cond c (does (with_new_frame p back)) (faults p SystemLimit))) [ true ↦ h (with_new_frame p back) k | false ↦ faulted p SystemLimit k ]
 
   -- the outcome of a row: the process that it makes, or one that hasn't ended
   abbrev pub ComesWith : Outcome → Type 0
@@ -405,7 +405,7 @@ module _ (pid : ℕ) (name : Option (List ℕ)) (R : List Monitor → Type 0) (n
   with_message p None q k h = wrong p k
   with_message p (Some t) q k h = h
 
-  settled_on : (p : Process) (place : Place) → On p → On (settled p place)
+  settled_on : (p : Process) (place : Place) → On p → On (waits_for_message p place)
   settled_on p place k = ((k.0.0, (k.0.1.0, elim (finds_message p place) as (λ c. is_ended (cond c Running Waiting) ≡ false) [ true ↦ refl | false ↦ refl ])), k.1)
 
   waited : (p : Process) (instance : ℕ) (target : Option ℕ) → On p → Right (waits p instance target)
@@ -414,7 +414,7 @@ module _ (pid : ℕ) (name : Option (List ℕ)) (R : List Monitor → Type 0) (n
 
   slept_at : (p : Process) (n : ℕ) (place next : Place) (o : Option Deadline) → On p → ComesWith (sleeps_at p n place next o)
   slept_at p n place next None k = settled_on p place k
-  slept_at p n place next (Some d) k = lives (record (settled p place) { deadline = Some (record d { after = next }) }) (settled_on p place k)
+  slept_at p n place next (Some d) k = lives (record (waits_for_message p place) { deadline = Some (record d { after = next }) }) (settled_on p place k)
 
   slept_for : (p : Process) (next : Place) (target : Option ℕ) (n : ℕ) → On p → ComesWith (sleeps_for p next target n)
   slept_for p next None n k = wrong p k

@@ -14,7 +14,7 @@ use Rattle.beam_model.specs.Place.{Place}
 use Rattle.beam_machine.specs.Process.{Process, is_waiting}
 use Rattle.beam_machine.specs.State.{State, process_of, live_process}
 use Rattle.beam_machine.specs.Next.{Answer, Rows, next, steps}
-use Rattle.beam_machine.specs.Debug.{Debugged, DebugNext, is_among, is_live_process, with_pid, without_pid, with_spot, without_spot, passes_on, after_rows, Halting, halting, refuses, replies, settled, answered, halted, debug_steps, stepped, debug_step_one, debug_resume, debug_set, debug_clear, debug_inspect, place_named, debug_next}
+use Rattle.beam_machine.specs.Debug.{Debugged, DebugNext, is_among, is_live_process, with_pid, without_pid, with_spot, without_spot, passes_on, after_rows, Halting, halting, refuses, replies, pruned, answered, halted, debug_steps, stepped, debug_step_one, debug_resume, debug_set, debug_clear, debug_inspect, place_named, debug_next}
 use Rattle.beam_laws.specs.Out.{is_busy}
 
 module _ (pid : ℕ) where
@@ -63,7 +63,7 @@ module _ (pid : ℕ) where
   unmarked : (d : Debugged) → Marked d d
   unmarked d live = (refl, refl)
 
-  replied_marks : (d x : Debugged) → is_among pid x.held ≡ is_among pid d.held → is_among pid x.passing ≡ is_among pid d.passing → Marked d (settled x)
+  replied_marks : (d x : Debugged) → is_among pid x.held ≡ is_among pid d.held → is_among pid x.passing ≡ is_among pid d.passing → Marked d (pruned x)
   replied_marks d x held passing live =
       (among_filter (is_live_process x.node) x.held live ∙ held, among_filter (is_live_process x.node) x.passing live ∙ passing)
 
@@ -71,7 +71,7 @@ module _ (pid : ℕ) where
   one_of d true x y h k = h refl
   one_of d false x y h k = k refl
 
-  rows_marks : (d : Debugged) (at : ℕ) (rows : Rows) (held : List ℕ) → (at == pid) ≡ false → is_among pid held ≡ is_among pid d.held → Marked d (settled (record (after_rows d at rows) { held = held }))
+  rows_marks : (d : Debugged) (at : ℕ) (rows : Rows) (held : List ℕ) → (at == pid) ≡ false → is_among pid held ≡ is_among pid d.held → Marked d (pruned (record (after_rows d at rows) { held = held }))
   rows_marks d at rows held h same = replied_marks d (record (after_rows d at rows) { held = held }) same (among_passes_on rows.count at d.passing h)
 
   halted_marks : (d : Debugged) (at : ℕ) (rows : Halting) (o : Option Process) → (at == pid) ≡ false → Marked d (halted d at rows o).state

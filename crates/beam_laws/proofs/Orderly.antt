@@ -22,7 +22,7 @@ use Rattle.beam_machine.specs.declared.callee.After.{After}
 use Rattle.beam_machine.specs.Row.{Outcome, makes, sends, asks, sleeps, answers, outcome, own_number, arguments_of, goes_on}
 use Rattle.beam_machine.specs.State.{State, process_of, with_process, live_process, has_name, registered, posted_to, posted, with_signals, downs, hearing_by}
 use Rattle.beam_machine.specs.Change.{lingers, lingers_in_old, lingers_in_olds, pids_of, ends_or_hears, killing}
-use Rattle.beam_machine.specs.NodeNative.{Answered, answer, fault, most_processes, is_free, spawns_with, names, registers, unnames, unregisters, is_alive, signalled as signals, sends_named, most_references, makes_reference, or_noproc, watching, monitored, answer_of}
+use Rattle.beam_machine.specs.NodeNative.{Answered, answer, fault, most_processes, is_free, spawns_with, names, registers, unnames, unregisters, is_alive, posted_if_own as signals, sends_named, most_references, makes_reference, or_noproc, put_monitor, monitored, answer_of}
 use Rattle.beam_machine.specs.Next.{Rows, raised, continues, deadline_at, done_by, row, running, row_and, steps, received, signalled, notified, arrived, delivered, next}
 use Rattle.beam_machine.specs.Run.{run}
 use Rattle.beam_machine.specs.Touch.{Touch, touch_of, Touches, stays, in_turn, loads, deletes, ends as ends_olds, purges, runs, arrives, times_out, ticks, posts, starts}
@@ -232,7 +232,7 @@ sends_tame : (ps : List Process) (o : Option ℕ) (message : TermValue) → Orde
 sends_tame ps None message h = same_tame ps h
 sends_tame ps (Some to) message h = posted_tame ps to (Message message) (live_process ps to) refl h
 
-watching_tame : (ps : List Process) (caller n : ℕ) (watched : TermValue) (o : Option Process) → live_process ps caller ≡ o → Orderly ps → Tame ps (watching ps caller n watched o)
+watching_tame : (ps : List Process) (caller n : ℕ) (watched : TermValue) (o : Option Process) → live_process ps caller ≡ o → Orderly ps → Tame ps (put_monitor ps caller n watched o)
 watching_tame ps caller n watched None e h = same_tame ps h
 watching_tame ps caller n watched (Some x) e h =
     let a = alive_is (process_of ps caller) x e in
@@ -251,7 +251,7 @@ monitored_tame : (ps : List Process) (caller : ℕ) (watched : TermValue) (n : �
 monitored_tame ps caller watched n h =
     let qs : List Process = or_noproc ps caller n watched in
     let first : Tame ps qs = noproc_tame ps caller n watched h in
-    both_tame ps qs (watching qs caller n watched (live_process qs caller)) first (watching_tame qs caller n watched (live_process qs caller) refl first.0)
+    both_tame ps qs (put_monitor qs caller n watched (live_process qs caller)) first (watching_tame qs caller n watched (live_process qs caller) refl first.0)
 
 makes_tame : (references : ℕ) (ps : List Process) (f : ℕ → List Process) → Orderly ps → ((n : ℕ) → Tame ps (f n)) → Tame ps (makes_reference references ps f).processes
 makes_tame references ps f h each = either_tame ps (nat_lt references most_references) _ (fault ps SystemLimit) (each (references + 1)) (same_tame ps h)

@@ -10,7 +10,7 @@ use Rattle.beam_machine.specs.declared.event.Event.TheVariants as event
 use Rattle.beam_machine.specs.declared.process.Signal.{Signal}
 use Rattle.beam_model.specs.Listing.{Listing}
 use Rattle.beam_machine.specs.Change.{lingers_in_old, lingers_in_olds, pids_of, ends_or_hears, killing}
-use Rattle.beam_machine.specs.Debug.{Debugged, DebugAnswer, debug_next, rows_told, steps_of, erased}
+use Rattle.beam_machine.specs.Debug.{Debugged, DebugAnswer, debug_next, rows_of_answer, steps_of, erased}
 use Rattle.beam_machine.specs.Process.{Process, is_ended, ended, killed}
 use Rattle.beam_machine.specs.State.{State, process_of, with_signals, downs}
 use Rattle.beam_machine.specs.Next.{next}
@@ -115,9 +115,9 @@ module _ (pid : ℕ) where
   rows_leave s at (suc count) h = by_others s (event.Steps at (suc count)) (ap not h)
 
   erased_leaves : (s : State) (e : DebugEvent Listing) (a : DebugAnswer) → is_busy pid e ≡ false → Leaves s.processes (run s (erased e a ++ [])).state.processes
-  erased_leaves s (NodeEvent (event.Steps at n)) a h = rows_leave s at (rows_told a) h
+  erased_leaves s (NodeEvent (event.Steps at n)) a h = rows_leave s at (rows_of_answer a) h
   erased_leaves s (NodeEvent e) a h = next_leaves s e h
-  erased_leaves s (StepOne at) a h = rows_leave s at (rows_told a) h
+  erased_leaves s (StepOne at) a h = rows_leave s at (rows_of_answer a) h
   erased_leaves s e a h = leaves_all s.processes
 
   pub event_leaves : (d : Debugged) (e : DebugEvent Listing) → is_busy pid e ≡ false → Leaves d.node.processes (debug_next d e).state.node.processes

@@ -14,7 +14,7 @@ use Rattle.beam_machine.specs.Process.{Process, is_ended, started, own_pid, own_
 use Rattle.beam_machine.specs.Row.{own_number}
 use Rattle.beam_machine.specs.State.{process_of, with_process, alive, live_process, registered, posted_to, posted, hearing_by}
 use Rattle.beam_machine.specs.declared.process.Status.{Status}
-use Rattle.beam_machine.specs.NodeNative.{Answered, answer, fault, most_processes, spawns_with, names, registers, unnames, unregisters, is_alive, signalled, sends_named, most_references, makes_reference, or_noproc, watching, monitored, monitors_by, answer_of}
+use Rattle.beam_machine.specs.NodeNative.{Answered, answer, fault, most_processes, spawns_with, names, registers, unnames, unregisters, is_alive, posted_if_own, sends_named, most_references, makes_reference, or_noproc, put_monitor, monitored, monitors_by, answer_of}
 use Rattle.beam_machine.specs.Private.{Sent}
 use Rattle.beam_laws.specs.Private.{having, with_signals, posted_all}
 use Rattle.beam_laws.specs.Signals.{signal_to, signal_if, each_sent, noproc_sends, native_sends, signals_to}
@@ -292,7 +292,7 @@ module _ (pid : ℕ) where
   unregisters_grows ps None = grows_still ps
   unregisters_grows ps (Some at) = unnames_grows ps at (live_process ps at) refl
 
-  signalled_grows : (ps : List Process) (o : Option ℕ) (signal : Signal) → Grows (signal_if ps o signal) ps (signalled ps o signal)
+  signalled_grows : (ps : List Process) (o : Option ℕ) (signal : Signal) → Grows (signal_if ps o signal) ps (posted_if_own ps o signal)
   signalled_grows ps None signal = grows_still ps
   signalled_grows ps (Some to) signal = posted_grows ps to signal
 
@@ -308,7 +308,7 @@ module _ (pid : ℕ) where
         | false ↦ posted_grows ps caller signal
       ]
 
-  watching_grows : (ps : List Process) (caller n : ℕ) (watched : TermValue) (o : Option Process) → live_process ps caller ≡ o → pid ≢ caller → Grows [] ps (watching ps caller n watched o)
+  watching_grows : (ps : List Process) (caller n : ℕ) (watched : TermValue) (o : Option Process) → live_process ps caller ≡ o → pid ≢ caller → Grows [] ps (put_monitor ps caller n watched o)
   watching_grows ps caller n watched None e ne = grows_still ps
   watching_grows ps caller n watched (Some x) e ne =
       subst (Grown [] (process_of ps pid)) (sym (put_elsewhere ps caller pid _ ne (positive ps caller x (alive_is (process_of ps caller) x e).0))) (grown_still (process_of ps pid))

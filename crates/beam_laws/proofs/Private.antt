@@ -7,7 +7,7 @@ use Rattle.beam_machine.specs.declared.process.Status.TheVariants.{Running, Wait
 use Rattle.beam_machine.specs.Code.{Code}
 use Rattle.beam_machine.specs.Process.{Process, is_running, is_ended}
 use Rattle.beam_machine.specs.Row.{Outcome, makes, sends, asks, sleeps, outcome}
-use Rattle.beam_machine.specs.Private.{Private, first, first_sending, private_by, private_rows}
+use Rattle.beam_machine.specs.Private.{Private, with_first_row, with_first_sending, private_by, private_rows}
 use Rattle.beam_laws.specs.Private.{having}
 use Rattle.beam_laws.proofs.Unread.{with}
 use Rattle.beam_laws.proofs.UnreadCalls.{moved, outcome_same}
@@ -42,8 +42,8 @@ both code n u q name m transit t = u q name transit ∙ (sym (again name m trans
 
 row_unread : (code : Code) (n : ℕ) → Unread code n → (p : Process) (name m : Option (List ℕ)) (transit t : List Signal) (o : Outcome)
     → private_by (private_rows code n) (with name transit p) (moved name transit o) ≡ private_having name transit (private_by (private_rows code n) (with m t p) (moved m t o))
-row_unread code n u p name m transit t (makes q) = ap first (both code n u q name m transit t)
-row_unread code n u p name m transit t (sends q to signal) = ap (first_sending (record { to = to; signal = signal })) (both code n u (record q { status = Running }) name m transit t)
+row_unread code n u p name m transit t (makes q) = ap with_first_row (both code n u q name m transit t)
+row_unread code n u p name m transit t (sends q to signal) = ap (with_first_sending (record { to = to; signal = signal })) (both code n u (record q { status = Running }) name m transit t)
 row_unread code n u p name m transit t (asks q native arity after) = refl
 row_unread code n u p name m transit t (sleeps q k next) = refl
 

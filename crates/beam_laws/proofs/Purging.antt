@@ -14,7 +14,7 @@ use Rattle.beam_model.specs.SameText.{same_text}
 use Rattle.beam_term.specs.TermValue.{nil_term}
 use Rattle.beam_machine.specs.Process.{Process, ended, killed}
 use Rattle.beam_machine.specs.State.{State, process_of, with_signals, downs}
-use Rattle.beam_machine.specs.Next.{Next, refused, replied, end_old, load_new, has_room, is_lingered_in, next}
+use Rattle.beam_machine.specs.Next.{Next, refused, replied, end_old, load_new, has_instances_left, is_lingered_in, next}
 use Rattle.beam_machine.specs.Code.{Code, Instance, Versions, versions_of}
 use Rattle.beam_machine.specs.Change.{old_of, current_of, with_versions, loaded, deleted, purged, lingers, lingers_at, lingers_in_old, pids_of, ends_or_hears, killing}
 use Rattle.beam_model.specs.NativeNames.{is_erlang}
@@ -105,8 +105,8 @@ pub load_ends : (s : State) (l : Listing) (r : Reply) → (next s (event.Load l)
 load_ends s l r =
     let ps : List Process = (end_old s l.name).processes in
     let done : Next = load_new (end_old s l.name) l in
-    either ps r (is_erlang l.name) (refused s Sticky) (cond (has_room s) done (refused s TooMany)) (never s ps r Sticky)
-    (either ps r (has_room s) done (refused s TooMany) (λ e. refl) (never s ps r TooMany))
+    either ps r (is_erlang l.name) (refused s Sticky) (cond (has_instances_left s) done (refused s TooMany)) (never s ps r Sticky)
+    (either ps r (has_instances_left s) done (refused s TooMany) (λ e. refl) (never s ps r TooMany))
 
 same : (ps : List Process) (b : Bool) (x y : Next) → x.state.processes ≡ ps → y.state.processes ≡ ps → (cond b x y).state.processes ≡ ps
 same ps true x y h k = h
@@ -115,9 +115,9 @@ same ps false x y h k = k
 pub strict_ends_none : (s : State) (l : Listing) → (next s (event.LoadStrict l)).state.processes ≡ s.processes
 strict_ends_none s l =
     let b : Bool = is_some (old_of s.code l.name) in
-    let loads : Next = cond (has_room s) (load_new s l) (refused s TooMany) in
+    let loads : Next = cond (has_instances_left s) (load_new s l) (refused s TooMany) in
     same s.processes (is_erlang l.name) (refused s Sticky) (cond b (refused s NotPurged) loads) refl
-    (same s.processes b (refused s NotPurged) loads refl (same s.processes (has_room s) (load_new s l) (refused s TooMany) refl refl))
+    (same s.processes b (refused s NotPurged) loads refl (same s.processes (has_instances_left s) (load_new s l) (refused s TooMany) refl refl))
 
 -- ---- the processes that end
 

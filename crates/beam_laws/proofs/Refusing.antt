@@ -25,7 +25,7 @@ use Rattle.beam_machine.specs.Process.{Process, started, own_pid}
 use Rattle.beam_machine.specs.declared.callee.After.{After}
 use Rattle.beam_machine.specs.Row.{Outcome, makes, sends, asks, sleeps, answers, outcome, own_number, arguments_of}
 use Rattle.beam_machine.specs.State.{State, process_of, with_process, alive, live_process, registered, receiver_of, posted_to, posted, hearing_by}
-use Rattle.beam_machine.specs.NodeNative.{Answered, answer, fault, most_processes, spawns_with, names, registers, unnames, unregisters, is_alive, signalled, sends_named, most_references, makes_reference, or_noproc, watching, monitored, answer_of}
+use Rattle.beam_machine.specs.NodeNative.{Answered, answer, fault, most_processes, spawns_with, names, registers, unnames, unregisters, is_alive, posted_if_own, sends_named, most_references, makes_reference, or_noproc, put_monitor, monitored, answer_of}
 use Rattle.beam_machine.specs.Next.{Next, refused, replied, Rows, raised, continues, done_by, row, running, row_and, steps, ran_to, next_steps, next_deliver, timed_out, next_timeout, sent_to, next_send, next}
 
 -- ---- processes stay in the list
@@ -71,7 +71,7 @@ unregisters_longer : (ps : List Process) (o : Option ℕ) → Longer ps (unregis
 unregisters_longer ps None = omega arith
 unregisters_longer ps (Some pid) = unnames_longer ps pid (live_process ps pid)
 
-signalled_longer : (ps : List Process) (o : Option ℕ) (signal : Signal) → Longer ps (signalled ps o signal)
+signalled_longer : (ps : List Process) (o : Option ℕ) (signal : Signal) → Longer ps (posted_if_own ps o signal)
 signalled_longer ps None signal = omega arith
 signalled_longer ps (Some pid) signal = posted_longer ps pid signal (live_process ps pid)
 
@@ -79,7 +79,7 @@ sends_longer : (ps : List Process) (o : Option ℕ) (message : TermValue) → Lo
 sends_longer ps None message = omega arith
 sends_longer ps (Some pid) message = posted_longer ps pid (Message message) (live_process ps pid)
 
-watching_longer : (ps : List Process) (caller n : ℕ) (watched : TermValue) (o : Option Process) → Longer ps (watching ps caller n watched o)
+watching_longer : (ps : List Process) (caller n : ℕ) (watched : TermValue) (o : Option Process) → Longer ps (put_monitor ps caller n watched o)
 watching_longer ps caller n watched None = omega arith
 watching_longer ps caller n watched (Some p) = set_longer ps caller _
 

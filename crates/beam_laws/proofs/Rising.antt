@@ -24,7 +24,7 @@ use Rattle.beam_machine.specs.declared.process.Signal.TheVariants.{Message, Exit
 use Rattle.beam_machine.specs.declared.process.Status.{Status}
 use Rattle.beam_machine.specs.declared.process.Status.TheVariants.{Running}
 use Rattle.beam_machine.specs.Change.{lingers_in_old, lingers_in_olds, pids_of, ends_or_hears, killing}
-use Rattle.beam_machine.specs.NodeNative.{Answered, answer, fault, most_processes, spawns_with, names, registers, unnames, unregisters, is_alive, signalled, sends_named, most_references, makes_reference, or_noproc, watching, monitored, answer_of}
+use Rattle.beam_machine.specs.NodeNative.{Answered, answer, fault, most_processes, spawns_with, names, registers, unnames, unregisters, is_alive, posted_if_own, sends_named, most_references, makes_reference, or_noproc, put_monitor, monitored, answer_of}
 use Rattle.beam_machine.specs.Next.{Rows, raised, continues, done_by, row, running, row_and, steps, delivered, next}
 use Rattle.beam_machine.specs.Process.{Process, is_running, is_ended, started, ended, killed, own_pid, own_reference, put_x}
 use Rattle.beam_machine.specs.Row.{Outcome, makes, sends, asks, sleeps, goes_on, tag_of, caught_at, unwound, illegal, returns_to, returns_from, answers, arguments_of, own_number, outcome}
@@ -165,7 +165,7 @@ module _ (count : ℕ) where
   unregisters_up ps None h = h
   unregisters_up ps (Some pid) h = unnames_up ps pid (live_process ps pid) h (live_up ps pid h)
 
-  signalled_up : (ps : List Process) (o : Option ℕ) (signal : Signal) → Up ps → Up (signalled ps o signal)
+  signalled_up : (ps : List Process) (o : Option ℕ) (signal : Signal) → Up ps → Up (posted_if_own ps o signal)
   signalled_up ps None signal h = h
   signalled_up ps (Some pid) signal h = posted_up ps pid signal h
 
@@ -189,7 +189,7 @@ still count ps a e f =
     (subst (λ o. count ≤ unwrap_or o count) (sym e) le, λ h. subst (λ o. AreRising (unwrap_or o count) a.processes) (sym e) (f h))
 
 watching_up : (count : ℕ) (ps : List Process) (caller : ℕ) (watched : TermValue) (o : Option Process) → AreRising count ps → RisesIf count o
-    → AreRising (count + 1) (watching ps caller (count + 1) watched o)
+    → AreRising (count + 1) (put_monitor ps caller (count + 1) watched o)
 watching_up count ps caller watched None h i = all_more count (count + 1) ps (omega arith) h
 watching_up count ps caller watched (Some p) h i =
     let le : 0 ≤ count = omega arith in

@@ -28,11 +28,11 @@ use Rattle.beam_machine.specs.declared.process.Frame.{Frame}
 use Rattle.beam_model.specs.Place.{Place}
 use Rattle.beam_machine.specs.Code.{Code}
 use Rattle.beam_model.specs.Exception.{clause_exception}
-use Rattle.beam_model.specs.Native.{compares, is_of_type, made, nullary_value, unary_value, binary_value, class_in}
+use Rattle.beam_model.specs.Native.{compares, is_of_type, limited_term, nullary_value, unary_value, binary_value, class_in}
 use Rattle.beam_machine.specs.Change.{is_live}
 use Rattle.beam_laws.proofs.Places.{IsLivePlace, AreSlotsHome, FramesHome, Stands, Whole}
 use Rattle.beam_machine.specs.Process.{Process, read, read_x, read_all, put, put_y, with_slots, dropped, words_of, own_pid}
-use Rattle.beam_machine.specs.Row.{goes_on, goes_to, changes, stores, stores_made, stores_second, stores_two, decides, has_size, is_tagged, with_one, with_two, tests, fails, stores_computed, computes, held_in, splits, opens, put_elements, stores_tuple, updates_record, moves, allocates_in, trims_in, trims, cleared, stacks, tags, traced, raises_again, raises_raw, catches, handles, catch_rows, raises, faults, illegal}
+use Rattle.beam_machine.specs.Row.{goes_on, goes_to, changes, stores, stores_made, stores_second, stores_two, decides, has_size, is_tagged, with_one, with_two, tests, fails, stores_computed, computes, held_in, splits, opens, put_elements, stores_tuple, updates_record, moves, allocates_in, trims_in, trims_newest, cleared, stacks, tags, traced, raises_again, raises_raw, catches, handles, catch_rows, raises, faults, illegal}
 use Rattle.beam_laws.proofs.Registers.{StandsIf, raises_home, faults_home, illegal_home, put_stands, put_y_stands, cleared_stands, replicate_home, drop_home, dropped_whole, whole_stands}
 
 -- the instance of a place is live
@@ -128,7 +128,7 @@ opens_home code p (pair_term head tail) does s h = illegal_home code p s
 
 stores_tuple_home : (code : Code) (p : Process) (next : Place) (dest : Register) (o : Option (List TermValue)) → Stands code p → Live code next → Whole code (stores_tuple p next dest o)
 stores_tuple_home code p next dest None s l = illegal_home code p s
-stores_tuple_home code p next dest (Some items) s l = stores_made_home code p next dest (made (tuple_of items)) s l
+stores_tuple_home code p next dest (Some items) s l = stores_made_home code p next dest (limited_term (tuple_of items)) s l
 
 updates_record_home : (code : Code) (p : Process) (next : Place) (size : ℕ) (dest : Register) (updates : List Update) (items : List TermValue) → Stands code p → Live code next → Whole code (updates_record p next size dest updates items)
 updates_record_home code p next size dest updates items s l =
@@ -152,7 +152,7 @@ moves_home code (data'.GetElement v index dest) next p s l =
     (λ a. opens_home code p a (λ items. with_one p (slice_get items index) (λ e. stores p next dest e)) s
     (λ items. with_one_home code p (slice_get items index) (λ e. stores p next dest e) s (λ e. stores_home code p next dest e s l)))
 moves_home code (data'.PutList head tail dest) next p s l =
-    with_two_home code p (read p head) (read p tail) (λ h r. stores_made p next dest (made (pair_term h r))) s (λ a b. stores_made_home code p next dest (made (pair_term a b)) s l)
+    with_two_home code p (read p head) (read p tail) (λ h r. stores_made p next dest (limited_term (pair_term h r))) s (λ a b. stores_made_home code p next dest (limited_term (pair_term a b)) s l)
 moves_home code (data'.PutTuple dest elements) next p s l = stores_tuple_home code p next dest (read_all p elements) s l
 moves_home code (data'.UpdateRecord size v dest updates) next p s l =
     with_one_home code p (read p v) (λ t. opens p t (λ items. updates_record p next size dest updates items)) s
@@ -180,7 +180,7 @@ trims_in_home code m n next p frame older (Some y) s b o h l =
       | false ↦ illegal_home code p s
     ]
 
-trims_home : (code : Code) (m n : ℕ) (next : Place) (p : Process) (frames : List Frame) → Stands code p → FramesHome code frames → Live code next → Whole code (trims m n next p frames)
+trims_home : (code : Code) (m n : ℕ) (next : Place) (p : Process) (frames : List Frame) → Stands code p → FramesHome code frames → Live code next → Whole code (trims_newest m n next p frames)
 trims_home code m n next p [] s f l = illegal_home code p s
 trims_home code m n next p (frame ∷ older) s f l = trims_in_home code m n next p frame older frame.y s f.0.0 f.1 f.0.1 l
 

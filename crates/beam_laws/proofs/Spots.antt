@@ -11,7 +11,7 @@ use Rattle.beam_machine.specs.Code.{Code}
 use Rattle.beam_machine.specs.Debug.{is_at_spot}
 use Rattle.beam_machine.specs.Process.{Process, is_running}
 use Rattle.beam_machine.specs.Row.{Outcome, makes, sends, asks, sleeps, outcome}
-use Rattle.beam_machine.specs.Private.{Private, End, at_limit, after_row, at_spot, stops, first, first_sending, private_by, private_rows, private_to_spot}
+use Rattle.beam_machine.specs.Private.{Private, End, at_limit, after_row, at_spot, stops, with_first_row, with_first_sending, private_by, private_rows, private_to_spot}
 use Rattle.beam_laws.specs.Private.{having, IsStill, with_given}
 use Rattle.beam_laws.proofs.Ending.{runs_on}
 use Rattle.beam_laws.proofs.Follows.{Comes, outcome_comes}
@@ -34,10 +34,10 @@ module _ (code : Code) (rest : Process → Private) (limited : ℕ → Process �
       → all (private_by rest p o).count p ≡ ending at_limit (private_by rest p o)
   row_cut all p (makes q) more none =
       let one : (rest q).count + 1 ≡ suc (rest q).count = omega arith in
-      ap (λ k. all k p) one ∙ (more (rest q).count ∙ ap first (h q))
+      ap (λ k. all k p) one ∙ (more (rest q).count ∙ ap with_first_row (h q))
   row_cut all p (sends q to signal) more none =
       let one : (rest q).count + 1 ≡ suc (rest q).count = omega arith in
-      ap (λ k. all k p) one ∙ (more (rest q).count ∙ ap (first_sending (record { to = to; signal = signal })) (h q))
+      ap (λ k. all k p) one ∙ (more (rest q).count ∙ ap (with_first_sending (record { to = to; signal = signal })) (h q))
   row_cut all p (asks q native arity after) more none = none
   row_cut all p (sleeps q k next) more none = none
 
@@ -89,8 +89,8 @@ module _ (spots : List Place) (code : Code) where
 
   row_unread : (n : ℕ) → Unread false n → (p : Process) (name m : Option (List ℕ)) (transit t : List Signal) (o : Outcome)
       → private_by (rows false n) (with name transit p) (moved name transit o) ≡ private_having name transit (private_by (rows false n) (with m t p) (moved m t o))
-  row_unread n u p name m transit t (makes q) = ap first (both n u q name m transit t)
-  row_unread n u p name m transit t (sends q to signal) = ap (first_sending (record { to = to; signal = signal })) (both n u (record q { status = Running }) name m transit t)
+  row_unread n u p name m transit t (makes q) = ap with_first_row (both n u q name m transit t)
+  row_unread n u p name m transit t (sends q to signal) = ap (with_first_sending (record { to = to; signal = signal })) (both n u (record q { status = Running }) name m transit t)
   row_unread n u p name m transit t (asks q native arity after) = refl
   row_unread n u p name m transit t (sleeps q k next) = refl
 
@@ -162,8 +162,8 @@ none_at false (Enter m f arity) = refl
 none_at false Nowhere = refl
 
 row_none : (rest later : Process → Private) (p : Process) (o : Outcome) → ((q : Process) → rest q ≡ later q) → private_by rest p o ≡ private_by later p o
-row_none rest later p (makes q) h = ap first (h q)
-row_none rest later p (sends q to signal) h = ap (first_sending (record { to = to; signal = signal })) (h q)
+row_none rest later p (makes q) h = ap with_first_row (h q)
+row_none rest later p (sends q to signal) h = ap (with_first_sending (record { to = to; signal = signal })) (h q)
 row_none rest later p (asks q native arity after) h = refl
 row_none rest later p (sleeps q k next) h = refl
 

@@ -13,7 +13,7 @@ use Rattle.beam_machine.specs.declared.process.Deadline.{Deadline}
 use Rattle.beam_machine.specs.declared.process.Signal.TheVariants.{Message}
 use Rattle.beam_model.specs.Listing.{Listing}
 use Rattle.beam_machine.specs.Change.{current_of, old_of, deleted, purged, lingers_at, lingers_in_old, killing}
-use Rattle.beam_machine.specs.Next.{Next, refused, replied, steps, ran_to, next_steps, next_deliver, timed_out, next_timeout, sent_to, next_send, end_old, load_new, has_room, is_lingered_in, next}
+use Rattle.beam_machine.specs.Next.{Next, refused, replied, steps, ran_to, next_steps, next_deliver, timed_out, next_timeout, sent_to, next_send, end_old, load_new, has_instances_left, is_lingered_in, next}
 use Rattle.beam_machine.specs.Process.{Process}
 use Rattle.beam_machine.specs.State.{State, process_of, live_process, receiver_of}
 use Rattle.beam_machine.specs.Touch.{Touch, code, process, clock, nothing, touch_of, Touches, stays, in_turn, loads, deletes, ends, purges, runs, arrives, times_out, ticks, posts, starts}
@@ -34,12 +34,12 @@ unless t s false why x h = h
 
 load_touches : (s : State) (l : Listing) → Touches code s (next s (event.Load l)).state
 load_touches s l =
-    unless code s _ Sticky _ (either code s (has_room s) (load_new (end_old s l.name) l) (refused s TooMany) (loads s l) (stays code s))
+    unless code s _ Sticky _ (either code s (has_instances_left s) (load_new (end_old s l.name) l) (refused s TooMany) (loads s l) (stays code s))
 
 strict_touches : (s : State) (l : Listing) (o : Option ℕ) → old_of s.code l.name ≡ o
-    → Touches code s (cond {A = Next} (is_some o) (refused s NotPurged) (cond (has_room s) (load_new s l) (refused s TooMany))).state
+    → Touches code s (cond {A = Next} (is_some o) (refused s NotPurged) (cond (has_instances_left s) (load_new s l) (refused s TooMany))).state
 strict_touches s l (Some n) e = stays code s
-strict_touches s l None e = either code s (has_room s) (load_new s l) (refused s TooMany) over (stays code s)
+strict_touches s l None e = either code s (has_instances_left s) (load_new s l) (refused s TooMany) over (stays code s)
   where
     none : (ps : List Process) → list_any (lingers_at None) ps ≡ false
     none [] = refl

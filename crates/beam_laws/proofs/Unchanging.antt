@@ -20,7 +20,7 @@ use Rattle.beam_machine.specs.State.{State, process_of, live_process}
 use Rattle.beam_machine.specs.Next.{Answer, Next, Rows, next, steps}
 use Rattle.beam_machine.specs.Run.{run}
 use Rattle.beam_machine.specs.View.{View}
-use Rattle.beam_machine.specs.Debug.{Debugged, DebugNext, DebugAnswer, Halting, debug_next, erased, steps_of, rows_told, settled, replies, refuses, answered, of_node, after_rows, halted, halts, halting, debug_steps, stepped, debug_step_one, debug_resume, debug_inspect, is_among, held_at, with_pid, without_pid}
+use Rattle.beam_machine.specs.Debug.{Debugged, DebugNext, DebugAnswer, Halting, debug_next, erased, steps_of, rows_of_answer, pruned, replies, refuses, answered, of_node, after_rows, halted, halts, halting, debug_steps, stepped, debug_step_one, debug_resume, debug_inspect, is_among, held_at, with_pid, without_pid}
 use Rattle.beam_machine.specs.Touch.{Touch, touch_of, Touches, in_turn, loads, deletes, purges, runs}
 use Rattle.beam_laws.specs.Debugger.{AreSpotsLive}
 use Rattle.beam_laws.proofs.Events.{steps_alike}
@@ -46,9 +46,9 @@ steps_code s pid zero = refl
 steps_code s pid (suc n) = next_code s (event.Steps pid (suc n)) refl
 
 erased_code : (s : State) (e : DebugEvent Listing) (a : DebugAnswer) → may_change e ≡ false → (run s (erased e a)).state.code ≡ s.code
-erased_code s (NodeEvent (event.Steps pid n)) a h = steps_code s pid (rows_told a)
+erased_code s (NodeEvent (event.Steps pid n)) a h = steps_code s pid (rows_of_answer a)
 erased_code s (NodeEvent e) a h = next_code s e h
-erased_code s (StepOne pid) a h = steps_code s pid (rows_told a)
+erased_code s (StepOne pid) a h = steps_code s pid (rows_of_answer a)
 erased_code s e a h = refl
 
 pub code_stays : (d : Debugged) (e : DebugEvent Listing) → may_change e ≡ false → (debug_next d e).state.node.code ≡ d.node.code
@@ -65,7 +65,7 @@ live_kept code (spot ∷ rest) h =
     ap (λ b. cond {A = List Place} b (spot ∷ filter (λ (s : Place). is_live code s.instance) rest) (filter (λ (s : Place). is_live code s.instance) rest)) h.0
     ∙ ap (λ l. spot ∷ l) (live_kept code rest h.1)
 
-settled_spots : (d t : Debugged) → AreSpotsLive d → t.node.code ≡ d.node.code → t.spots ≡ d.spots → (settled t).spots ≡ d.spots
+settled_spots : (d t : Debugged) → AreSpotsLive d → t.node.code ≡ d.node.code → t.spots ≡ d.spots → (pruned t).spots ≡ d.spots
 settled_spots d t live code same =
     ap (λ (c : Code). filter (λ (s : Place). is_live c s.instance) t.spots) code
     ∙ (ap (λ (l : List Place). filter (λ (s : Place). is_live d.node.code s.instance) l) same ∙ live_kept d.node.code d.spots live)

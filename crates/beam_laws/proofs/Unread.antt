@@ -32,9 +32,9 @@ use Rattle.beam_machine.specs.declared.process.Tag.{Tag}
 use Rattle.beam_machine.specs.declared.process.Frame.{Frame}
 use Rattle.beam_model.specs.Place.{Place}
 use Rattle.beam_model.specs.Exception.{clause_exception}
-use Rattle.beam_model.specs.Native.{compares, is_of_type, made, nullary_value, unary_value, binary_value, class_in}
+use Rattle.beam_model.specs.Native.{compares, is_of_type, limited_term, nullary_value, unary_value, binary_value, class_in}
 use Rattle.beam_machine.specs.Process.{Process, read, read_x, read_all, in_front, put, put_y, put_slots, with_slots, dropped, without_slots, words_of, own_pid}
-use Rattle.beam_machine.specs.Row.{tag_of, caught_at, goes_on, goes_to, changes, stores, stores_made, stores_second, stores_two, decides, has_size, is_tagged, with_one, with_two, tests, fails, stores_computed, computes, held_in, splits, opens, put_element, put_elements, stores_tuple, updates_record, moves, allocates_in, trims_in, trims, cleared, stacks, tags, traced, raises_again, raises_raw, catches, handles, catch_rows, unwound, raises, faults, illegal}
+use Rattle.beam_machine.specs.Row.{tag_of, caught_at, goes_on, goes_to, changes, stores, stores_made, stores_second, stores_two, decides, has_size, is_tagged, with_one, with_two, tests, fails, stores_computed, computes, held_in, splits, opens, put_element, put_elements, stores_tuple, updates_record, moves, allocates_in, trims_in, trims_newest, cleared, stacks, tags, traced, raises_again, raises_raw, catches, handles, catch_rows, unwound, raises, faults, illegal}
 use Rattle.beam_laws.specs.Private.{having}
 
 -- a running process with this name, and these signals in transit to it
@@ -226,7 +226,7 @@ module _ (name : Option (List ℕ)) (transit : List Signal) where
 
   stores_tuple_each : (p : Process) (next : Place) (dest : Register) (o : Option (List TermValue)) → Same (stores_tuple (full p) next dest o) (stores_tuple (bare p) next dest o)
   stores_tuple_each p next dest None = illegal_same p
-  stores_tuple_each p next dest (Some items) = stores_made_same p next dest (made (tuple_of items))
+  stores_tuple_each p next dest (Some items) = stores_made_same p next dest (limited_term (tuple_of items))
 
   stores_tuple_same : (p : Process) (next : Place) (dest : Register) (x y o : Option (List TermValue)) → x ≡ o → y ≡ o → Same (stores_tuple (full p) next dest x) (stores_tuple (bare p) next dest y)
   stores_tuple_same p next dest x y o e f = ap (stores_tuple (full p) next dest) e ∙ (stores_tuple_each p next dest o ∙ ap (λ y. having name transit (stores_tuple (bare p) next dest y)) (sym f))
@@ -250,7 +250,7 @@ module _ (name : Option (List ℕ)) (transit : List Signal) where
   moves_same (data'.GetHead v dest) next p = with_one_same p v _ _ (λ t. splits_same p t _ _ (λ h r. stores_same p next dest h))
   moves_same (data'.GetTail v dest) next p = with_one_same p v _ _ (λ t. splits_same p t _ _ (λ h r. stores_same p next dest r))
   moves_same (data'.GetElement v index dest) next p = with_one_same p v _ _ (λ t. opens_same p t _ _ (λ items. element_same p next dest (slice_get items index)))
-  moves_same (data'.PutList head tail dest) next p = with_two_same p head tail _ _ (λ h r. stores_made_same p next dest (made (pair_term h r)))
+  moves_same (data'.PutList head tail dest) next p = with_two_same p head tail _ _ (λ h r. stores_made_same p next dest (limited_term (pair_term h r)))
   moves_same (data'.PutTuple dest elements) next p = stores_tuple_same p next dest (read_all (full p) elements) (read_all (bare p) elements) (read_all p elements) (read_all_with name transit p elements) (read_all_with None [] p elements)
   moves_same (data'.UpdateRecord size v dest updates) next p = with_one_same p v _ _ (λ t. opens_same p t _ _ (λ items. updates_record_same p next size dest updates items))
 
@@ -275,7 +275,7 @@ module _ (name : Option (List ℕ)) (transit : List Signal) where
       go true = refl
       go false = illegal_same p
 
-  trims_same : (m n : ℕ) (next : Place) (p : Process) (frames : List Frame) → Same (trims m n next (full p) frames) (trims m n next (bare p) frames)
+  trims_same : (m n : ℕ) (next : Place) (p : Process) (frames : List Frame) → Same (trims_newest m n next (full p) frames) (trims_newest m n next (bare p) frames)
   trims_same m n next p [] = illegal_same p
   trims_same m n next p (frame ∷ older) = trims_in_same m n next p frame older frame.y
 

@@ -33,7 +33,7 @@ use Rattle.beam_model.specs.Native.{native_value, truth}
 use Rattle.beam_machine.specs.Callee.{callee_named}
 use Rattle.beam_machine.specs.Code.{Code, step_of, entry_of}
 use Rattle.beam_machine.specs.Process.{Process, read, read_x, put_x, dropped, words_of, own_pid, bared}
-use Rattle.beam_machine.specs.Row.{Outcome, makes, sends, asks, sleeps, goes_on, goes_to, illegal, faults, returns_to, returns_from, returns, follows, answers, demonitored, flushed_if, flush_in, demonitors, changed_by, answers_true, arguments_of, enters, framed, pushes, calls, calls_only, after_dropping, applies, callee_at, chosen, selects, size_chosen, selects_size, controls, own_number, sends_own, sends_to, peeks, with_message_at, settled, waits, Duration, forever, milliseconds, duration_of, sleeps_at, sleeps_for, waits_for, waits_with, message_rows, perform, performs, outcome_at, outcome, exits, finds_message}
+use Rattle.beam_machine.specs.Row.{Outcome, makes, sends, asks, sleeps, goes_on, goes_to, illegal, faults, returns_to, returns_from, returns, follows, answers, demonitored, flushed_if, flush_in, demonitors, changed_by, answers_true, arguments_of, enters, with_new_frame, pushes, calls, calls_only, after_dropping, applies, callee_at, chosen, selects, size_chosen, selects_size, controls, own_number, sends_own, sends_to, peeks, with_message_at, waits_for_message, waits, Duration, forever, milliseconds, duration_of, sleeps_at, sleeps_for, waits_for, waits_with, message_rows, perform, performs, outcome_at, outcome, exits, finds_message}
 use Rattle.beam_laws.specs.Private.{having}
 use Rattle.beam_laws.proofs.Unread.{with, read_with, dropped_with, Same, raises_same, faults_same, illegal_same, goes_to_same, stores_same, with_one_same, with_two_same, tests_same, computes_same, moves_same, stacks_same, catch_rows_same}
 
@@ -129,8 +129,8 @@ module _ (name : Option (List ℕ)) (transit : List Signal) where
   pushes_same : (p : Process) (does : Process → Process) (back : Place) → ((q : Process) → Alike (does (full q)) (does (bare q))) → Alike (pushes (full p) does back) (pushes (bare p) does back)
   pushes_same p does back h = go (nat_lt (words_of p.frames) 65536)
     where
-      go : (c : Bool) → Alike (cond c (does (framed (full p) back)) (faults (full p) SystemLimit)) (cond c (does (framed (bare p) back)) (faults (bare p) SystemLimit))
-      go true = h (framed p back)
+      go : (c : Bool) → Alike (cond c (does (with_new_frame (full p) back)) (faults (full p) SystemLimit)) (cond c (does (with_new_frame (bare p) back)) (faults (bare p) SystemLimit))
+      go true = h (with_new_frame p back)
       go false = faults_same name transit p SystemLimit
 
   -- a native that changes its process alone
@@ -226,7 +226,7 @@ module _ (name : Option (List ℕ)) (transit : List Signal) where
   with_message_same p None q r h = illegal_same name transit p
   with_message_same p (Some t) q r h = h
 
-  settled_same : (p : Process) (place : Place) → Alike (settled (full p) place) (settled (bare p) place)
+  settled_same : (p : Process) (place : Place) → Alike (waits_for_message (full p) place) (waits_for_message (bare p) place)
   settled_same p place = go (finds_message p place)
     where
       go : (c : Bool) → Alike (record (full p) { goes = At place; status = cond c Running Waiting }) (record (bare p) { goes = At place; status = cond c Running Waiting })

@@ -16,7 +16,7 @@ use Rattle.beam_machine.specs.Code.{Code}
 use Rattle.beam_term.specs.TermValue.{nil_term}
 use Rattle.beam_machine.specs.Process.{Process, ended, killed}
 use Rattle.beam_machine.specs.State.{State}
-use Rattle.beam_machine.specs.Next.{Next, refused, has_room, load_new, end_old, end_olds, are_apart, stands_in_way, load_each, upgraded, next}
+use Rattle.beam_machine.specs.Next.{Next, refused, has_instances_left, load_new, end_old, end_olds, are_apart, stands_in_way, load_each, upgraded, next}
 use Rattle.beam_machine.specs.Run.{run}
 use Rattle.beam_laws.specs.Upgrades.{loaded_each}
 use Rattle.beam_laws.proofs.Hearing.{either_false, nobody_ends, all_ended, in_olds_not, in_olds_same}
@@ -77,9 +77,9 @@ any_same f g same (p ∷ ps) = ap (λ b. b || list_any f ps) (same p) ∙ ap (λ
 abbrev with_one : State → Listing → State
 with_one s l = record s { code = loaded s.code (s.instances + 1) l; instances = s.instances + 1 }
 
-one_load : (s : State) (l : Listing) → is_erlang l.name ≡ false → has_room s ≡ true → list_any (lingers_in_old s.code l.name) s.processes ≡ false → (next s (event.Load l)).state ≡ with_one s l
+one_load : (s : State) (l : Listing) → is_erlang l.name ≡ false → has_instances_left s ≡ true → list_any (lingers_in_old s.code l.name) s.processes ≡ false → (next s (event.Load l)).state ≡ with_one s l
 one_load s l e room nobody =
-    ap (λ b. (cond {A = Next} b (refused s Sticky) (cond (has_room s) (load_new (end_old s l.name) l) (refused s TooMany))).state) e
+    ap (λ b. (cond {A = Next} b (refused s Sticky) (cond (has_instances_left s) (load_new (end_old s l.name) l) (refused s TooMany))).state) e
     ∙ (ap (λ b. (cond {A = Next} b (load_new (end_old s l.name) l) (refused s TooMany)).state) room
     ∙ ap (λ ps. with_one (record s { processes = ps }) l) (nobody_ends (lingers_in_old s.code l.name) s.processes nobody))
 
@@ -96,7 +96,7 @@ loads_are s (l ∷ rest) e apart few nobody =
     let ordinary = either_false (is_erlang l.name) (list_any (λ l. is_erlang l.name) rest) e in
     let once = both_true (not (list_any (λ other. same_text l.name other.name) rest)) (are_apart rest) apart in
     let below : s.instances < 2 ^ 32 - 1 = omega (arith, few) in
-    let room : has_room s ≡ true = grind (arith, nat_tests) in
+    let room : has_instances_left s ≡ true = grind (arith, nat_tests) in
     let more : s.instances + 1 + length rest < 2 ^ 32 = omega (arith, few) in
     let sum : s.instances + 1 + length rest ≡ s.instances + length (l ∷ rest) = omega arith in
     let names : List (List ℕ) = map (λ l. l.name) rest in

@@ -6,11 +6,11 @@ use Rattle.std.proofs.lemmas.Bool.{eqb-true}
 use Rattle.beam_model.specs.declared.function.Export.{Export}
 use Rattle.beam_model.specs.declared.function.Function.{Function}
 use Rattle.beam_model.specs.declared.instruction.Instruction.{Instruction}
-use Rattle.beam_model.specs.Assembly.{spelled_instruction, spelled}
+use Rattle.beam_model.specs.Assembly.{without_line_number, without_line_numbers}
 use Rattle.beam_model.specs.Listing.{Listing}
 use Rattle.beam_model.specs.ListingText.{listing_text}
 use Rattle.beam_model.specs.ListingReading.{ListingFault, export_by, listing_of_text}
-use Rattle.beam_model.specs.Loadable.{nothing, functions_from, functions_of, signature_of, are_signatures_new, are_functions_lawful, exported_signature, is_entry_of}
+use Rattle.beam_model.specs.Loadable.{start, functions_from, functions_of, signature_of, are_signatures_new, are_functions_lawful, exported_signature, is_entry_of}
 use Rattle.beam_listing.specs.Typed.{IsListing}
 use Rattle.beam_listing.specs.Printed.{HasListingText}
 use Rattle.beam_listing.proofs.HeadForms.{signatures_by}
@@ -34,27 +34,27 @@ has_functions n (Some fs) e =
     record { functions = fs; found = refl; count = eqb-true (length fs) n s.0; new = s.1 }
 has_functions n None e = absurd cc
 
-begin : (name : List ℕ) (is : List Instruction) (fs : List Function) → functions_from name nothing is ≡ Some fs → Begins is
+begin : (name : List ℕ) (is : List Instruction) (fs : List Function) → functions_from name start is ≡ Some fs → Begins is
 begin name [] fs e = tt
 begin name (i ∷ rest) fs e = begins name i rest fs e
 
 -- the listing that is read is the printed one, without the operands of its lines
 same_listing : (l : Listing) (exports : List Export) (count : ℕ) → exports ≡ l.exports → count ≡ l.function_count
-    → record { name = l.name; exports = exports; label_count = l.label_count; function_count = count; instructions = map spelled_instruction l.instructions } ≡ spelled l
-same_listing l exports count first second = λ k. record { name = l.name; exports = first k; label_count = l.label_count; function_count = second k; instructions = map spelled_instruction l.instructions }
+    → record { name = l.name; exports = exports; label_count = l.label_count; function_count = count; instructions = map without_line_number l.instructions } ≡ without_line_numbers l
+same_listing l exports count first second = λ k. record { name = l.name; exports = first k; label_count = l.label_count; function_count = second k; instructions = map without_line_number l.instructions }
 
 abbrev done : Listing → Result Listing ListingFault
 done l = Ok l
 
-pub printed_again : (l : Listing) → IsListing l → HasListingText l → listing_of_text (listing_text l) ≡ Ok (spelled l)
+pub printed_again : (l : Listing) → IsListing l → HasListingText l → listing_of_text (listing_text l) ≡ Ok (without_line_numbers l)
 printed_again l is has =
     let heads = has_functions l.function_count (functions_of l) has.heads in
     let entries = split_and (list_all (is_entry_of (unwrap_or (functions_of l) [])) l.exports) (are_signatures_new [] (map exported_signature l.exports)) has.exports in
     let lawful_exports : list_all (is_entry_of heads.functions) l.exports ≡ true =
     sym (ap (λ (o : Option (List Function)). list_all (is_entry_of (unwrap_or o [])) l.exports) heads.found) ∙ entries.0 in
     let fs : List Function = functions_in l.instructions in
-    let are : AreLawful l.instructions = lawful l.name nothing l.instructions heads.functions heads.found has.built_ins has.kinds is.instructions has.terms in
-    let same : heads.functions ≡ fs = functions_are l.name nothing l.instructions heads.functions (numbered l.instructions are) heads.found in
+    let are : AreLawful l.instructions = lawful l.name start l.instructions heads.functions heads.found has.built_ins has.kinds is.instructions has.terms in
+    let same : heads.functions ≡ fs = functions_are l.name start l.instructions heads.functions (numbered l.instructions are) heads.found in
     let exports : map (export_by fs) (signatures_by l.exports) ≡ l.exports =
     ap (λ (gs : List Function). map (export_by gs) (signatures_by l.exports)) (sym same) ∙ labels_again heads.functions l.exports heads.new lawful_exports in
     let count : length fs ≡ l.function_count = ap length (sym same) ∙ heads.count in

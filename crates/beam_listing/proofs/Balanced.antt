@@ -7,7 +7,7 @@ use Rattle.std.proofs.lemmas.List.{length-append}
 use Rattle.beam_erltext.proofs.Texts.{differ}
 use Rattle.beam_model.specs.declared.inside.Inside.{Inside}
 use Rattle.beam_model.specs.declared.inside.Inside.TheVariants as inside
-use Rattle.beam_model.specs.Forms.{◌>>=◌, inside_behind, is_closing, closed, open_behind, is_stop, stop_from, stop_in}
+use Rattle.beam_model.specs.Forms.{◌>>=◌, inside_after, is_closing, closed, open_after, is_stop, stop_from, stop_in}
 use Rattle.beam_listing.specs.BracketForm.{IsQuote, IsQuoted, no_byte, one_byte, escape, ArePair, round_pair, square_pair, brace_pair, IsPlain, IsBalanced, empty, plain, quoted, bracketed, commented}
 
 -- ---- bytes
@@ -17,7 +17,7 @@ data Class (c : ℕ) : Type 0 where
   percent : c ≡ 37 → Class c
   quote : IsQuote c → Class c
   opening : (close : ℕ) → ArePair c close → Class c
-  closing : is_closing c ≡ true → inside_behind inside.Nothing c ≡ inside.Nothing → ((d : List ℕ) → open_behind inside.Nothing c d ≡ closed c d) → Class c
+  closing : is_closing c ≡ true → inside_after inside.Nothing c ≡ inside.Nothing → ((d : List ℕ) → open_after inside.Nothing c d ≡ closed c d) → Class c
   other : IsPlain c → Class c
 
 pair_of : (c first close : ℕ) → c ≡ first → ArePair first close → Class c
@@ -42,8 +42,8 @@ class_of c = by (c == 34) (c == 37) (c == 39) (c == 40) (c == 41) (c == 91) (c =
     by false false false false false false false false false a b d e f g h i j = other (rw (a, b, d, e, f, g, h, i, j) refl)
 
 record PlainByte (c : ℕ) : Type 0 where
-  stays : inside_behind inside.Nothing c ≡ inside.Nothing
-  opens : (d : List ℕ) → open_behind inside.Nothing c d ≡ Some d
+  stays : inside_after inside.Nothing c ≡ inside.Nothing
+  opens : (d : List ℕ) → open_after inside.Nothing c d ≡ Some d
   ends : is_closing c ≡ false
 
 plain_byte : (c : ℕ) → IsPlain c → PlainByte c
@@ -55,13 +55,13 @@ plain_byte c p = by (c == 34) (c == 37) (c == 39) (c == 40) (c == 41) (c == 91) 
     by _ _ _ _ _ _ _ _ _ a b d e f g h i j z = absurd cc
 
 record Pair (opening close : ℕ) : Type 0 where
-  stays : inside_behind inside.Nothing opening ≡ inside.Nothing
-  opens : (d : List ℕ) → open_behind inside.Nothing opening d ≡ Some (close ∷ d)
+  stays : inside_after inside.Nothing opening ≡ inside.Nothing
+  opens : (d : List ℕ) → open_after inside.Nothing opening d ≡ Some (close ∷ d)
   goes_on : is_closing opening ≡ false
   marked : IsPlain opening → ⊥
   ends : is_closing close ≡ true
-  stays_closed : inside_behind inside.Nothing close ≡ inside.Nothing
-  closes : (d : List ℕ) → open_behind inside.Nothing close (close ∷ d) ≡ Some d
+  stays_closed : inside_after inside.Nothing close ≡ inside.Nothing
+  closes : (d : List ℕ) → open_after inside.Nothing close (close ∷ d) ≡ Some d
 
 pair_is : (opening close : ℕ) → ArePair opening close → Pair opening close
 pair_is _ _ round_pair = record { stays = refl; opens = λ d. refl; goes_on = refl; marked = λ p. absurd cc; ends = refl; stays_closed = refl; closes = λ d. refl }
@@ -70,7 +70,7 @@ pair_is _ _ brace_pair = record { stays = refl; opens = λ d. refl; goes_on = re
 
 -- ---- balanced text is passed over
 
-step : (mark : ℕ) (s : Inside) (d : List ℕ) (n c : ℕ) (cs : List ℕ) (t : Inside) (inner : List ℕ) → is_stop mark s d c ≡ false → inside_behind s c ≡ t → open_behind s c d ≡ Some inner
+step : (mark : ℕ) (s : Inside) (d : List ℕ) (n c : ℕ) (cs : List ℕ) (t : Inside) (inner : List ℕ) → is_stop mark s d c ≡ false → inside_after s c ≡ t → open_after s c d ≡ Some inner
     → stop_from mark s d n (c ∷ cs) ≡ stop_from mark t inner (n + 1) cs
 unfolding stop_from
 step mark s d n c cs t inner a b e = rw (a, b, e) refl
@@ -88,11 +88,11 @@ within_none mark o d c = rw (differ (length (o ∷ d)) 0 (λ e. omega (arith, e)
 passes_plain : (mark : ℕ) (d : List ℕ) (m c : ℕ) → Passes mark d m → IsPlain m → (IsPlain c → ⊥) → is_closing c ≡ false → is_stop mark inside.Nothing d c ≡ false
 passes_plain mark d m c passes p none k = passes c (λ e. none (subst IsPlain (sym e) p)) k
 
-quote_inside : (q : ℕ) → IsQuote q → inside_behind inside.Nothing q ≡ inside.Quotes q
+quote_inside : (q : ℕ) → IsQuote q → inside_after inside.Nothing q ≡ inside.Quotes q
 quote_inside q (inl e) = rw e refl
 quote_inside q (inr e) = rw e refl
 
-quote_open : (q : ℕ) (d : List ℕ) → IsQuote q → open_behind inside.Nothing q d ≡ Some d
+quote_open : (q : ℕ) (d : List ℕ) → IsQuote q → open_after inside.Nothing q d ≡ Some d
 quote_open q d (inl e) = rw e refl
 quote_open q d (inr e) = rw e refl
 
@@ -104,14 +104,14 @@ quote_marked : (q : ℕ) → IsQuote q → IsPlain q → ⊥
 quote_marked q (inl e) p = let bad : IsPlain 34 = subst IsPlain e p in absurd cc
 quote_marked q (inr e) p = let bad : IsPlain 39 = subst IsPlain e p in absurd cc
 
-quote_escapes : (q : ℕ) → IsQuote q → inside_behind (inside.Quotes q) 92 ≡ inside.Escape q
+quote_escapes : (q : ℕ) → IsQuote q → inside_after (inside.Quotes q) 92 ≡ inside.Escape q
 quote_escapes q (inl e) = rw e refl
 quote_escapes q (inr e) = rw e refl
 
-quote_ends : (q : ℕ) → inside_behind (inside.Quotes q) q ≡ inside.Nothing
+quote_ends : (q : ℕ) → inside_after (inside.Quotes q) q ≡ inside.Nothing
 quote_ends q = let same : (q == q) ≡ true = grind arith in rw same refl
 
-quoted_byte : (q c : ℕ) → c ≢ q → c ≢ 92 → inside_behind (inside.Quotes q) c ≡ inside.Quotes q
+quoted_byte : (q c : ℕ) → c ≢ q → c ≢ 92 → inside_after (inside.Quotes q) c ≡ inside.Quotes q
 quoted_byte q c a b = rw (differ c q a, differ c 92 b) refl
 
 -- a quoted piece is passed over, up to its closing quote
@@ -265,16 +265,16 @@ front_differs mark (b ∷ d) c are p stop e =
     absurd cc (bad)
 
 -- one byte more before a text that closes the open brackets
-outside_back : (mark : ℕ) (d : List ℕ) (c : ℕ) (inner cs : List ℕ) → AreClosing d → is_stop mark inside.Nothing d c ≡ false → open_behind inside.Nothing c d ≡ Some inner
-    → Remains (inside_behind inside.Nothing c) inner mark cs → Closes d mark (c ∷ cs)
+outside_back : (mark : ℕ) (d : List ℕ) (c : ℕ) (inner cs : List ℕ) → AreClosing d → is_stop mark inside.Nothing d c ≡ false → open_after inside.Nothing c d ≡ Some inner
+    → Remains (inside_after inside.Nothing c) inner mark cs → Closes d mark (c ∷ cs)
 outside_back mark d c inner cs are stop opens is = by (class_of c)
   where
-    stays : (s : Inside) (k : List ℕ) → inside_behind inside.Nothing c ≡ s → open_behind inside.Nothing c d ≡ Some k → Remains s k mark cs
-    stays s k e f = subst (λ (t : Inside). Remains t k mark cs) e (subst (λ (t : List ℕ). Remains (inside_behind inside.Nothing c) t mark cs) (some_is inner k (sym opens ∙ f)) is)
+    stays : (s : Inside) (k : List ℕ) → inside_after inside.Nothing c ≡ s → open_after inside.Nothing c d ≡ Some k → Remains s k mark cs
+    stays s k e f = subst (λ (t : Inside). Remains t k mark cs) e (subst (λ (t : List ℕ). Remains (inside_after inside.Nothing c) t mark cs) (some_is inner k (sym opens ∙ f)) is)
 
     by : Class c → Closes d mark (c ∷ cs)
     by (percent e) =
-        let r : Remains inside.Comment d mark cs = stays inside.Comment d (ap (inside_behind inside.Nothing) e) (ap (λ (x : ℕ). open_behind inside.Nothing x d) e) in
+        let r : Remains inside.Comment d mark cs = stays inside.Comment d (ap (inside_after inside.Nothing) e) (ap (λ (x : ℕ). open_after inside.Nothing x d) e) in
         let whole = piece_pushed d mark 37 10 r.0 r.1 (λ m t more. commented m r.0 t r.3 more) r.4 in
         subst (Closes d mark) ((λ i. sym e i ∷ sym r.2 i)) whole
     by (quote q) =
@@ -291,7 +291,7 @@ outside_back mark d c inner cs are stop opens is = by (class_of c)
         let byte = plain_byte c p in
         byte_pushed d mark c cs p (front_differs mark d c are p stop) (stays inside.Nothing d byte.stays (byte.opens d))
 
-quoted_back : (mark q : ℕ) (d : List ℕ) (c : ℕ) (cs : List ℕ) → Remains (inside_behind (inside.Quotes q) c) d mark cs → QuoteCloses q d mark (c ∷ cs)
+quoted_back : (mark q : ℕ) (d : List ℕ) (c : ℕ) (cs : List ℕ) → Remains (inside_after (inside.Quotes q) c) d mark cs → QuoteCloses q d mark (c ∷ cs)
 quoted_back mark q d c cs is = by (c == q) (c == 92) refl refl is
   where
     by : (k e : Bool) → (c == q) ≡ k → (c == 92) ≡ e → Remains (cond k inside.Nothing (cond e (inside.Escape q) (inside.Quotes q))) d mark cs → QuoteCloses q d mark (c ∷ cs)
@@ -305,25 +305,25 @@ quoted_back mark q d c cs is = by (c == q) (c == 92) refl refl is
     )
     by false false f g (inner, after, parts, is, closes) = (c ∷ inner, after, ap (λ (t : List ℕ). c ∷ t) parts, one_byte q c inner (no_test c q f) (no_test c 92 g) is, closes)
 
-comment_back : (mark : ℕ) (d : List ℕ) (c : ℕ) (cs : List ℕ) → Remains (inside_behind inside.Comment c) d mark cs → Remains inside.Comment d mark (c ∷ cs)
+comment_back : (mark : ℕ) (d : List ℕ) (c : ℕ) (cs : List ℕ) → Remains (inside_after inside.Comment c) d mark cs → Remains inside.Comment d mark (c ∷ cs)
 comment_back mark d c cs is = by (c == 10) refl is
   where
     by : (e : Bool) → (c == 10) ≡ e → Remains (cond e inside.Nothing inside.Comment) d mark cs → Remains inside.Comment d mark (c ∷ cs)
     by true e r = ([], cs, ap (λ (x : ℕ). x ∷ cs) (eqb-true c 10 e), refl, r)
     by false e (inner, after, parts, none, closes) = (c ∷ inner, after, ap (λ (t : List ℕ). c ∷ t) parts, rw (e, none) refl, closes)
 
-back : (mark : ℕ) (s : Inside) (d : List ℕ) (c : ℕ) (inner cs : List ℕ) → AreClosing d → is_stop mark s d c ≡ false → open_behind s c d ≡ Some inner
-    → Remains (inside_behind s c) inner mark cs → Remains s d mark (c ∷ cs)
+back : (mark : ℕ) (s : Inside) (d : List ℕ) (c : ℕ) (inner cs : List ℕ) → AreClosing d → is_stop mark s d c ≡ false → open_after s c d ≡ Some inner
+    → Remains (inside_after s c) inner mark cs → Remains s d mark (c ∷ cs)
 back mark inside.Nothing d c inner cs are stop opens is = outside_back mark d c inner cs are stop opens is
-back mark (inside.Quotes q) d c inner cs are stop opens is = quoted_back mark q d c cs (subst (λ (k : List ℕ). Remains (inside_behind (inside.Quotes q) c) k mark cs) (sym (some_is d inner opens)) is)
+back mark (inside.Quotes q) d c inner cs are stop opens is = quoted_back mark q d c cs (subst (λ (k : List ℕ). Remains (inside_after (inside.Quotes q) c) k mark cs) (sym (some_is d inner opens)) is)
 back mark (inside.Escape q) d c inner cs are stop opens is = (c, cs, refl, subst (λ (k : List ℕ). QuoteCloses q k mark cs) (sym (some_is d inner opens)) is)
-back mark inside.Comment d c inner cs are stop opens is = comment_back mark d c cs (subst (λ (k : List ℕ). Remains (inside_behind inside.Comment c) k mark cs) (sym (some_is d inner opens)) is)
+back mark inside.Comment d c inner cs are stop opens is = comment_back mark d c cs (subst (λ (k : List ℕ). Remains (inside_after inside.Comment c) k mark cs) (sym (some_is d inner opens)) is)
 
 -- after a byte the open brackets are still given by closing brackets
-still_closing : (s : Inside) (c : ℕ) (d inner : List ℕ) → AreClosing d → open_behind s c d ≡ Some inner → AreClosing inner
+still_closing : (s : Inside) (c : ℕ) (d inner : List ℕ) → AreClosing d → open_after s c d ≡ Some inner → AreClosing inner
 still_closing inside.Nothing c d inner are e = by (class_of c)
   where
-    same : (k : List ℕ) → open_behind inside.Nothing c d ≡ Some k → AreClosing k → AreClosing inner
+    same : (k : List ℕ) → open_after inside.Nothing c d ≡ Some k → AreClosing k → AreClosing inner
     same k f is = subst AreClosing (some_is k inner (sym f ∙ e)) is
 
     closer : (d : List ℕ) → AreClosing d → closed c d ≡ Some inner → AreClosing inner
@@ -335,7 +335,7 @@ still_closing inside.Nothing c d inner are e = by (class_of c)
         by_same false g = absurd cc
 
     by : Class c → AreClosing inner
-    by (percent f) = same d (ap (λ (x : ℕ). open_behind inside.Nothing x d) f) are
+    by (percent f) = same d (ap (λ (x : ℕ). open_after inside.Nothing x d) f) are
     by (quote q) = same d (quote_open c d q) are
     by (opening close pair) =
         let p = pair_is c close pair in
@@ -351,10 +351,10 @@ still_closing inside.Comment c d inner are e = subst AreClosing (some_is d inner
 stop_grows : (mark : ℕ) (s : Inside) (d : List ℕ) (n : ℕ) (text : List ℕ) (m : ℕ) → stop_from mark s d n text ≡ Some m → n ≤ m
 unfolding stop_from
 stop_grows mark s d n [] m e = absurd cc
-stop_grows mark s d n (c ∷ cs) m e = by (is_stop mark s d c) (open_behind s c d) e (λ inner f. stop_grows mark (inside_behind s c) inner (n + 1) cs m f)
+stop_grows mark s d n (c ∷ cs) m e = by (is_stop mark s d c) (open_after s c d) e (λ inner f. stop_grows mark (inside_after s c) inner (n + 1) cs m f)
   where
-    by : (b : Bool) (o : Option (List ℕ)) → cond b (Some n) (o >>= λ inner. stop_from mark (inside_behind s c) inner (n + 1) cs) ≡ Some m
-        → ((inner : List ℕ) → stop_from mark (inside_behind s c) inner (n + 1) cs ≡ Some m → n + 1 ≤ m) → n ≤ m
+    by : (b : Bool) (o : Option (List ℕ)) → cond b (Some n) (o >>= λ inner. stop_from mark (inside_after s c) inner (n + 1) cs) ≡ Some m
+        → ((inner : List ℕ) → stop_from mark (inside_after s c) inner (n + 1) cs ≡ Some m → n + 1 ≤ m) → n ≤ m
     by true o f more = let same : n ≡ m = cc (f) in omega (arith, same)
     by false None f more = absurd cc (f)
     by false (Some inner) f more = omega (arith, more inner f)
@@ -362,7 +362,7 @@ stop_grows mark s d n (c ∷ cs) m e = by (is_stop mark s d c) (open_behind s c 
 -- no bracket is open at the stop
 stop_outside : (mark : ℕ) (s : Inside) (d : List ℕ) (n at : ℕ) (more : List ℕ) → stop_from mark s d n (at ∷ more) ≡ Some (n + 0) → Remains s d mark []
 unfolding stop_from
-stop_outside mark s d n at more e = by (is_stop mark s d at) (open_behind s at d) refl e
+stop_outside mark s d n at more e = by (is_stop mark s d at) (open_after s at d) refl e
   where
     outside : (s : Inside) (d : List ℕ) → is_stop mark s d at ≡ true → Remains s d mark []
     outside inside.Nothing [] t = empty mark
@@ -371,20 +371,20 @@ stop_outside mark s d n at more e = by (is_stop mark s d at) (open_behind s at d
     outside (inside.Escape q) d t = absurd cc
     outside inside.Comment d t = absurd cc
 
-    by : (b : Bool) (o : Option (List ℕ)) → is_stop mark s d at ≡ b → cond b (Some n) (o >>= λ inner. stop_from mark (inside_behind s at) inner (n + 1) more) ≡ Some (n + 0) → Remains s d mark []
+    by : (b : Bool) (o : Option (List ℕ)) → is_stop mark s d at ≡ b → cond b (Some n) (o >>= λ inner. stop_from mark (inside_after s at) inner (n + 1) more) ≡ Some (n + 0) → Remains s d mark []
     by true o t f = outside s d t
     by false None t f = absurd cc (f)
-    by false (Some inner) t f = absurd (omega (arith, stop_grows mark (inside_behind s at) inner (n + 1) more (n + 0) f))
+    by false (Some inner) t f = absurd (omega (arith, stop_grows mark (inside_after s at) inner (n + 1) more (n + 0) f))
 
 remains : (mark : ℕ) (s : Inside) (d : List ℕ) (n : ℕ) (text : List ℕ) (at : ℕ) (more : List ℕ) → AreClosing d → stop_from mark s d n (text ++ (at ∷ more)) ≡ Some (n + length text) → Remains s d mark text
 unfolding stop_from
 remains mark s d n [] at more are e = stop_outside mark s d n at more e
 remains mark s d n (c ∷ cs) at more are e =
-    by (is_stop mark s d c) (open_behind s c d) refl refl e (λ inner closing f. remains mark (inside_behind s c) inner (n + 1) cs at more closing f)
+    by (is_stop mark s d c) (open_after s c d) refl refl e (λ inner closing f. remains mark (inside_after s c) inner (n + 1) cs at more closing f)
   where
-    by : (b : Bool) (o : Option (List ℕ)) → is_stop mark s d c ≡ b → open_behind s c d ≡ o
-        → cond b (Some n) (o >>= λ inner. stop_from mark (inside_behind s c) inner (n + 1) (cs ++ (at ∷ more))) ≡ Some (n + length (c ∷ cs))
-        → ((inner : List ℕ) → AreClosing inner → stop_from mark (inside_behind s c) inner (n + 1) (cs ++ (at ∷ more)) ≡ Some ((n + 1) + length cs) → Remains (inside_behind s c) inner mark cs)
+    by : (b : Bool) (o : Option (List ℕ)) → is_stop mark s d c ≡ b → open_after s c d ≡ o
+        → cond b (Some n) (o >>= λ inner. stop_from mark (inside_after s c) inner (n + 1) (cs ++ (at ∷ more))) ≡ Some (n + length (c ∷ cs))
+        → ((inner : List ℕ) → AreClosing inner → stop_from mark (inside_after s c) inner (n + 1) (cs ++ (at ∷ more)) ≡ Some ((n + 1) + length cs) → Remains (inside_after s c) inner mark cs)
         → Remains s d mark (c ∷ cs)
     by true o t u f others = let same : n ≡ n + length (c ∷ cs) = cc (f) in absurd (omega (arith, same))
     by false None t u f others = absurd cc (f)

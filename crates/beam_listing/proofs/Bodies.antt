@@ -12,8 +12,8 @@ use Rattle.beam_model.specs.declared.item.Item.TheVariants as item
 use Rattle.beam_model.specs.Text.{is_reserved, atom_text}
 use Rattle.beam_model.specs.TextReading.{after_blanks}
 use Rattle.beam_model.specs.Forms.{uncommented, uncommented_from}
-use Rattle.beam_model.specs.ListingForms.{item_of, item_by, function_of}
-use Rattle.beam_model.specs.ListingReading.{Body, with_item, next_at, body_from}
+use Rattle.beam_model.specs.ListingForms.{item_of, item_by, function_of_parts}
+use Rattle.beam_model.specs.ListingReading.{ListingBody, with_item, next_form, body_from}
 use Rattle.beam_erltext.proofs.Texts.{differ}
 use Rattle.beam_erltext.proofs.AgainTerms.{no_blanks}
 use Rattle.beam_listing.proofs.Traces.{brace, uncommented_behind}
@@ -68,19 +68,19 @@ item_parts (f ∷ fs) [] are = absurd are
 item_parts (f ∷ fs) (x ∷ xs) are = (are.0.0, item_parts fs xs are.1)
 
 -- a body with these forms more, each where it may stand, is the whole
-abbrev pub Adds : Body → List Item → Body → Type 0
+abbrev pub Adds : ListingBody → List Item → ListingBody → Type 0
 Adds body [] whole = body ≡ whole
-Adds body (x ∷ xs) whole = (next : Body) × ((left : ℕ) → with_item left body x ≡ Ok next) × Adds next xs whole
+Adds body (x ∷ xs) whole = (next : ListingBody) × ((left : ℕ) → with_item left body x ≡ Ok next) × Adds next xs whole
 
-body_end : (n : ℕ) (body : Body) → body_from n body [] ≡ Ok body
+body_end : (n : ℕ) (body : ListingBody) → body_from n body [] ≡ Ok body
 unfolding body_from
 body_end zero body = refl
 body_end (suc n) body = refl
 
-pub body_again : (n : ℕ) (body whole : Body) (fs : List (List ℕ)) (xs : List Item) → AreItems fs xs → Adds body xs whole → length (forms_text fs) ≤ n
+pub body_again : (n : ℕ) (body whole : ListingBody) (fs : List (List ℕ)) (xs : List Item) → AreItems fs xs → Adds body xs whole → length (forms_text fs) ≤ n
     → body_from n body (forms_text fs) ≡ Ok whole
 unfolding body_from
-body_again n body whole [] [] are adds h = body_end n body ∙ ap (λ (b : Body). Ok b) adds
+body_again n body whole [] [] are adds h = body_end n body ∙ ap (λ (b : ListingBody). Ok b) adds
 body_again n body whole [] (x ∷ xs) are adds h = absurd are
 body_again n body whole (f ∷ fs) [] are adds h = absurd are
 body_again zero body whole (f ∷ fs) (x ∷ xs) are adds h = absurd (omega (arith, h, length-append f (46 ∷ 10 ∷ forms_text fs)))
@@ -88,7 +88,7 @@ body_again (suc n) body whole (f ∷ fs) (x ∷ xs) are adds h =
     let text : List ℕ = f ++ (46 ∷ 10 ∷ forms_text fs) in
     let long : length text ≡ length f + suc (suc (length (forms_text fs))) = length-append f (46 ∷ 10 ∷ forms_text fs) in
     let some : (length text == 0) ≡ false = differ (length text) 0 (λ e. omega (arith, e, long)) in
-    let read : next_at item_of text ≡ Ok (x, forms_text fs) = next_again item_of f (forms_text fs) x are.0.0 (forms_plain fs (item_parts fs xs are.1)) are.0.1 in
+    let read : next_form item_of text ≡ Ok (x, forms_text fs) = next_again item_of f (forms_text fs) x are.0.0 (forms_plain fs (item_parts fs xs are.1)) are.0.1 in
     rw (some, read, adds.1 (length text)) (body_again n adds.0 whole fs xs are.1 adds.2 (omega (arith, h, long)))
 
 -- ---- functions
@@ -126,7 +126,7 @@ function_part f is =
     subst IsPart (sym (function_is f)) (tuple_part (codes "function" ∷ atom_text f.name ∷ function_parts f) (word_part (codes "function") function_word, (atom_part f.name, are_function_parts f is)))
 
 function_read : (f : Function) → IsFunction f → item_by (codes "function") (atom_text f.name ∷ function_parts f) ≡ Some (item.Function f)
-unfolding item_by function_of function_parts
+unfolding item_by function_of_parts function_parts
 function_read f is = rw (atom_whole f.name is.name, number_whole f.arity is.arity, number_whole f.entry is.entry) refl
 
 pub function_again : (f : Function) → IsFunction f → item_of (function_form f) ≡ Some (item.Function f)

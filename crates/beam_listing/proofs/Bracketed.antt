@@ -5,7 +5,7 @@ use Rattle.std.proofs.lemmas.Bool.{eqb-true}
 use Rattle.std.proofs.lemmas.List.{append-nil, take_at, drop_at, take-append-drop, length-take, length-drop, length-append}
 use Rattle.beam_erltext.proofs.Texts.{differ}
 use Rattle.beam_model.specs.declared.inside.Inside.TheVariants as inside
-use Rattle.beam_model.specs.Forms.{◌>>=◌, is_closing, is_stop, stop_from, stop_in, alone, elements_behind, element_by, elements_from, elements_within, elements_of, tuple_parts, list_parts}
+use Rattle.beam_model.specs.Forms.{◌>>=◌, is_closing, is_stop, stop_from, stop_in, alone, elements_after, element_by, elements_from, elements_within, bracketed_elements, tuple_parts, list_parts}
 use Rattle.beam_model.specs.TextReading.{is_blank, after_blanks}
 use Rattle.beam_listing.specs.BracketForm.{HasNoMargin, AreBlanks, IsElement, AreElements, AreBracketed}
 use Rattle.beam_listing.proofs.Balanced.{balanced_told, balanced_read}
@@ -59,7 +59,7 @@ Further more close all = (before : List (List ℕ)) (rest : List ℕ) → HasNoM
 
 by_behind : (more : List (List ℕ) → List ℕ → Option (List (List ℕ))) (close : ℕ) (before all : List (List ℕ)) (text : List ℕ) (size : ℕ) (behind : List ℕ) → HasNoMargin text
     → stop_in 44 text ≡ Some size → (size == 0) ≡ false → drop size text ≡ behind
-    → elements_behind (more (before ++ take size text ∷ [])) close (before ++ take size text ∷ []) behind ≡ Some all → Further more close all → Elements close before all text
+    → elements_after (more (before ++ take size text ∷ [])) close (before ++ take size text ∷ []) behind ≡ Some all → Further more close all → Elements close before all text
 by_behind more close before all text size [] h s some d e further = absurd cc (e)
 by_behind more close before all text size (c ∷ cs) h s some d e further = by (c == 44) (c == close) refl refl e
   where
@@ -82,12 +82,12 @@ by_behind more close before all text size (c ∷ cs) h s some d e further = by (
     by false false t u f = absurd cc (f)
 
 by_size : (more : List (List ℕ) → List ℕ → Option (List (List ℕ))) (close : ℕ) (before all : List (List ℕ)) (text : List ℕ) (o : Option ℕ) → HasNoMargin text → stop_in 44 text ≡ o
-    → (o >>= λ size. cond (size == 0) None (elements_behind (more (before ++ take size text ∷ [])) close (before ++ take size text ∷ []) (drop size text))) ≡ Some all
+    → (o >>= λ size. cond (size == 0) None (elements_after (more (before ++ take size text ∷ [])) close (before ++ take size text ∷ []) (drop size text))) ≡ Some all
     → Further more close all → Elements close before all text
 by_size more close before all text None h s e further = absurd cc (e)
 by_size more close before all text (Some size) h s e further = by (size == 0) refl e
   where
-    by : (b : Bool) → (size == 0) ≡ b → cond b None (elements_behind (more (before ++ take size text ∷ [])) close (before ++ take size text ∷ []) (drop size text)) ≡ Some all → Elements close before all text
+    by : (b : Bool) → (size == 0) ≡ b → cond b None (elements_after (more (before ++ take size text ∷ [])) close (before ++ take size text ∷ []) (drop size text)) ≡ Some all → Elements close before all text
     by true t f = absurd cc (f)
     by false t f = by_behind more close before all text size (drop size text) h s t refl f further
 
@@ -111,8 +111,8 @@ within_told close all (c ∷ cs) h e = by (c == close) refl e
         subst (λ (es : List (List ℕ)). AreElements close es (c ∷ cs)) (sym x.sum) x.are
 
 -- the elements that are read of a text in brackets stand there
-bracketed_told : (opening close : ℕ) (all : List (List ℕ)) (text : List ℕ) → elements_of opening close text ≡ Some all → AreBracketed opening close all text
-unfolding elements_of
+bracketed_told : (opening close : ℕ) (all : List (List ℕ)) (text : List ℕ) → bracketed_elements opening close text ≡ Some all → AreBracketed opening close all text
+unfolding bracketed_elements
 bracketed_told opening close all [] e = absurd cc (e)
 bracketed_told opening close all (c ∷ cs) e = by (c == opening) refl e
   where
@@ -155,13 +155,13 @@ abbrev Ends : ℕ → Type 0
 Ends mark = is_stop 44 inside.Nothing [] mark ≡ true
 
 element_read : (more : List (List ℕ) → List ℕ → Option (List (List ℕ))) (close : ℕ) (before : List (List ℕ)) (e : List ℕ) (mark : ℕ) (cs : List ℕ) → IsElement e → Ends mark
-    → element_by more close before (e ++ (mark ∷ cs)) ≡ elements_behind (more (before ++ e ∷ [])) close (before ++ e ∷ []) (mark ∷ cs)
+    → element_by more close before (e ++ (mark ∷ cs)) ≡ elements_after (more (before ++ e ∷ [])) close (before ++ e ∷ []) (mark ∷ cs)
 element_read more close before e mark cs is ends =
     let stop : stop_in 44 (e ++ (mark ∷ cs)) ≡ Some (length e) = balanced_read 44 e mark cs refl ends is.balanced in
     let some : (length e == 0) ≡ false = filled e is.some in
     rw (stop, some, take_at e (mark ∷ cs) (length e) refl, drop_at e (mark ∷ cs) (length e) refl) refl
 
-close_read : (more : List ℕ → Option (List (List ℕ))) (close : ℕ) (all : List (List ℕ)) (blanks : List ℕ) → IsClose close → AreBlanks blanks → elements_behind more close all (close ∷ blanks) ≡ Some all
+close_read : (more : List ℕ → Option (List (List ℕ))) (close : ℕ) (all : List (List ℕ)) (blanks : List ℕ) → IsClose close → AreBlanks blanks → elements_after more close all (close ∷ blanks) ≡ Some all
 close_read more close all blanks is are =
     let comma : (close == 44) ≡ false = is.comma in
     let same : (close == close) ≡ true = grind arith in
@@ -237,14 +237,14 @@ inner_margin : (close : ℕ) (all : List (List ℕ)) (inner : List ℕ) → IsCl
 inner_margin close [] inner k (blanks, parts, are) = subst HasNoMargin (sym parts) k.no_blank
 inner_margin close (e ∷ es) inner k are = elements_margin close e es inner are
 
-opened : (opening close : ℕ) (cs : List ℕ) → elements_of opening close (opening ∷ cs) ≡ elements_within close (after_blanks cs)
-unfolding elements_of
+opened : (opening close : ℕ) (cs : List ℕ) → bracketed_elements opening close (opening ∷ cs) ≡ elements_within close (after_blanks cs)
+unfolding bracketed_elements
 opened opening close cs = let same : (opening == opening) ≡ true = grind arith in rw same refl
 
 -- the elements of a text in brackets are read
-bracketed_read : (opening close : ℕ) (all : List (List ℕ)) (text : List ℕ) → IsClose close → AreBracketed opening close all text → elements_of opening close text ≡ Some all
+bracketed_read : (opening close : ℕ) (all : List (List ℕ)) (text : List ℕ) → IsClose close → AreBracketed opening close all text → bracketed_elements opening close text ≡ Some all
 bracketed_read opening close all text k are =
-    ap (elements_of opening close) are.parts
+    ap (bracketed_elements opening close) are.parts
     ∙ opened opening close (are.blanks ++ are.inner)
     ∙ ap (elements_within close) (after_margin are.blanks are.inner are.are_blanks (inner_margin close all are.inner k are.are_elements))
     ∙ within_read close all are.inner k are.are_elements

@@ -13,7 +13,7 @@ use Rattle.beam_model.specs.SameText.{same_text}
 use Rattle.beam_model.specs.Text.{is_reserved, atom_text}
 use Rattle.beam_model.specs.Opcodes.{kinds_of}
 use Rattle.beam_model.specs.ListingText.{tagged, operand_text, operands_text, call_text, bif0_text, bif_text, gc_bif_text, raise_text}
-use Rattle.beam_model.specs.ListingForms.{label_of, raise_by, raise_of, counted, bif0_of, bif_by, is_raise_call, bif_of, gc_bif_of, instruction_by, item_by}
+use Rattle.beam_model.specs.ListingForms.{label_of_text, raise_by, raise_of_text, counted, bif0_of, bif_by, is_raise_call, bif_of, gc_bif_of, instruction_by, item_by}
 use Rattle.beam_listing.specs.Typed.{IsImport}
 use Rattle.beam_listing.proofs.Traces.{square, brace}
 use Rattle.beam_listing.proofs.Elements.{IsPart, AreParts, closed}
@@ -43,7 +43,7 @@ gc_bif_item : (ps : List (List ℕ)) → item_by (codes "gc_bif") ps ≡ as_item
 unfolding item_by instruction_by as_item
 gc_bif_item ps = refl
 
-raise_item : (list : List ℕ) → item_by (codes "raise") (list ∷ []) ≡ as_item (raise_of list)
+raise_item : (list : List ℕ) → item_by (codes "raise") (list ∷ []) ≡ as_item (raise_of_text list)
 unfolding item_by instruction_by as_item
 raise_item list = refl
 
@@ -238,8 +238,8 @@ no_label_is = ap (tagged (codes "f")) (decimal_digit 0 (omega arith))
 no_label_part : IsPart no_label
 no_label_part = subst IsPart no_label_is (tagged_part (codes "f") (decimal 0) (word_part (codes "f") f_word) (number_part 0 (omega arith)))
 
-no_label_again : label_of no_label ≡ Some 0
-no_label_again = ap label_of (sym no_label_is) ∙ f_again 0 (omega arith)
+no_label_again : label_of_text no_label ≡ Some 0
+no_label_again = ap label_of_text (sym no_label_is) ∙ f_again 0 (omega arith)
 
 bif0_parts : Operand → List (List ℕ)
 bif0_parts d = no_label ∷ list_texts [] ∷ operand_text d ∷ []
@@ -285,8 +285,8 @@ unfolding list_texts
 raise_is os = ap (λ (x : List ℕ). codes "{raise,[" ++ x) (list_end os)
 
 raise_read : (a b : Operand) → AreParts (plain_texts (a ∷ b ∷ [])) → AreUnder (kinds_of op.Raise) (a ∷ b ∷ [])
-    → raise_of (list_texts (plain_texts (a ∷ b ∷ []))) ≡ Some (made op.Raise (a ∷ b ∷ []))
-unfolding raise_of raise_by
+    → raise_of_text (list_texts (plain_texts (a ∷ b ∷ []))) ≡ Some (made op.Raise (a ∷ b ∷ []))
+unfolding raise_of_text raise_by
 raise_read a b parts are = rw (texts_parts (plain_texts (a ∷ b ∷ [])) parts, operands_again [] (kinds_of op.Raise) (a ∷ b ∷ []) are) refl
 
 raise_written : (a b : Operand) → AreUnder (kinds_of op.Raise) (a ∷ b ∷ []) → IsWritten (raise_text (a ∷ b ∷ [])) (made op.Raise (a ∷ b ∷ []))

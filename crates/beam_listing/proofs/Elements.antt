@@ -5,7 +5,7 @@ use Rattle.std.proofs.Math.Seq.{take-append_seam, drop-append_seam}
 use Rattle.std.proofs.lemmas.List.{length-append}
 use Rattle.beam_model.specs.declared.inside.Inside.TheVariants as inside
 use Rattle.beam_model.specs.TextReading.{after_blanks}
-use Rattle.beam_model.specs.Forms.{stop_from, stop_in, elements_behind, element_by, elements_from, elements_within, elements_of}
+use Rattle.beam_model.specs.Forms.{stop_from, stop_in, elements_after, element_by, elements_from, elements_within, bracketed_elements}
 use Rattle.beam_erltext.proofs.Texts.{differ}
 use Rattle.beam_erltext.proofs.AgainTerms.{Begins, no_blanks}
 use Rattle.beam_listing.proofs.Traces.{Brackets, square, brace, left, right, Safe, stop_behind}
@@ -46,11 +46,11 @@ some_size p begins =
 
 -- one part, and then the elements that `more` reads from the text after it
 element_again : (more : List (List ℕ) → List ℕ → Option (List (List ℕ))) (b : Brackets) (done : List (List ℕ)) (p : List ℕ) (ps : List (List ℕ)) → IsPart p
-    → element_by more (right b) done (p ++ others b ps) ≡ elements_behind (more (done ++ p ∷ [])) (right b) (done ++ p ∷ []) (others b ps)
+    → element_by more (right b) done (p ++ others b ps) ≡ elements_after (more (done ++ p ∷ [])) (right b) (done ++ p ∷ []) (others b ps)
 element_again more b done p ps is =
     rw (stops_behind b p ps is, some_size p is.begins, take-append_seam p (others b ps), drop-append_seam p (others b ps)) refl
 
-close_end : (more : List ℕ → Option (List (List ℕ))) (b : Brackets) (found : List (List ℕ)) → elements_behind more (right b) found (right b ∷ []) ≡ Some found
+close_end : (more : List ℕ → Option (List (List ℕ))) (b : Brackets) (found : List (List ℕ)) → elements_after more (right b) found (right b ∷ []) ≡ Some found
 unfolding after_blanks
 close_end more square found = refl
 close_end more brace found = refl
@@ -76,8 +76,8 @@ not_close : (b : Brackets) (p : List ℕ) (begins : Begins p) → (begins.first 
 not_close square p begins = differ begins.first 93 begins.square
 not_close brace p begins = differ begins.first 125 begins.brace
 
-opened : (b : Brackets) (text : List ℕ) → elements_of (left b) (right b) (left b ∷ text) ≡ elements_within (right b) (after_blanks text)
-unfolding elements_of
+opened : (b : Brackets) (text : List ℕ) → bracketed_elements (left b) (right b) (left b ∷ text) ≡ elements_within (right b) (after_blanks text)
+unfolding bracketed_elements
 opened square text = refl
 opened brace text = refl
 
@@ -91,7 +91,7 @@ none_within square = refl
 none_within brace = refl
 
 -- the parts between brackets
-pub parts_again : (b : Brackets) (ps : List (List ℕ)) → AreParts ps → elements_of (left b) (right b) (left b ∷ closed b [] ps) ≡ Some ps
+pub parts_again : (b : Brackets) (ps : List (List ℕ)) → AreParts ps → bracketed_elements (left b) (right b) (left b ∷ closed b [] ps) ≡ Some ps
 parts_again b [] are = opened b (right b ∷ []) ∙ none_within b
 parts_again b (p ∷ ps) are =
     let begins = are.0.begins in

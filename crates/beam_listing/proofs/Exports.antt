@@ -10,7 +10,7 @@ use Rattle.beam_model.specs.declared.function.Function.{Function}
 use Rattle.beam_model.specs.declared.function.Signature.{Signature}
 use Rattle.beam_model.specs.SameText.{same_text}
 use Rattle.beam_model.specs.Loadable.{signature_of, same_signature, are_signatures_new, exported, is_entry, is_entry_of}
-use Rattle.beam_model.specs.ListingReading.{entry_in, export_by}
+use Rattle.beam_model.specs.ListingReading.{entry_label_of, export_by}
 use Rattle.beam_listing.proofs.HeadForms.{signature_by, signatures_by}
 
 -- ---- tests
@@ -94,8 +94,8 @@ known_by f before e name arity =
 -- whether the name and arity of a function are those of an export, and whether its entry is the label
 entry_by : (a b : Bool) (f : Function) (rest : List Function) (before : List Signature) (e : Export)
     → (same_text f.name e.name && f.arity == e.arity) ≡ a → is_entry f (exported e) ≡ b → (b || is_entry_of rest e) ≡ true
-    → are_signatures_new (before ++ signature_of f ∷ []) (map signature_of rest) ≡ true → (is_entry_of rest e ≡ true → entry_in rest (signature_by e) ≡ e.label)
-    → cond a f.entry (entry_in rest (signature_by e)) ≡ e.label
+    → are_signatures_new (before ++ signature_of f ∷ []) (map signature_of rest) ≡ true → (is_entry_of rest e ≡ true → entry_label_of rest (signature_by e) ≡ e.label)
+    → cond a f.entry (entry_label_of rest (signature_by e)) ≡ e.label
 entry_by true true f rest before e named same is new others = (entry_is f e same).entry
 entry_by true false f rest before e named same is new others =
     let n = split_and (same_text f.name e.name) (f.arity == e.arity) named in
@@ -111,7 +111,7 @@ entry_by false true f rest before e named same is new others = absurd (no_test (
     part_named f e is = both (same_text f.name e.name) (f.arity == e.arity) (f.entry == e.label) is
 entry_by false false f rest before e named same is new others = others is
 
-entry_again : (fs : List Function) (before : List Signature) (e : Export) → are_signatures_new before (map signature_of fs) ≡ true → is_entry_of fs e ≡ true → entry_in fs (signature_by e) ≡ e.label
+entry_again : (fs : List Function) (before : List Signature) (e : Export) → are_signatures_new before (map signature_of fs) ≡ true → is_entry_of fs e ≡ true → entry_label_of fs (signature_by e) ≡ e.label
 entry_again [] before e new is = absurd (no_test false is refl)
 entry_again (f ∷ rest) before e new is =
     let split = split_not (list_any (same_signature (signature_of f)) before) (are_signatures_new (before ++ signature_of f ∷ []) (map signature_of rest)) new in
@@ -121,6 +121,6 @@ pub labels_again : (fs : List Function) (es : List Export) → are_signatures_ne
 labels_again fs [] new are = refl
 labels_again fs (e ∷ es) new are =
     let split = split_and (is_entry_of fs e) (list_all (is_entry_of fs) es) are in
-    let label : entry_in fs (signature_by e) ≡ e.label = entry_again fs [] e new split.0 in
+    let label : entry_label_of fs (signature_by e) ≡ e.label = entry_again fs [] e new split.0 in
     let others : map (export_by fs) (signatures_by es) ≡ es = labels_again fs es new split.1 in
     λ k. record { name = e.name; arity = e.arity; label = label k } ∷ others k

@@ -5,7 +5,7 @@ use Rattle.std.specs.List.{list_all}
 use Rattle.std.proofs.lemmas.Bool.{eqb-true}
 use Rattle.std.proofs.lemmas.List.{take_at, drop_at, take-append-drop, length-take, length-drop, length-append}
 use Rattle.beam_model.specs.Forms.{stop_in}
-use Rattle.beam_model.specs.ListingReading.{ListingFault, syntax, ended, stopped, form_at, meant, next_at}
+use Rattle.beam_model.specs.ListingReading.{ListingFault, syntax, ended_form, form_up_to, listing_form_at, meant, next_form}
 use Rattle.beam_model.specs.Reading.{◌>>=◌}
 use Rattle.beam_model.specs.TextReading.{is_blank, after_blanks}
 use Rattle.beam_listing.specs.BracketForm.{HasNoMargin, AreBlanks, IsBalanced}
@@ -71,7 +71,7 @@ record Ended (behind form first rest : List ℕ) : Type 0 where
   same : first ≡ form
   after : rest ≡ after_blanks more
 
-ended_is : (text form behind first rest : List ℕ) → ended text form behind ≡ Ok (first, rest) → Ended behind form first rest
+ended_is : (text form behind first rest : List ℕ) → ended_form text form behind ≡ Ok (first, rest) → Ended behind form first rest
 ended_is text form [] first rest e = absurd cc
 ended_is text form (c ∷ cs) first rest e = by (c == 46) refl e
   where
@@ -92,7 +92,7 @@ record AtFront (text form rest : List ℕ) : Type 0 where
   after : rest ≡ after_blanks more
   balanced : IsBalanced 46 form
 
-stopped_is : (text : List ℕ) (o : Option ℕ) (form rest : List ℕ) → stop_in 46 text ≡ o → stopped text o ≡ Ok (form, rest) → AtFront text form rest
+stopped_is : (text : List ℕ) (o : Option ℕ) (form rest : List ℕ) → stop_in 46 text ≡ o → form_up_to text o ≡ Ok (form, rest) → AtFront text form rest
 stopped_is text None form rest s e = absurd cc
 stopped_is text (Some size) form rest s e =
     let x = ended_is text (take size text) (drop size text) form rest e in
@@ -106,12 +106,12 @@ stopped_is text (Some size) form rest s e =
       balanced = balanced_told 46 form 46 x.more (ap (stop_in 46) (sym parts) ∙ s ∙ ap (λ (k : ℕ). Some k) count);
     }
 
-form_told : (text form rest : List ℕ) → form_at text ≡ Ok (form, rest) → AtFront text form rest
-unfolding form_at
+form_told : (text form rest : List ℕ) → listing_form_at text ≡ Ok (form, rest) → AtFront text form rest
+unfolding listing_form_at
 form_told text form rest e = stopped_is text (stop_in 46 text) form rest refl e
 
-form_read : (form more : List ℕ) → IsBalanced 46 form → form_at (form ++ (46 ∷ more)) ≡ Ok (form, after_blanks more)
-unfolding form_at
+form_read : (form more : List ℕ) → IsBalanced 46 form → listing_form_at (form ++ (46 ∷ more)) ≡ Ok (form, after_blanks more)
+unfolding listing_form_at
 form_read form more e =
     let stop = balanced_read 46 form 46 more refl refl e in
     rw (stop, take_at form (46 ∷ more) (length form) refl, drop_at form (46 ∷ more) (length form) refl) refl
@@ -150,32 +150,32 @@ front_of Says text form rest x h t says =
     }
 
 pub next_told : {A : Type 0} (Says : A → List ℕ → Type 0) (meaning : List ℕ → Option A) → Means Says meaning → (text : List ℕ) (p : A × List ℕ) → HasNoMargin text
-    → next_at meaning text ≡ Ok p → Front Says text p.0 p.1
-unfolding next_at
+    → next_form meaning text ≡ Ok p → Front Says text p.0 p.1
+unfolding next_form
 next_told Says meaning law [] p h e = absurd cc
 next_told {A = A} Says meaning law (c ∷ cs) p h e =
-    let f = bind_ok (form_at (c ∷ cs)) (λ (form : List ℕ × List ℕ). meant (c ∷ cs) form.0 (meaning form.0) >>= λ x. done (x, form.1)) p e in
+    let f = bind_ok (listing_form_at (c ∷ cs)) (λ (form : List ℕ × List ℕ). meant (c ∷ cs) form.0 (meaning form.0) >>= λ x. done (x, form.1)) p e in
     let m = bind_ok (meant (c ∷ cs) f.0.0 (meaning f.0.0)) (λ (x : A). done (x, f.0.1)) p f.2 in
     let says = law.told f.0.0 m.0 (meant_is (c ∷ cs) f.0.0 (meaning f.0.0) m.0 m.1) in
     let front = front_of Says (c ∷ cs) f.0.0 f.0.1 m.0 h (form_told (c ∷ cs) f.0.0 f.0.1 f.1) says in
     subst (λ (q : A × List ℕ). Front Says (c ∷ cs) q.0 q.1) (ok_is (m.0, f.0.1) p m.2) front
 
-next_is : {A : Type 0} (meaning : List ℕ → Option A) (c : ℕ) (cs form rest : List ℕ) (x : A) → form_at (c ∷ cs) ≡ Ok (form, rest) → meaning form ≡ Some x → next_at meaning (c ∷ cs) ≡ Ok (x, rest)
-unfolding next_at
+next_is : {A : Type 0} (meaning : List ℕ → Option A) (c : ℕ) (cs form rest : List ℕ) (x : A) → listing_form_at (c ∷ cs) ≡ Ok (form, rest) → meaning form ≡ Some x → next_form meaning (c ∷ cs) ≡ Ok (x, rest)
+unfolding next_form
 next_is meaning c cs form rest x e m = rw (e, m) refl
 
-next_by : {A : Type 0} (meaning : List ℕ → Option A) (form more rest : List ℕ) (x : A) → form_at (form ++ (46 ∷ more)) ≡ Ok (form, rest) → meaning form ≡ Some x
-    → next_at meaning (form ++ (46 ∷ more)) ≡ Ok (x, rest)
+next_by : {A : Type 0} (meaning : List ℕ → Option A) (form more rest : List ℕ) (x : A) → listing_form_at (form ++ (46 ∷ more)) ≡ Ok (form, rest) → meaning form ≡ Some x
+    → next_form meaning (form ++ (46 ∷ more)) ≡ Ok (x, rest)
 next_by meaning [] more rest x e m = next_is meaning 46 more [] rest x e m
 next_by meaning (c ∷ form) more rest x e m = next_is meaning c (form ++ (46 ∷ more)) (c ∷ form) rest x e m
 
 pub next_read : {A : Type 0} (Says : A → List ℕ → Type 0) (meaning : List ℕ → Option A) → Means Says meaning → (front rest : List ℕ) (x : A) → IsForm Says x front → HasNoMargin rest
-    → next_at meaning (front ++ rest) ≡ Ok (x, rest)
+    → next_form meaning (front ++ rest) ≡ Ok (x, rest)
 next_read Says meaning law front rest x is h =
     let parts : front ++ rest ≡ is.form ++ (46 ∷ (is.blanks ++ rest)) = ap (λ (t : List ℕ). t ++ rest) is.parts ∙ append_assoc is.form (46 ∷ is.blanks) rest in
-    let read : form_at (is.form ++ (46 ∷ (is.blanks ++ rest))) ≡ Ok (is.form, rest) =
+    let read : listing_form_at (is.form ++ (46 ∷ (is.blanks ++ rest))) ≡ Ok (is.form, rest) =
     form_read is.form (is.blanks ++ rest) is.balanced ∙ ap (λ (t : List ℕ). done (is.form, t)) (after_margin is.blanks rest is.are_blanks h) in
-    ap (next_at meaning) parts ∙ next_by meaning is.form (is.blanks ++ rest) rest x read (law.read is.form x is.says)
+    ap (next_form meaning) parts ∙ next_by meaning is.form (is.blanks ++ rest) rest x read (law.read is.form x is.says)
 
 stops_margin : (form more : List ℕ) → HasNoMargin form → HasNoMargin (form ++ (46 ∷ more))
 stops_margin [] more h = refl

@@ -3,25 +3,25 @@ use Rattle.std.proofs.Common.{◌≡◌, ℕ, zero, suc, ◌<◌, ◌-◌, ◌+�
 use Rattle.std.specs.Prelude.{◌==◌, ◌||◌}
 use Rattle.beam_model.specs.Forms.{element_by, elements_from, list_parts}
 use Rattle.beam_model.specs.ListingForms.{headed_of}
-use Rattle.beam_model.specs.ListingReading.{syntax, is_term, is_tuple_of, is_list_of, is_loose, Body, body_by, body_from}
+use Rattle.beam_model.specs.ListingReading.{syntax, is_term, is_partial_tuple, is_partial_list, is_partial_term, ListingBody, body_by, body_from}
 
 pub elements_from_is : (n m close : ℕ) (elements : List (List ℕ)) (text : List ℕ) → m < n → elements_from (n - m) close elements text ≡ element_by (elements_from (n - (m + 1)) close) close elements text
 unfolding elements_from
 elements_from_is n m close elements text h = let e : n - m ≡ suc (n - (m + 1)) = omega arith in rw e refl
 
-pub is_loose_is : (n : ℕ) (text : List ℕ) → 0 < n → is_loose n text ≡ (is_term text || (is_tuple_of (is_loose (n - 1)) (headed_of text) || is_list_of (is_loose (n - 1)) (list_parts text)))
-unfolding is_loose
+pub is_loose_is : (n : ℕ) (text : List ℕ) → 0 < n → is_partial_term n text ≡ (is_term text || (is_partial_tuple (is_partial_term (n - 1)) (headed_of text) || is_partial_list (is_partial_term (n - 1)) (list_parts text)))
+unfolding is_partial_term
 is_loose_is zero text h = absurd (omega arith)
 is_loose_is (suc n) text h = let e : suc n - 1 ≡ n = omega arith in rw e refl
 
-pub is_loose_none : (n : ℕ) (text : List ℕ) → n ≡ 0 → is_loose n text ≡ is_term text
-unfolding is_loose
+pub is_loose_none : (n : ℕ) (text : List ℕ) → n ≡ 0 → is_partial_term n text ≡ is_term text
+unfolding is_partial_term
 is_loose_none n text e = rw e refl
 
-pub body_from_is : (n m : ℕ) (body : Body) (text : List ℕ) → m < n → body_from (n - m) body text ≡ (if length text == 0 then Ok body else body_by (body_from (n - (m + 1))) body text)
+pub body_from_is : (n m : ℕ) (body : ListingBody) (text : List ℕ) → m < n → body_from (n - m) body text ≡ (if length text == 0 then Ok body else body_by (body_from (n - (m + 1))) body text)
 unfolding body_from
 body_from_is n m body text h = let e : n - m ≡ suc (n - (m + 1)) = omega arith in rw e refl
 
-pub body_from_none : (n m : ℕ) (body : Body) (text : List ℕ) → n ≡ m → body_from (n - m) body text ≡ (if length text == 0 then Ok body else Err (syntax (length text)))
+pub body_from_none : (n m : ℕ) (body : ListingBody) (text : List ℕ) → n ≡ m → body_from (n - m) body text ≡ (if length text == 0 then Ok body else Err (syntax (length text)))
 unfolding body_from
 body_from_none n m body text h = let e : n - m ≡ 0 = omega arith in rw e refl

@@ -8,8 +8,8 @@ use Rattle.beam_model.specs.declared.opcode.Opcode.{Opcode}
 use Rattle.beam_model.specs.declared.opcode.Opcode.TheVariants as op
 use Rattle.beam_model.specs.Listing.{label_by, label_of}
 use Rattle.beam_model.specs.SameText.{same_text}
-use Rattle.beam_model.specs.Loadable.{Stage, nothing, first_label, informed, body, body_label, atom_in, number_in, informed_from, informed_by, behind_first_label, behind_body, behind_body_label, behind, function_at, functions_from}
-use Rattle.beam_model.specs.ListingText.{behind_lines, entry_in}
+use Rattle.beam_model.specs.Loadable.{Stage, start, first_label, informed, body, body_label, atom_in, number_in, informed_from, informed_by, after_first_label, within_body, after_body_label, next_stage, function_at, functions_from}
+use Rattle.beam_model.specs.ListingText.{after_leading_lines, front_label_or_zero}
 use Rattle.beam_listing.proofs.Printed.{named_function, informed_function, function_in, function_before}
 use Rattle.beam_listing.proofs.Added.{IsLed, functions_in}
 
@@ -27,11 +27,11 @@ mapped f None y e = absurd cc
 
 -- the function whose line was printed, and whose entry label isn't reached
 abbrev ahead : Stage → List Instruction → List Function
-ahead nothing is = []
-ahead first_label is = function_in (behind_lines is)
-ahead (informed f a) is = (record { name = f; arity = a; entry = entry_in is }) ∷ []
+ahead start is = []
+ahead first_label is = function_in (after_leading_lines is)
+ahead (informed f a) is = (record { name = f; arity = a; entry = front_label_or_zero is }) ∷ []
 ahead body is = []
-ahead body_label is = function_in (behind_lines is)
+ahead body_label is = function_in (after_leading_lines is)
 
 -- a label instruction has a number
 abbrev pub IsNumbered : Opcode → List Operand → Type 0
@@ -47,22 +47,22 @@ made o os = record { opcode = o; operands = os }
 
 -- the function in front of an instruction, if this is a label
 abbrev if_label : Option ℕ → List Instruction → List Function
-if_label label rest = if is_some label then function_in (behind_lines rest) else []
+if_label label rest = if is_some label then function_in (after_leading_lines rest) else []
 
 -- ---- func_info
 
 named_ahead : (b : Bool) (f : List ℕ) (a : ℕ) (next : Stage) (rest : List Instruction) → (if b then Some (informed f a) else None) ≡ Some next
-    → ahead next rest ≡ (record { name = f; arity = a; entry = entry_in rest }) ∷ []
+    → ahead next rest ≡ (record { name = f; arity = a; entry = front_label_or_zero rest }) ∷ []
 named_ahead true f a next rest e = let same : informed f a ≡ next = cc in ap (λ (s : Stage). ahead s rest) (sym same)
 named_ahead false f a next rest e = absurd cc
 
-from_names : (name : List ℕ) (m f : Option (List ℕ)) (a : Option ℕ) (next : Stage) (rest : List Instruction) → informed_from name m f a ≡ Some next → ahead next rest ≡ named_function f a (entry_in rest)
+from_names : (name : List ℕ) (m f : Option (List ℕ)) (a : Option ℕ) (next : Stage) (rest : List Instruction) → informed_from name m f a ≡ Some next → ahead next rest ≡ named_function f a (front_label_or_zero rest)
 from_names name (Some m) (Some f) (Some a) next rest e = named_ahead (same_text m name) f a next rest e
 from_names name (Some m) (Some f) None next rest e = absurd cc
 from_names name (Some m) None a next rest e = absurd cc
 from_names name None f a next rest e = absurd cc
 
-from_func_info : (name : List ℕ) (os : List Operand) (next : Stage) (rest : List Instruction) → informed_by name os ≡ Some next → ahead next rest ≡ informed_function os (entry_in rest)
+from_func_info : (name : List ℕ) (os : List Operand) (next : Stage) (rest : List Instruction) → informed_by name os ≡ Some next → ahead next rest ≡ informed_function os (front_label_or_zero rest)
 from_func_info name [] next rest e = absurd cc
 from_func_info name (m ∷ []) next rest e = absurd cc
 from_func_info name (m ∷ f ∷ []) next rest e = absurd cc
@@ -81,42 +81,42 @@ from_nothing : (label : Option ℕ) (next : Stage) (rest : List Instruction) →
 from_nothing (Some n) next rest e = at_stage first_label next rest (some_is first_label next e)
 from_nothing None next rest e = absurd cc
 
-from_first_label : (name : List ℕ) (o : Opcode) (os : List Operand) (next : Stage) (rest : List Instruction) → behind_first_label name o os ≡ Some next
-    → ahead next rest ≡ function_in (behind_lines (made o os ∷ rest)) ++ if_label (label_by o os) rest
-from_first_label name op.Line os next rest e = at_stage first_label next rest (some_is first_label next e) ∙ sym (append-nil (function_in (behind_lines rest)))
-from_first_label name op.FuncInfo os next rest e = from_func_info name os next rest e ∙ sym (append-nil (informed_function os (entry_in rest)))
+from_first_label : (name : List ℕ) (o : Opcode) (os : List Operand) (next : Stage) (rest : List Instruction) → after_first_label name o os ≡ Some next
+    → ahead next rest ≡ function_in (after_leading_lines (made o os ∷ rest)) ++ if_label (label_by o os) rest
+from_first_label name op.Line os next rest e = at_stage first_label next rest (some_is first_label next e) ∙ sym (append-nil (function_in (after_leading_lines rest)))
+from_first_label name op.FuncInfo os next rest e = from_func_info name os next rest e ∙ sym (append-nil (informed_function os (front_label_or_zero rest)))
 from_first_label name _ os next rest e = absurd cc
 
 from_informed : (label : Option ℕ) (f : Function) (next : Stage) (rest : List Instruction) → option_map (λ n. body) label ≡ Some next
-    → (body ≡ next → function_in (behind_lines rest) ≡ []) → f ∷ ahead next rest ≡ f ∷ if_label label rest
+    → (body ≡ next → function_in (after_leading_lines rest) ≡ []) → f ∷ ahead next rest ≡ f ∷ if_label label rest
 from_informed (Some n) f next rest e none =
     let same : body ≡ next = some_is body next e in
     ap (λ (fs : List Function). f ∷ fs) (at_stage body next rest same ∙ sym (none same))
 from_informed None f next rest e none = absurd cc
 
-numbered : (label : Option ℕ) (rest : List Instruction) → is_some label ≡ true → if_label label rest ≡ function_in (behind_lines rest)
+numbered : (label : Option ℕ) (rest : List Instruction) → is_some label ≡ true → if_label label rest ≡ function_in (after_leading_lines rest)
 numbered (Some n) rest e = refl
 numbered None rest e = absurd cc
 
-from_body : (o : Opcode) (os : List Operand) (next : Stage) (rest : List Instruction) → IsNumbered o os → behind_body o ≡ Some next → ahead next rest ≡ if_label (label_by o os) rest
+from_body : (o : Opcode) (os : List Operand) (next : Stage) (rest : List Instruction) → IsNumbered o os → within_body o ≡ Some next → ahead next rest ≡ if_label (label_by o os) rest
 from_body op.Label os next rest is e = at_stage body_label next rest (some_is body_label next e) ∙ sym (numbered (label_by op.Label os) rest is)
 from_body op.FuncInfo os next rest is e = absurd cc
 from_body op.IntCodeEnd os next rest is e = absurd cc
 from_body _ os next rest is e = at_stage body next rest (some_is body next e)
 
-from_body_label : (name : List ℕ) (o : Opcode) (os : List Operand) (next : Stage) (rest : List Instruction) → IsNumbered o os → behind_body_label name o os ≡ Some next
-    → ahead next rest ≡ function_in (behind_lines (made o os ∷ rest)) ++ if_label (label_by o os) rest
+from_body_label : (name : List ℕ) (o : Opcode) (os : List Operand) (next : Stage) (rest : List Instruction) → IsNumbered o os → after_body_label name o os ≡ Some next
+    → ahead next rest ≡ function_in (after_leading_lines (made o os ∷ rest)) ++ if_label (label_by o os) rest
 from_body_label name op.Label os next rest is e = at_stage body_label next rest (some_is body_label next e) ∙ sym (numbered (label_by op.Label os) rest is)
-from_body_label name op.Line os next rest is e = at_stage body_label next rest (some_is body_label next e) ∙ sym (append-nil (function_in (behind_lines rest)))
-from_body_label name op.FuncInfo os next rest is e = from_func_info name os next rest e ∙ sym (append-nil (informed_function os (entry_in rest)))
+from_body_label name op.Line os next rest is e = at_stage body_label next rest (some_is body_label next e) ∙ sym (append-nil (function_in (after_leading_lines rest)))
+from_body_label name op.FuncInfo os next rest is e = from_func_info name os next rest e ∙ sym (append-nil (informed_function os (front_label_or_zero rest)))
 from_body_label name op.IntCodeEnd os next rest is e = absurd cc
 from_body_label name _ os next rest is e = at_stage body next rest (some_is body next e)
 
 -- ---- after an entry label
 
 -- no func_info stands after the lines of a body
-body_one : (o : Opcode) (os : List Operand) (next : Stage) (rest : List Instruction) → behind_body o ≡ Some next → (body ≡ next → function_in (behind_lines rest) ≡ [])
-    → function_in (behind_lines (made o os ∷ rest)) ≡ []
+body_one : (o : Opcode) (os : List Operand) (next : Stage) (rest : List Instruction) → within_body o ≡ Some next → (body ≡ next → function_in (after_leading_lines rest) ≡ [])
+    → function_in (after_leading_lines (made o os ∷ rest)) ≡ []
 body_one op.Line os next rest e others = others (some_is body next e)
 body_one op.FuncInfo os next rest e others = absurd cc
 body_one _ os next rest e others = refl
@@ -124,18 +124,18 @@ body_one _ os next rest e others = refl
 abbrev from_next : List ℕ → Stage → Instruction → List Instruction → Stage → Option (List Function)
 from_next name s i rest next = option_map (λ gs. function_at s i ++ gs) (functions_from name next rest)
 
-body_none : (name : List ℕ) (is : List Instruction) (fs : List Function) → functions_from name body is ≡ Some fs → function_in (behind_lines is) ≡ []
+body_none : (name : List ℕ) (is : List Instruction) (fs : List Function) → functions_from name body is ≡ Some fs → function_in (after_leading_lines is) ≡ []
 body_none name [] fs e = refl
 body_none name (i ∷ rest) fs e =
-    let s = stepped (from_next name body i rest) (behind name body i) fs e in
+    let s = stepped (from_next name body i rest) (next_stage name body i) fs e in
     let t = mapped (λ gs. function_at body i ++ gs) (functions_from name s.0 rest) fs s.2 in
     body_one i.opcode i.operands s.0 rest s.1 (λ same. body_none name rest t.0 (ap (λ (stage : Stage). functions_from name stage rest) same ∙ t.1))
 
 -- ---- all instructions
 
-step : (name : List ℕ) (s next : Stage) (i : Instruction) (rest : List Instruction) (gs : List Function) → IsNumbered i.opcode i.operands → behind name s i ≡ Some next
+step : (name : List ℕ) (s next : Stage) (i : Instruction) (rest : List Instruction) (gs : List Function) → IsNumbered i.opcode i.operands → next_stage name s i ≡ Some next
     → functions_from name next rest ≡ Some gs → function_at s i ++ ahead next rest ≡ ahead s (i ∷ rest) ++ function_before i rest
-step name nothing next i rest gs is e others = from_nothing (label_of i) next rest e
+step name start next i rest gs is e others = from_nothing (label_of i) next rest e
 step name first_label next i rest gs is e others = from_first_label name i.opcode i.operands next rest e
 step name (informed f a) next i rest gs is e others =
     from_informed (label_of i) (record { name = f; arity = a; entry = unwrap_or (label_of i) 0 }) next rest e
@@ -150,13 +150,13 @@ nothing_left : (fs : List Function) → these [] ≡ these fs → fs ≡ []
 nothing_left fs e = cc
 
 pub functions_are : (name : List ℕ) (s : Stage) (is : List Instruction) (fs : List Function) → AreNumbered is → functions_from name s is ≡ Some fs → fs ≡ ahead s is ++ functions_in is
-functions_are name nothing [] fs are e = nothing_left fs e
+functions_are name start [] fs are e = nothing_left fs e
 functions_are name first_label [] fs are e = absurd cc
 functions_are name (informed f a) [] fs are e = absurd cc
 functions_are name body [] fs are e = nothing_left fs e
 functions_are name body_label [] fs are e = nothing_left fs e
 functions_are name s (i ∷ rest) fs are e =
-    let n = stepped (from_next name s i rest) (behind name s i) fs e in
+    let n = stepped (from_next name s i rest) (next_stage name s i) fs e in
     let t = mapped (λ gs. function_at s i ++ gs) (functions_from name n.0 rest) fs n.2 in
     let again : t.0 ≡ ahead n.0 rest ++ functions_in rest = functions_are name n.0 rest t.0 are.1 t.1 in
     sym t.2 ∙ ap (λ (gs : List Function). function_at s i ++ gs) again
@@ -179,26 +179,26 @@ func_info_some name (m ∷ f ∷ []) entry next e = absurd cc
 func_info_some name (m ∷ f ∷ a ∷ []) entry next e = names_some name (atom_in m) (atom_in f) (number_in a) entry next e
 func_info_some name (m ∷ f ∷ a ∷ o ∷ os) entry next e = absurd cc
 
-first_one : (name : List ℕ) (o : Opcode) (os : List Operand) (next : Stage) (rest : List Instruction) → behind_first_label name o os ≡ Some next
-    → (first_label ≡ next → IsLed (function_in (behind_lines rest))) → IsLed (function_in (behind_lines (made o os ∷ rest)))
+first_one : (name : List ℕ) (o : Opcode) (os : List Operand) (next : Stage) (rest : List Instruction) → after_first_label name o os ≡ Some next
+    → (first_label ≡ next → IsLed (function_in (after_leading_lines rest))) → IsLed (function_in (after_leading_lines (made o os ∷ rest)))
 first_one name op.Line os next rest e others = others (some_is first_label next e)
-first_one name op.FuncInfo os next rest e others = func_info_some name os (entry_in rest) next e
+first_one name op.FuncInfo os next rest e others = func_info_some name os (front_label_or_zero rest) next e
 first_one name _ os next rest e others = absurd cc
 
-first_some : (name : List ℕ) (is : List Instruction) (fs : List Function) → functions_from name first_label is ≡ Some fs → IsLed (function_in (behind_lines is))
+first_some : (name : List ℕ) (is : List Instruction) (fs : List Function) → functions_from name first_label is ≡ Some fs → IsLed (function_in (after_leading_lines is))
 first_some name [] fs e = absurd cc
 first_some name (i ∷ rest) fs e =
-    let s = stepped (from_next name first_label i rest) (behind name first_label i) fs e in
+    let s = stepped (from_next name first_label i rest) (next_stage name first_label i) fs e in
     let t = mapped (λ gs. function_at first_label i ++ gs) (functions_from name s.0 rest) fs s.2 in
     first_one name i.opcode i.operands s.0 rest s.1 (λ same. first_some name rest t.0 (ap (λ (stage : Stage). functions_from name stage rest) same ∙ t.1))
 
-label_some : (label : Option ℕ) (next : Stage) (rest : List Instruction) → option_map (λ n. first_label) label ≡ Some next → (first_label ≡ next → IsLed (function_in (behind_lines rest))) → IsLed (if_label label rest)
+label_some : (label : Option ℕ) (next : Stage) (rest : List Instruction) → option_map (λ n. first_label) label ≡ Some next → (first_label ≡ next → IsLed (function_in (after_leading_lines rest))) → IsLed (if_label label rest)
 label_some (Some n) next rest e others = others (some_is first_label next e)
 label_some None next rest e others = absurd cc
 
 -- a function's line stands in front of the first instruction
-pub begins : (name : List ℕ) (i : Instruction) (rest : List Instruction) (fs : List Function) → functions_from name nothing (i ∷ rest) ≡ Some fs → IsLed (function_before i rest)
+pub begins : (name : List ℕ) (i : Instruction) (rest : List Instruction) (fs : List Function) → functions_from name start (i ∷ rest) ≡ Some fs → IsLed (function_before i rest)
 begins name i rest fs e =
-    let s = stepped (from_next name nothing i rest) (behind name nothing i) fs e in
-    let t = mapped (λ gs. function_at nothing i ++ gs) (functions_from name s.0 rest) fs s.2 in
+    let s = stepped (from_next name start i rest) (next_stage name start i) fs e in
+    let t = mapped (λ gs. function_at start i ++ gs) (functions_from name s.0 rest) fs s.2 in
     label_some (label_of i) s.0 rest s.1 (λ same. first_some name rest t.0 (ap (λ (stage : Stage). functions_from name stage rest) same ∙ t.1))

@@ -12,8 +12,8 @@ use Rattle.beam_model.specs.Text.{is_reserved, atom_text}
 use Rattle.beam_model.specs.TextReading.{after_blanks}
 use Rattle.beam_model.specs.Forms.{stop_from, stop_in, tuple_parts}
 use Rattle.beam_model.specs.ListingText.{tagged, export_text, exports_text}
-use Rattle.beam_model.specs.ListingForms.{part_of, module_of, signature_of, signatures_from, exports_of, attributes_of, labels_of}
-use Rattle.beam_model.specs.ListingReading.{form_at, next_at}
+use Rattle.beam_model.specs.ListingForms.{part_of, module_of, signature_of_text, signatures_from, exports_of, attributes_of, labels_of}
+use Rattle.beam_model.specs.ListingReading.{listing_form_at, next_form}
 use Rattle.beam_listing.specs.Typed.{IsExport}
 use Rattle.beam_listing.proofs.Traces.{square, brace, stop_behind}
 use Rattle.beam_listing.proofs.Elements.{IsPart, AreParts, closed, parts_again}
@@ -36,19 +36,19 @@ unfolding after_blanks
 newline rest = refl
 
 -- a form with its full stop and a line feed, in front of another one or of nothing
-pub form_again : (text rest : List ℕ) → IsPart text → after_blanks rest ≡ rest → form_at (text ++ (46 ∷ 10 ∷ rest)) ≡ Ok (text, rest)
-unfolding form_at
+pub form_again : (text rest : List ℕ) → IsPart text → after_blanks rest ≡ rest → listing_form_at (text ++ (46 ∷ 10 ∷ rest)) ≡ Ok (text, rest)
+unfolding listing_form_at
 form_again text rest is plain =
     rw (stops_there text rest is, take-append_seam text (46 ∷ 10 ∷ rest), drop-append_seam text (46 ∷ 10 ∷ rest)) (ap (λ (r : List ℕ). Ok (text, r)) (newline rest ∙ plain))
 
 pub next_again : {A : Type 0} (meaning : List ℕ → Option A) (text rest : List ℕ) (x : A) → IsPart text → after_blanks rest ≡ rest → meaning text ≡ Some x
-    → next_at meaning (text ++ (46 ∷ 10 ∷ rest)) ≡ Ok (x, rest)
-unfolding next_at
+    → next_form meaning (text ++ (46 ∷ 10 ∷ rest)) ≡ Ok (x, rest)
+unfolding next_form
 next_again meaning text rest x is plain e =
     let b = is.begins in
     let parts : text ++ (46 ∷ 10 ∷ rest) ≡ b.first ∷ (b.others ++ (46 ∷ 10 ∷ rest)) = ap (λ (t : List ℕ). t ++ (46 ∷ 10 ∷ rest)) b.parts in
-    let formed : form_at (b.first ∷ (b.others ++ (46 ∷ 10 ∷ rest))) ≡ Ok (text, rest) = sym (ap form_at parts) ∙ form_again text rest is plain in
-    ap (next_at meaning) parts ∙ rw (formed, e) refl
+    let formed : listing_form_at (b.first ∷ (b.others ++ (46 ∷ 10 ∷ rest))) ≡ Ok (text, rest) = sym (ap listing_form_at parts) ∙ form_again text rest is plain in
+    ap (next_form meaning) parts ∙ rw (formed, e) refl
 
 -- ---- heads
 
@@ -112,8 +112,8 @@ export_is e = ap (λ (t : List ℕ). 123 ∷ t) (two (atom_text e.name) (decimal
 export_part : (e : Export) → IsExport e → IsPart (export_text e)
 export_part e is = subst IsPart (sym (export_is e)) (tuple_part (atom_text e.name ∷ decimal e.arity ∷ []) (atom_part e.name, (number_part e.arity is.arity, tt)))
 
-export_again : (e : Export) → IsExport e → signature_of (export_text e) ≡ Some (signature_by e)
-unfolding signature_of
+export_again : (e : Export) → IsExport e → signature_of_text (export_text e) ≡ Some (signature_by e)
+unfolding signature_of_text
 export_again e is =
     let parts : tuple_parts (export_text e) ≡ Some (atom_text e.name ∷ decimal e.arity ∷ []) =
     ap tuple_parts (export_is e) ∙ parts_again brace (atom_text e.name ∷ decimal e.arity ∷ []) (atom_part e.name, (number_part e.arity is.arity, tt)) in

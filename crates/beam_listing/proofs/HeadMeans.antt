@@ -3,7 +3,7 @@ use Rattle.std.proofs.Common.{◌≡◌, ℕ, List, [], ◌∷◌, ◌++◌, Som
 use Rattle.std.specs.Prelude.{codes}
 use Rattle.beam_model.specs.declared.function.Signature.{Signature}
 use Rattle.beam_model.specs.Forms.{◌>>=◌, tuple_parts, list_parts}
-use Rattle.beam_model.specs.ListingForms.{atom_of, number_of_text, part_of, module_of, signature_by, signature_of, signatures_from, exports_of, attributes_of, labels_of}
+use Rattle.beam_model.specs.ListingForms.{atom_of_text, number_of_text, part_of, module_of, signature_of_parts, signature_of_text, signatures_from, exports_of, attributes_of, labels_of}
 use Rattle.beam_listing.specs.BracketForm.{AreBracketed, AreEach}
 use Rattle.beam_listing.specs.ItemForm.{IsModuleForm, IsSignature, IsExportsForm, IsAttributesForm, IsLabelsForm}
 use Rattle.beam_listing.proofs.Bracketed.{tuple_told, tuple_read, list_told, list_read}
@@ -16,7 +16,7 @@ use Rattle.beam_listing.proofs.PartMeans.{some_is, bind_some, atom_told, atom_re
 module_told : (form name : List ℕ) → module_of form ≡ Some name → IsModuleForm name form
 unfolding module_of
 module_told form name e =
-    let p = bind_some (part_of (codes "module") form) atom_of name e in
+    let p = bind_some (part_of (codes "module") form) atom_of_text name e in
     (p.0, part_told (codes "module") form p.0 p.1, atom_told p.0 name p.2)
 
 module_read : (form name : List ℕ) → IsModuleForm name form → module_of form ≡ Some name
@@ -48,24 +48,24 @@ labels_means = record { told = labels_told; read = labels_read }
 abbrev made : List ℕ → ℕ → Signature
 made name arity = record { name = name; arity = arity }
 
-signature_by_told : (parts : List (List ℕ)) (s : Signature) (text : List ℕ) → AreBracketed 123 125 parts text → signature_by parts ≡ Some s → IsSignature s text
+signature_by_told : (parts : List (List ℕ)) (s : Signature) (text : List ℕ) → AreBracketed 123 125 parts text → signature_of_parts parts ≡ Some s → IsSignature s text
 signature_by_told [] s text are e = absurd cc
 signature_by_told (f ∷ []) s text are e = absurd cc
 signature_by_told (f ∷ a ∷ []) s text are e =
-    let w = bind_some (atom_of f) (λ (name : List ℕ). number_of_text a >>= λ n. Some (made name n)) s e in
+    let w = bind_some (atom_of_text f) (λ (name : List ℕ). number_of_text a >>= λ n. Some (made name n)) s e in
     let n = bind_some (number_of_text a) (λ (n : ℕ). Some (made w.0 n)) s w.2 in
     subst (λ (z : Signature). IsSignature z text) (some_is (made w.0 n.0) s n.2)
     (record { name_part = f; arity_part = a; in_braces = are; is_name = atom_told f w.0 w.1; is_arity = number_told a n.0 n.1 })
 signature_by_told (f ∷ a ∷ b ∷ ps) s text are e = absurd cc
 
-signature_told : (text : List ℕ) (s : Signature) → signature_of text ≡ Some s → IsSignature s text
-unfolding signature_of
+signature_told : (text : List ℕ) (s : Signature) → signature_of_text text ≡ Some s → IsSignature s text
+unfolding signature_of_text
 signature_told text s e =
-    let ps = bind_some (tuple_parts text) signature_by s e in
+    let ps = bind_some (tuple_parts text) signature_of_parts s e in
     signature_by_told ps.0 s text (tuple_told ps.0 text ps.1) ps.2
 
-signature_read : (text : List ℕ) (s : Signature) → IsSignature s text → signature_of text ≡ Some s
-unfolding signature_of
+signature_read : (text : List ℕ) (s : Signature) → IsSignature s text → signature_of_text text ≡ Some s
+unfolding signature_of_text
 signature_read text s is =
     let parts = tuple_read (is.name_part ∷ is.arity_part ∷ []) text is.in_braces in
     rw (parts, atom_read is.name_part s.name is.is_name, number_read is.arity_part s.arity is.is_arity) refl
@@ -74,7 +74,7 @@ signatures_told : (before all : List Signature) (texts : List (List ℕ)) → si
 unfolding signatures_from
 signatures_told before all [] e = record { others = []; sum = sym (some_is before all e) ∙ sym (append-nil before); are = tt }
 signatures_told before all (text ∷ texts) e =
-    let s = bind_some (signature_of text) (λ (s : Signature). signatures_from (before ++ s ∷ []) texts) all e in
+    let s = bind_some (signature_of_text text) (λ (s : Signature). signatures_from (before ++ s ∷ []) texts) all e in
     let r = signatures_told (before ++ s.0 ∷ []) all texts s.2 in
     record { others = s.0 ∷ r.others; sum = r.sum ∙ append_assoc before (s.0 ∷ []) r.others; are = (signature_told text s.0 s.1, r.are) }
 

@@ -13,7 +13,7 @@ use Rattle.beam_model.specs.SameText.{same_text}
 use Rattle.beam_model.specs.ListingShapes.{shape_of}
 use Rattle.beam_model.specs.Opcodes.{name_of, kinds_of, opcodes, opcode_of, opcode_named}
 use Rattle.beam_model.specs.Forms.{◌>>=◌, list_parts}
-use Rattle.beam_model.specs.ListingForms.{atom_of, only, label_of, operands_from, written, is_plain, is_test, is_bif0, is_bif, is_gc_bif, is_end, plain_of, test_of, raise_by, raise_of, counted, bif0_of, bif_by, is_raise_call, bif_of, gc_bif_of, line_instruction, instruction_by}
+use Rattle.beam_model.specs.ListingForms.{atom_of_text, only, label_of_text, operands_from, instruction_of_parts, is_plain_shape, is_test_shape, is_bif0_shape, is_bif_shape, is_gc_bif_shape, is_end, plain_of, test_of, raise_by, raise_of_text, counted, bif0_of, bif_by, is_raise_call, bif_of, gc_bif_of, line_instruction, instruction_by}
 use Rattle.beam_listing.specs.BracketForm.{AreListed}
 use Rattle.beam_listing.specs.OperandForm.{IsAtom, IsHeaded, AreOperands}
 use Rattle.beam_listing.specs.ItemForm.{IsCall, IsRaiseBif, IsShaped, IsInstructionForm}
@@ -35,11 +35,11 @@ found_is {A = A} p (y ∷ ys) x e = by (p y) refl e (λ f. found_is p ys x f)
 named_is : (name : List ℕ) (o : Opcode) → opcode_named name ≡ Some o → name ≡ name_of o
 named_is name o e = sym (same_is (name_of o) name (found_is (λ (p : Opcode). same_text (name_of p) name) opcodes o e))
 
-plain_shape : (s : Shape) → is_plain s ≡ true → s ≡ shape.Plain
+plain_shape : (s : Shape) → is_plain_shape s ≡ true → s ≡ shape.Plain
 plain_shape shape.Plain e = refl
 plain_shape _ e = absurd cc
 
-test_shape : (s : Shape) → is_test s ≡ true → s ≡ shape.Test
+test_shape : (s : Shape) → is_test_shape s ≡ true → s ≡ shape.Test
 test_shape shape.Test e = refl
 test_shape _ e = absurd cc
 
@@ -51,7 +51,7 @@ record Made (o : Opcode) (texts : List (List ℕ)) (i : Instruction) : Type 0 wh
   same : i ≡ made o operands
   are : AreOperands (kinds_of o) operands texts
 
-written_told : (fits : Bool) (o : Opcode) (texts : List (List ℕ)) (i : Instruction) → written fits o texts ≡ Some i → (fits ≡ true) × Made o texts i
+written_told : (fits : Bool) (o : Opcode) (texts : List (List ℕ)) (i : Instruction) → instruction_of_parts fits o texts ≡ Some i → (fits ≡ true) × Made o texts i
 written_told false o texts i e = absurd cc
 written_told true o texts i e =
     let os = bind_some (operands_from [] (kinds_of o) texts) (λ (os : List Operand). Some (made o os)) i e in
@@ -68,9 +68,9 @@ shaped s o texts i form e m each =
 pub plain_told : (name : List ℕ) (parts : List (List ℕ)) (i : Instruction) (form : List ℕ) → IsCall name parts form → plain_of name parts ≡ Some i → IsInstructionForm i form
 unfolding plain_of
 plain_told name parts i form is e =
-    let o = bind_some (opcode_named name) (λ (o : Opcode). cond (is_end o) None (written (is_plain (shape_of o)) o parts)) i e in
-    branches (is_end o.0) None (written (is_plain (shape_of o.0)) o.0 parts) i o.2 (λ ends f. absurd cc (f)) (λ goes f.
-    let w = written_told (is_plain (shape_of o.0)) o.0 parts i f in
+    let o = bind_some (opcode_named name) (λ (o : Opcode). cond (is_end o) None (instruction_of_parts (is_plain_shape (shape_of o)) o parts)) i e in
+    branches (is_end o.0) None (instruction_of_parts (is_plain_shape (shape_of o.0)) o.0 parts) i o.2 (λ ends f. absurd cc (f)) (λ goes f.
+    let w = written_told (is_plain_shape (shape_of o.0)) o.0 parts i f in
     shaped shape.Plain o.0 parts i form (plain_shape (shape_of o.0) w.0) w.1 (λ os are. record {
       goes_on = λ same. let bad : false ≡ true = sym goes ∙ ap is_end same in absurd cc (bad);
       parts = parts;
@@ -86,10 +86,10 @@ test_told [] i form is e = absurd cc
 test_told (a ∷ []) i form is e = absurd cc
 test_told (a ∷ b ∷ []) i form is e = absurd cc
 test_told (name ∷ fail ∷ list ∷ []) i form is e =
-    let v = bind_some (atom_of name) (λ (text : List ℕ). opcode_named text >>= λ o. list_parts list >>= λ parts. written (is_test (shape_of o)) o (fail ∷ parts)) i e in
-    let o = bind_some (opcode_named v.0) (λ (o : Opcode). list_parts list >>= λ parts. written (is_test (shape_of o)) o (fail ∷ parts)) i v.2 in
-    let ps = bind_some (list_parts list) (λ (parts : List (List ℕ)). written (is_test (shape_of o.0)) o.0 (fail ∷ parts)) i o.2 in
-    let w = written_told (is_test (shape_of o.0)) o.0 (fail ∷ ps.0) i ps.2 in
+    let v = bind_some (atom_of_text name) (λ (text : List ℕ). opcode_named text >>= λ o. list_parts list >>= λ parts. instruction_of_parts (is_test_shape (shape_of o)) o (fail ∷ parts)) i e in
+    let o = bind_some (opcode_named v.0) (λ (o : Opcode). list_parts list >>= λ parts. instruction_of_parts (is_test_shape (shape_of o)) o (fail ∷ parts)) i v.2 in
+    let ps = bind_some (list_parts list) (λ (parts : List (List ℕ)). instruction_of_parts (is_test_shape (shape_of o.0)) o.0 (fail ∷ parts)) i o.2 in
+    let w = written_told (is_test_shape (shape_of o.0)) o.0 (fail ∷ ps.0) i ps.2 in
     shaped shape.Test o.0 (fail ∷ ps.0) i form (test_shape (shape_of o.0) w.0) w.1 (λ os are. record {
       name = name;
       fail = fail;
@@ -111,10 +111,10 @@ raise_by_told parts list form i is are e =
     let w = written_told true op.Raise parts i e in
     shaped shape.Raise op.Raise parts i form refl w.1 (λ os operands. record { list = list; arguments = parts; is_raise = is; are_arguments = are; are_operands = operands })
 
-raise_told : (parts : List (List ℕ)) (i : Instruction) (form : List ℕ) → IsHeaded (codes "raise") parts form → (only parts >>= raise_of) ≡ Some i → IsInstructionForm i form
-unfolding raise_of
+raise_told : (parts : List (List ℕ)) (i : Instruction) (form : List ℕ) → IsHeaded (codes "raise") parts form → (only parts >>= raise_of_text) ≡ Some i → IsInstructionForm i form
+unfolding raise_of_text
 raise_told parts i form is e =
-    let list = bind_some (only parts) raise_of i e in
+    let list = bind_some (only parts) raise_of_text i e in
     let ps = bind_some (list_parts list.0) raise_by i list.2 in
     raise_by_told ps.0 list.0 form i (inl (subst (λ (all : List (List ℕ)). IsHeaded (codes "raise") all form) (only_told parts list.0 list.1) is)) (list_told ps.0 list.0 ps.1) ps.2
 
@@ -129,7 +129,7 @@ record Native (name fail list dest : List ℕ) (parts : List (List ℕ)) (form :
 bif0_told : (name fail list dest : List ℕ) (i : Instruction) (form : List ℕ) → Native name fail list dest [] form → bif0_of name fail dest ≡ Some i → IsInstructionForm i form
 unfolding bif0_of
 bif0_told name fail list dest i form is e =
-    let label = bind_some (label_of fail) (λ (n : ℕ). opcode_of 9 >>= λ o. written (n == 0 && is_bif0 (shape_of o)) o (name ∷ dest ∷ [])) i e in
+    let label = bind_some (label_of_text fail) (λ (n : ℕ). opcode_of 9 >>= λ o. instruction_of_parts (n == 0 && is_bif0_shape (shape_of o)) o (name ∷ dest ∷ [])) i e in
     let w = written_told (label.0 == 0 && true) op.Bif0 (name ∷ dest ∷ []) i label.2 in
     let none : label.0 ≡ 0 = eqb-true label.0 0 (both_true (label.0 == 0) true w.0).0 in
     shaped shape.Bif0 op.Bif0 (name ∷ dest ∷ []) i form refl w.1 (λ os operands. record {
@@ -172,7 +172,7 @@ bif_by_told name fail list (a ∷ b ∷ []) dest i form is e = bif_made op.Bif2 
 bif_by_told name fail list (a ∷ b ∷ c ∷ ds) dest i form is e =
     let none = none_counted 9 a b c ds in
     let texts : List (List ℕ) = fail ∷ name ∷ ((a ∷ b ∷ c ∷ ds) ++ dest ∷ []) in
-    let bad : None ≡ Some i = sym (ap (λ (found : Option Opcode). found >>= λ o. written (is_bif (shape_of o)) o texts) none) ∙ e in
+    let bad : None ≡ Some i = sym (ap (λ (found : Option Opcode). found >>= λ o. instruction_of_parts (is_bif_shape (shape_of o)) o texts) none) ∙ e in
     absurd cc (bad)
 
 no_raise_told : (w name : List ℕ) (parts : List (List ℕ)) → IsAtom w name → is_raise_call w parts ≡ false → length parts ≡ 2 → IsAtom (codes "raise") name → ⊥
@@ -189,7 +189,7 @@ bif_told (a ∷ []) i form is e = absurd cc
 bif_told (a ∷ b ∷ []) i form is e = absurd cc
 bif_told (a ∷ b ∷ c ∷ []) i form is e = absurd cc
 bif_told (name ∷ fail ∷ list ∷ dest ∷ []) i form is e =
-    let w = bind_some (atom_of name) (λ (text : List ℕ). list_parts list >>= λ parts. cond (is_raise_call text parts) (raise_by parts) (bif_by name fail parts dest)) i e in
+    let w = bind_some (atom_of_text name) (λ (text : List ℕ). list_parts list >>= λ parts. cond (is_raise_call text parts) (raise_by parts) (bif_by name fail parts dest)) i e in
     let ps = bind_some (list_parts list) (λ (parts : List (List ℕ)). cond (is_raise_call w.0 parts) (raise_by parts) (bif_by name fail parts dest)) i w.2 in
     let are = list_told ps.0 list ps.1 in
     let atom = atom_told name w.0 w.1 in
@@ -218,7 +218,7 @@ gc_bif_made o name fail live list dest parts i form e is are m =
     })
 
 gc_counted : (name fail live list dest : List ℕ) (parts : List (List ℕ)) (i : Instruction) (form : List ℕ) → IsHeaded (codes "gc_bif") (name ∷ fail ∷ live ∷ list ∷ dest ∷ []) form → AreListed parts list
-    → (counted 123 (length parts) >>= λ o. written (is_gc_bif (shape_of o)) o (fail ∷ live ∷ name ∷ (parts ++ (dest ∷ [])))) ≡ Some i → IsInstructionForm i form
+    → (counted 123 (length parts) >>= λ o. instruction_of_parts (is_gc_bif_shape (shape_of o)) o (fail ∷ live ∷ name ∷ (parts ++ (dest ∷ [])))) ≡ Some i → IsInstructionForm i form
 unfolding counted
 gc_counted name fail live list dest [] i form is are e = absurd cc (e)
 gc_counted name fail live list dest (a ∷ []) i form is are e =
@@ -228,13 +228,13 @@ gc_counted name fail live list dest (a ∷ b ∷ []) i form is are e =
 gc_counted name fail live list dest (a ∷ b ∷ c ∷ ds) i form is are e =
     let none = none_counted 123 a b c ds in
     let texts : List (List ℕ) = fail ∷ live ∷ name ∷ ((a ∷ b ∷ c ∷ ds) ++ dest ∷ []) in
-    let bad : None ≡ Some i = sym (ap (λ (found : Option Opcode). found >>= λ o. written (is_gc_bif (shape_of o)) o texts) none) ∙ e in
+    let bad : None ≡ Some i = sym (ap (λ (found : Option Opcode). found >>= λ o. instruction_of_parts (is_gc_bif_shape (shape_of o)) o texts) none) ∙ e in
     absurd cc (bad)
 
 gc_bif_told : (parts : List (List ℕ)) (i : Instruction) (form : List ℕ) → IsHeaded (codes "gc_bif") parts form → gc_bif_of parts ≡ Some i → IsInstructionForm i form
 unfolding gc_bif_of
 gc_bif_told (name ∷ fail ∷ live ∷ list ∷ dest ∷ []) i form is e =
-    let ps = bind_some (list_parts list) (λ (parts : List (List ℕ)). counted 123 (length parts) >>= λ o. written (is_gc_bif (shape_of o)) o (fail ∷ live ∷ name ∷ (parts ++ (dest ∷ [])))) i e in
+    let ps = bind_some (list_parts list) (λ (parts : List (List ℕ)). counted 123 (length parts) >>= λ o. instruction_of_parts (is_gc_bif_shape (shape_of o)) o (fail ∷ live ∷ name ∷ (parts ++ (dest ∷ [])))) i e in
     gc_counted name fail live list dest ps.0 i form is (list_told ps.0 list ps.1) ps.2
 gc_bif_told _ i form is e = absurd cc (e)
 
@@ -254,6 +254,6 @@ instruction_told name parts i form is call e =
     branches (same_text name (codes "test")) (test_of parts) _ i e (λ same f. test_told parts i form (renamed name (codes "test") parts form same is) f) (λ a f.
     branches (same_text name (codes "bif")) (bif_of parts) _ i f (λ same g. bif_told parts i form (renamed name (codes "bif") parts form same is) g) (λ b g.
     branches (same_text name (codes "gc_bif")) (gc_bif_of parts) _ i g (λ same h. gc_bif_told parts i form (renamed name (codes "gc_bif") parts form same is) h) (λ c h.
-    branches (same_text name (codes "raise")) (only parts >>= raise_of) _ i h (λ same k. raise_told parts i form (renamed name (codes "raise") parts form same is) k) (λ d k.
+    branches (same_text name (codes "raise")) (only parts >>= raise_of_text) _ i h (λ same k. raise_told parts i form (renamed name (codes "raise") parts form same is) k) (λ d k.
     branches (same_text name (codes "line")) (only parts >>= λ about. Some line_instruction) (plain_of name parts) i k (λ same l. line_told parts i form (renamed name (codes "line") parts form same is) l) (λ x l.
     plain_told name parts i form call l)))))

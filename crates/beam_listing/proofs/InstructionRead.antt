@@ -17,7 +17,7 @@ use Rattle.beam_model.specs.declared.shape.Shape.TheVariants as shape
 use Rattle.beam_model.specs.SameText.{same_text}
 use Rattle.beam_model.specs.ListingShapes.{shape_of}
 use Rattle.beam_model.specs.Opcodes.{name_of, kinds_of}
-use Rattle.beam_model.specs.ListingForms.{headed_of, is_plain, is_test, is_end, plain_of, test_of, raise_by, raise_of, counted, bif0_of, bif_by, is_raise_call, bif_of, gc_bif_of, line_instruction, instruction_by, item_by, bare_item, item_of}
+use Rattle.beam_model.specs.ListingForms.{headed_of, is_plain_shape, is_test_shape, is_end, plain_of, test_of, raise_by, raise_of_text, counted, bif0_of, bif_by, is_raise_call, bif_of, gc_bif_of, line_instruction, instruction_by, item_by, bare_item, item_of}
 use Rattle.beam_listing.specs.BracketForm.{AreListed}
 use Rattle.beam_listing.specs.OperandForm.{IsAtom, IsHeaded, IsLabel, AreOperands}
 use Rattle.beam_listing.specs.ItemForm.{IsCall, IsPlainForm, IsTestForm, IsBif0Form, IsBifForm, IsGcBifForm, IsRaiseBif, IsRaiseForm, IsLineForm, IsShaped, IsInstructionForm}
@@ -42,7 +42,7 @@ goes_on : (o : Opcode) → o ≢ op.IntCodeEnd → is_end o ≡ false
 goes_on op.IntCodeEnd h = absurd (h refl)
 goes_on _ h = refl
 
-plain_read : (i : Instruction) (parts : List (List ℕ)) → i.opcode ≢ op.IntCodeEnd → is_plain (shape_of i.opcode) ≡ true → AreOperands (kinds_of i.opcode) i.operands parts
+plain_read : (i : Instruction) (parts : List (List ℕ)) → i.opcode ≢ op.IntCodeEnd → is_plain_shape (shape_of i.opcode) ≡ true → AreOperands (kinds_of i.opcode) i.operands parts
     → plain_of (name_of i.opcode) parts ≡ Some i
 unfolding plain_of
 plain_read i parts goes plain are =
@@ -57,13 +57,13 @@ bare_read : (name form : List ℕ) (i : Instruction) → IsAtom name form → pl
 unfolding bare_item
 bare_read name form i is e = rw (atom_read form name is, e) refl
 
-named_read : (i : Instruction) (part : List ℕ) (parts : List (List ℕ)) → is_plain (shape_of i.opcode) ≡ true → plain_of (name_of i.opcode) (part ∷ parts) ≡ Some i
+named_read : (i : Instruction) (part : List ℕ) (parts : List (List ℕ)) → is_plain_shape (shape_of i.opcode) ≡ true → plain_of (name_of i.opcode) (part ∷ parts) ≡ Some i
     → item_by (name_of i.opcode) (part ∷ parts) ≡ found i
 unfolding as_item
 named_read i part parts plain e =
-    plain_item (name_of i.opcode) (part ∷ parts) (either_true (is_plain (shape_of i.opcode)) (not (is_special (name_of i.opcode))) (plain_names i.opcode) plain) ∙ ap as_item e
+    plain_item (name_of i.opcode) (part ∷ parts) (either_true (is_plain_shape (shape_of i.opcode)) (not (is_special (name_of i.opcode))) (plain_names i.opcode) plain) ∙ ap as_item e
 
-call_read : (i : Instruction) (form : List ℕ) (parts : List (List ℕ)) → is_plain (shape_of i.opcode) ≡ true → IsCall (name_of i.opcode) parts form → plain_of (name_of i.opcode) parts ≡ Some i
+call_read : (i : Instruction) (form : List ℕ) (parts : List (List ℕ)) → is_plain_shape (shape_of i.opcode) ≡ true → IsCall (name_of i.opcode) parts form → plain_of (name_of i.opcode) parts ≡ Some i
     → item_of form ≡ found i
 call_read i form [] plain is e =
     let l = letter (name_of i.opcode) form is in
@@ -72,12 +72,12 @@ call_read i form (part ∷ parts) plain is e = item_read form (name_of i.opcode)
 
 plain_form : (i : Instruction) (form : List ℕ) → shape_of i.opcode ≡ shape.Plain → IsPlainForm i form → item_of form ≡ found i
 plain_form i form e is =
-    let plain : is_plain (shape_of i.opcode) ≡ true = ap is_plain e in
+    let plain : is_plain_shape (shape_of i.opcode) ≡ true = ap is_plain_shape e in
     call_read i form is.parts plain is.is_call (plain_read i is.parts is.goes_on plain is.are_operands)
 
 -- ---- tests
 
-test_read : (i : Instruction) (form : List ℕ) (is : IsTestForm i form) → is_test (shape_of i.opcode) ≡ true → test_of (is.name ∷ is.fail ∷ is.list ∷ []) ≡ Some i
+test_read : (i : Instruction) (form : List ℕ) (is : IsTestForm i form) → is_test_shape (shape_of i.opcode) ≡ true → test_of (is.name ∷ is.fail ∷ is.list ∷ []) ≡ Some i
 unfolding test_of
 test_read i form is test =
     rw (atom_read is.name (name_of i.opcode) is.is_name, named_again i.opcode, list_read is.arguments is.list is.are_arguments, test, operands_read [] i.operands (kinds_of i.opcode) (is.fail ∷ is.arguments) is.are_operands) refl
@@ -88,7 +88,7 @@ test_item parts i e = rw e refl
 
 test_form : (i : Instruction) (form : List ℕ) → shape_of i.opcode ≡ shape.Test → IsTestForm i form → item_of form ≡ found i
 test_form i form e is =
-    item_read form (codes "test") is.name (is.fail ∷ is.list ∷ []) (item.Instruction i) is.in_braces (test_item (is.name ∷ is.fail ∷ is.list ∷ []) i (test_read i form is (ap is_test e)))
+    item_read form (codes "test") is.name (is.fail ∷ is.list ∷ []) (item.Instruction i) is.in_braces (test_item (is.name ∷ is.fail ∷ is.list ∷ []) i (test_read i form is (ap is_test_shape e)))
 
 -- ---- the opcodes of the other shapes
 
@@ -131,7 +131,7 @@ unfolding raise_by
 raise_by_read os parts are = rw (operands_read [] os (kinds_of op.Raise) parts are) refl
 
 raise_item : (list : List ℕ) (parts : List (List ℕ)) (i : Instruction) → AreListed parts list → raise_by parts ≡ Some i → item_by (codes "raise") (list ∷ []) ≡ found i
-unfolding item_by instruction_by raise_of
+unfolding item_by instruction_by raise_of_text
 raise_item list parts i are e = rw (list_read parts list are, e) refl
 
 raise_call : (name fail list dest : List ℕ) (parts : List (List ℕ)) (i : Instruction) → IsAtom (codes "raise") name → AreListed parts list → length parts ≡ 2 → raise_by parts ≡ Some i

@@ -7,7 +7,7 @@ use Rattle.beam_model.specs.declared.item.Item.{Item}
 use Rattle.beam_model.specs.declared.item.Item.TheVariants as item
 use Rattle.beam_model.specs.SameText.{same_text}
 use Rattle.beam_model.specs.Forms.{◌>>=◌, tuple_parts}
-use Rattle.beam_model.specs.ListingForms.{atom_of, number_of_text, headed_by, headed_of, only, plain_of, instruction_by, function_of, item_by, bare_item, item_of}
+use Rattle.beam_model.specs.ListingForms.{atom_of_text, number_of_text, headed_by, headed_of, only, plain_of, instruction_by, function_of_parts, item_by, bare_item, item_of}
 use Rattle.beam_listing.specs.OperandForm.{IsHeaded}
 use Rattle.beam_listing.specs.ItemForm.{IsFunctionForm, IsCall, IsItemForm}
 use Rattle.beam_listing.proofs.FrontForms.{Means}
@@ -20,10 +20,10 @@ use Rattle.beam_listing.proofs.PartMeans.{some_is, bind_some, branches, renamed,
 abbrev made : List ℕ → ℕ → ℕ → Function
 made name arity entry = record { name = name; arity = arity; entry = entry }
 
-function_told : (parts : List (List ℕ)) (f : Function) (form : List ℕ) → IsHeaded (codes "function") parts form → function_of parts ≡ Some f → IsFunctionForm f form
-unfolding function_of
+function_told : (parts : List (List ℕ)) (f : Function) (form : List ℕ) → IsHeaded (codes "function") parts form → function_of_parts parts ≡ Some f → IsFunctionForm f form
+unfolding function_of_parts
 function_told (f ∷ a ∷ x ∷ []) g form is e =
-    let w = bind_some (atom_of f) (λ (name : List ℕ). number_of_text a >>= λ n. number_of_text x >>= λ m. Some (made name n m)) g e in
+    let w = bind_some (atom_of_text f) (λ (name : List ℕ). number_of_text a >>= λ n. number_of_text x >>= λ m. Some (made name n m)) g e in
     let n = bind_some (number_of_text a) (λ (n : ℕ). number_of_text x >>= λ m. Some (made w.0 n m)) g w.2 in
     let m = bind_some (number_of_text x) (λ (m : ℕ). Some (made w.0 n.0 m)) g n.2 in
     subst (λ (h : Function). IsFunctionForm h form) (some_is (made w.0 n.0 m.0) g m.2) (record {
@@ -37,11 +37,11 @@ function_told (f ∷ a ∷ x ∷ []) g form is e =
     })
 function_told _ g form is e = absurd cc (e)
 
-function_read : (f : Function) (form : List ℕ) (is : IsFunctionForm f form) → function_of (is.name_part ∷ is.arity_part ∷ is.entry_part ∷ []) ≡ Some f
-unfolding function_of
+function_read : (f : Function) (form : List ℕ) (is : IsFunctionForm f form) → function_of_parts (is.name_part ∷ is.arity_part ∷ is.entry_part ∷ []) ≡ Some f
+unfolding function_of_parts
 function_read f form is = rw (atom_read is.name_part f.name is.is_name, number_read is.arity_part f.arity is.is_arity, number_read is.entry_part f.entry is.is_entry) refl
 
-function_item : (parts : List (List ℕ)) (f : Function) → function_of parts ≡ Some f → item_by (codes "function") parts ≡ Some (item.Function f)
+function_item : (parts : List (List ℕ)) (f : Function) → function_of_parts parts ≡ Some f → item_by (codes "function") parts ≡ Some (item.Function f)
 unfolding item_by
 function_item parts f e = rw e refl
 
@@ -54,8 +54,8 @@ remark_item about = refl
 item_by_told : (name : List ℕ) (parts : List (List ℕ)) (x : Item) (form : List ℕ) → IsHeaded name parts form → IsCall name parts form → item_by name parts ≡ Some x → IsItemForm x form
 unfolding item_by
 item_by_told name parts x form is call e =
-    branches (same_text name (codes "function")) (function_of parts >>= λ f. Some (item.Function f)) _ x e (λ same g.
-    let f = bind_some (function_of parts) (λ (f : Function). Some (item.Function f)) x g in
+    branches (same_text name (codes "function")) (function_of_parts parts >>= λ f. Some (item.Function f)) _ x e (λ same g.
+    let f = bind_some (function_of_parts parts) (λ (f : Function). Some (item.Function f)) x g in
     subst (λ (y : Item). IsItemForm y form) (some_is (item.Function f.0) x f.2) (function_told parts f.0 form (renamed name (codes "function") parts form same is) f.1))
     (λ other g.
     branches (same_text name (codes "%")) (only parts >>= λ about. Some item.Remark) (instruction_by name parts >>= λ i. Some (item.Instruction i)) x g (λ same h.
@@ -79,7 +79,7 @@ item_told (c ∷ cs) x e =
     let h = bind_some (headed_of (c ∷ cs)) (λ (h : List ℕ × List (List ℕ)). item_by h.0 h.1) x f in
     item_by_told h.0.0 h.0.1 x (c ∷ cs) (headed_told (c ∷ cs) h.0.0 h.0.1 h.1) (call_told (c ∷ cs) h.0.0 h.0.1 h.1) h.2)
     (λ other f.
-    let w = bind_some (atom_of (c ∷ cs)) (λ (name : List ℕ). plain_of name [] >>= λ i. Some (item.Instruction i)) x f in
+    let w = bind_some (atom_of_text (c ∷ cs)) (λ (name : List ℕ). plain_of name [] >>= λ i. Some (item.Instruction i)) x f in
     let i = bind_some (plain_of w.0 []) (λ (i : Instruction). Some (item.Instruction i)) x w.2 in
     subst (λ (y : Item). IsItemForm y (c ∷ cs)) (some_is (item.Instruction i.0) x i.2) (plain_told w.0 [] i.0 (c ∷ cs) (atom_told (c ∷ cs) w.0 w.1) i.1))
 

@@ -4,7 +4,7 @@ use Rattle.beam_model.specs.declared.function.Function.{Function}
 use Rattle.beam_model.specs.declared.instruction.Instruction.{Instruction}
 use Rattle.beam_model.specs.declared.item.Item.{Item}
 use Rattle.beam_model.specs.declared.item.Item.TheVariants as item
-use Rattle.beam_model.specs.Assembly.{spelled_instruction}
+use Rattle.beam_model.specs.Assembly.{without_line_number}
 use Rattle.beam_listing.proofs.Shapes.{IsInstruction, instruction_written}
 use Rattle.beam_listing.proofs.Bodies.{AreItems, IsFunction, function_part, function_again}
 use Rattle.beam_listing.proofs.Printed.{function_forms, function_before, instruction_forms}
@@ -15,7 +15,7 @@ function_items (f ∷ fs) = item.Function f ∷ function_items fs
 
 abbrev pub items_of : List Instruction → List Item
 items_of [] = []
-items_of (i ∷ rest) = function_items (function_before i rest) ++ (item.Instruction (spelled_instruction i) ∷ items_of rest)
+items_of (i ∷ rest) = function_items (function_before i rest) ++ (item.Instruction (without_line_number i) ∷ items_of rest)
 
 abbrev pub AreFunctions : List Function → Type 0
 AreFunctions [] = Unit {0}
@@ -34,4 +34,4 @@ pub are_items : (is : List Instruction) → AreInstructions is → AreItems (ins
 are_items [] are = tt
 are_items (i ∷ rest) are =
     let written = instruction_written i.opcode i.operands are.0.1 in
-    behind_functions (function_before i rest) _ (item.Instruction (spelled_instruction i) ∷ items_of rest) are.0.0 ((written.part, written.item), are_items rest are.1)
+    behind_functions (function_before i rest) _ (item.Instruction (without_line_number i) ∷ items_of rest) are.0.0 ((written.part, written.item), are_items rest are.1)

@@ -19,9 +19,9 @@ use Rattle.beam_model.specs.declared.opcode.Kind.{Kind}
 use Rattle.beam_model.specs.declared.opcode.Kind.TheVariants as kind
 use Rattle.beam_model.specs.Listing.{label_by, label_of}
 use Rattle.beam_model.specs.SameText.{same_text}
-use Rattle.beam_model.specs.Loadable.{Stage, nothing, first_label, informed, body, body_label, behind_first_label, behind_body, behind_body_label, behind, functions_from, function_at, all_operands, atom_in, number_in}
+use Rattle.beam_model.specs.Loadable.{Stage, start, first_label, informed, body, body_label, after_first_label, within_body, after_body_label, next_stage, functions_from, function_at, all_operands, atom_in, number_in}
 use Rattle.beam_model.specs.ListingForms.{is_end}
-use Rattle.beam_model.specs.ListingText.{behind_lines, entry_in, is_func_info, is_line}
+use Rattle.beam_model.specs.ListingText.{after_leading_lines, front_label_or_zero, is_func_info, is_line}
 use Rattle.beam_model.specs.Opcodes.{kinds_of}
 use Rattle.beam_listing.specs.Typed.{IsArgument, IsOperand, AreOperands, IsExport}
 use Rattle.beam_listing.specs.Printed.{is_of_kind, is_raise_two, is_built_in, ArgumentHasText, OperandHasText, OperandsHaveText}
@@ -114,20 +114,20 @@ labels_go_on : {X : Type 0} (o : Opcode) (os : List Operand) (x s : X) → optio
 labels_go_on op.IntCodeEnd os x s e = absurd cc
 labels_go_on _ os x s e = refl
 
-first_goes_on : (name : List ℕ) (o : Opcode) (os : List Operand) (s : Stage) → behind_first_label name o os ≡ Some s → is_end o ≡ false
+first_goes_on : (name : List ℕ) (o : Opcode) (os : List Operand) (s : Stage) → after_first_label name o os ≡ Some s → is_end o ≡ false
 first_goes_on name op.IntCodeEnd os s e = absurd cc
 first_goes_on name _ os s e = refl
 
-body_goes_on : (o : Opcode) (s : Stage) → behind_body o ≡ Some s → is_end o ≡ false
+body_goes_on : (o : Opcode) (s : Stage) → within_body o ≡ Some s → is_end o ≡ false
 body_goes_on op.IntCodeEnd s e = absurd cc
 body_goes_on _ s e = refl
 
-body_label_goes_on : (name : List ℕ) (o : Opcode) (os : List Operand) (s : Stage) → behind_body_label name o os ≡ Some s → is_end o ≡ false
+body_label_goes_on : (name : List ℕ) (o : Opcode) (os : List Operand) (s : Stage) → after_body_label name o os ≡ Some s → is_end o ≡ false
 body_label_goes_on name op.IntCodeEnd os s e = absurd cc
 body_label_goes_on name _ os s e = refl
 
-goes_on : (name : List ℕ) (stage : Stage) (i : Instruction) (s : Stage) → behind name stage i ≡ Some s → is_end i.opcode ≡ false
-goes_on name nothing i s e = labels_go_on i.opcode i.operands first_label s e
+goes_on : (name : List ℕ) (stage : Stage) (i : Instruction) (s : Stage) → next_stage name stage i ≡ Some s → is_end i.opcode ≡ false
+goes_on name start i s e = labels_go_on i.opcode i.operands first_label s e
 goes_on name first_label i s e = first_goes_on name i.opcode i.operands s e
 goes_on name (informed f a) i s e = labels_go_on i.opcode i.operands body s e
 goes_on name body i s e = body_goes_on i.opcode s e
@@ -143,7 +143,7 @@ pub lawful : (name : List ℕ) (stage : Stage) (is : List Instruction) (fs : Lis
     → All AreOperands is → All OperandsHaveText is → AreLawful is
 lawful name stage [] fs e built kinds are have = tt
 lawful name stage (i ∷ is) fs e built kinds are have =
-    let s = stepped (λ next. option_map (λ gs. function_at stage i ++ gs) (functions_from name next is)) (behind name stage i) fs e in
+    let s = stepped (λ next. option_map (λ gs. function_at stage i ++ gs) (functions_from name next is)) (next_stage name stage i) fs e in
     let t = mapped (λ gs. function_at stage i ++ gs) (functions_from name s.0 is) fs s.2 in
     let first = split_and (has_built_ins i) (list_all has_built_ins is) built in
     let second = split_and (has_kinds i) (list_all has_kinds is) kinds in
@@ -214,7 +214,7 @@ label_fits op.Label (operand.Import i ∷ os) are = omega arith
 label_fits op.Label (operand.List as' ∷ os) are = omega arith
 label_fits _ os are = omega arith
 
-entry_fits : (is : List Instruction) → AreLawful is → entry_in is < 2 ^ 32
+entry_fits : (is : List Instruction) → AreLawful is → front_label_or_zero is < 2 ^ 32
 entry_fits [] are = omega arith
 entry_fits (i ∷ is) are = label_fits i.opcode i.operands are.0.typed
 
@@ -240,20 +240,20 @@ either_fits false fs are = tt
 
 function_fits : (is : List Instruction) → AreLawful is → AreFunctions (function_in is)
 function_fits [] are = tt
-function_fits (i ∷ is) are = either_fits (is_func_info i.opcode) (informed_function i.operands (entry_in is)) (informed_fits i.operands (entry_in is) are.0.typed (entry_fits is are.1))
+function_fits (i ∷ is) are = either_fits (is_func_info i.opcode) (informed_function i.operands (front_label_or_zero is)) (informed_fits i.operands (front_label_or_zero is) are.0.typed (entry_fits is are.1))
 
 lines_lawful : (b : Bool) (i : Instruction) (is left : List Instruction) → AreLawful (i ∷ is) → AreLawful left → AreLawful (if b then left else i ∷ is)
 lines_lawful true i is left are others = others
 lines_lawful false i is left are others = are
 
-behind_lawful : (is : List Instruction) → AreLawful is → AreLawful (behind_lines is)
+behind_lawful : (is : List Instruction) → AreLawful is → AreLawful (after_leading_lines is)
 behind_lawful [] are = tt
-behind_lawful (i ∷ is) are = lines_lawful (is_line i.opcode) i is (behind_lines is) are (behind_lawful is are.1)
+behind_lawful (i ∷ is) are = lines_lawful (is_line i.opcode) i is (after_leading_lines is) are (behind_lawful is are.1)
 
 pub are_instructions : (is : List Instruction) → AreLawful is → AreInstructions is
 are_instructions [] are = tt
 are_instructions (i ∷ is) are =
-    let before : AreFunctions (function_before i is) = either_fits (is_some (label_of i)) (function_in (behind_lines is)) (function_fits (behind_lines is) (behind_lawful is are.1)) in
+    let before : AreFunctions (function_before i is) = either_fits (is_some (label_of i)) (function_in (after_leading_lines is)) (function_fits (after_leading_lines is) (behind_lawful is are.1)) in
     ((before, record { ends = are.0.ends; operands = are.0.under }), are_instructions is are.1)
 
 -- ---- exports

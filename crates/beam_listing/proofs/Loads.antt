@@ -13,7 +13,7 @@ use Rattle.beam_model.specs.declared.opcode.Kind.TheVariants as kind
 use Rattle.beam_model.specs.Listing.{Listing}
 use Rattle.beam_model.specs.NativeNames.{native_named, allowed, is_erlang, built_in_of}
 use Rattle.beam_model.specs.SameText.{same_text}
-use Rattle.beam_model.specs.Loadable.{all_operands, is_arity, is_frame_size, is_number, is_register, is_source, is_import, is_list, is_within, is_known, are_labels_lawful, are_heads_lawful, are_exports_lawful, are_natives_known, are_limits_kept}
+use Rattle.beam_model.specs.Loadable.{all_operands, is_arity, is_frame_size, is_number_operand, is_register_operand, is_source_operand, is_import_operand, is_list_operand, is_within, is_known, are_labels_lawful, are_heads_lawful, are_exports_lawful, are_natives_known, are_limits_met}
 use Rattle.beam_model.specs.Loads.{IsLoadable}
 use Rattle.beam_model.specs.Opcodes.{kinds_of}
 use Rattle.beam_listing.specs.Printed.{is_any_register, is_any_source, is_any_import, is_any_list, is_of_kind, is_raise_two, is_built_in, TermsHaveText, HasListingText}
@@ -21,7 +21,7 @@ use Rattle.beam_listing.proofs.Exports.{split_and, text_is}
 
 -- ---- within the limits of a kind, so of this kind
 
-arity_number : (o : Operand) → is_arity o ≡ true → is_number o ≡ true
+arity_number : (o : Operand) → is_arity o ≡ true → is_number_operand o ≡ true
 arity_number (operand.One (argument.Number n)) e = refl
 arity_number (operand.One (argument.Term t)) e = absurd cc
 arity_number (operand.One (argument.X n)) e = absurd cc
@@ -30,7 +30,7 @@ arity_number (operand.One (argument.Label n)) e = absurd cc
 arity_number (operand.Import i) e = absurd cc
 arity_number (operand.List as') e = absurd cc
 
-size_number : (o : Operand) → is_frame_size o ≡ true → is_number o ≡ true
+size_number : (o : Operand) → is_frame_size o ≡ true → is_number_operand o ≡ true
 size_number (operand.One (argument.Number n)) e = refl
 size_number (operand.One (argument.Term t)) e = absurd cc
 size_number (operand.One (argument.X n)) e = absurd cc
@@ -39,7 +39,7 @@ size_number (operand.One (argument.Label n)) e = absurd cc
 size_number (operand.Import i) e = absurd cc
 size_number (operand.List as') e = absurd cc
 
-any_register : (o : Operand) → is_register o ≡ true → is_any_register o ≡ true
+any_register : (o : Operand) → is_register_operand o ≡ true → is_any_register o ≡ true
 any_register (operand.One (argument.X n)) e = refl
 any_register (operand.One (argument.Y n)) e = refl
 any_register (operand.One (argument.Term t)) e = absurd cc
@@ -48,7 +48,7 @@ any_register (operand.One (argument.Number n)) e = absurd cc
 any_register (operand.Import i) e = absurd cc
 any_register (operand.List as') e = absurd cc
 
-any_source : (o : Operand) → is_source o ≡ true → is_any_source o ≡ true
+any_source : (o : Operand) → is_source_operand o ≡ true → is_any_source o ≡ true
 any_source (operand.One (argument.X n)) e = refl
 any_source (operand.One (argument.Y n)) e = refl
 any_source (operand.One (argument.Term t)) e = refl
@@ -57,12 +57,12 @@ any_source (operand.One (argument.Number n)) e = absurd cc
 any_source (operand.Import i) e = absurd cc
 any_source (operand.List as') e = absurd cc
 
-any_import : (o : Operand) → is_import o ≡ true → is_any_import o ≡ true
+any_import : (o : Operand) → is_import_operand o ≡ true → is_any_import o ≡ true
 any_import (operand.Import i) e = refl
 any_import (operand.One a) e = absurd cc
 any_import (operand.List as') e = absurd cc
 
-any_list : (o : Operand) → is_list o ≡ true → is_any_list o ≡ true
+any_list : (o : Operand) → is_list_operand o ≡ true → is_any_list o ≡ true
 any_list (operand.List as') e = refl
 any_list (operand.One a) e = absurd cc
 any_list (operand.Import i) e = absurd cc
@@ -153,7 +153,7 @@ parts true true true true false e = absurd cc
 
 pub loadable_has_text : (l : Listing) → IsLoadable l → TermsHaveText l → HasListingText l
 loadable_has_text l e terms =
-    let p = parts (are_labels_lawful l) (are_heads_lawful l) (are_exports_lawful l) (are_natives_known l) (are_limits_kept l) e.0 in
+    let p = parts (are_labels_lawful l) (are_heads_lawful l) (are_exports_lawful l) (are_natives_known l) (are_limits_met l) e.0 in
     record {
       heads = p.heads;
       exports = p.exports;

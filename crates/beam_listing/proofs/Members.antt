@@ -11,7 +11,7 @@ use Rattle.beam_model.specs.declared.instruction.Argument.TheVariants as argumen
 use Rattle.beam_model.specs.Text.{is_reserved, atom_text, text_of, HasText}
 use Rattle.beam_model.specs.Forms.{tuple_parts, list_parts}
 use Rattle.beam_model.specs.ListingText.{tagged, term_text, argument_text, arguments_text, import_text, list_text}
-use Rattle.beam_model.specs.ListingForms.{headed_of, part_of, plain_register, register_by, term_by, term_source, nil_source, member_by, member_of, number_member, members_from, list_of, import_of, native_of}
+use Rattle.beam_model.specs.ListingForms.{headed_of, part_of, plain_register, register_of_parts, term_of_part, term_source, nil_source, member_of_parts, member_of_text, number_member, members_from, members_of_text, import_of_text, native_of}
 use Rattle.beam_erltext.proofs.Texts.{differ}
 use Rattle.beam_erltext.proofs.AgainIntegers.{digit_is, decimal_begins}
 use Rattle.beam_listing.specs.Typed.{IsImport}
@@ -82,47 +82,47 @@ argument_part (argument.Number n) is = number_part n is
 
 -- ---- members of lists
 
-x_member : (n : ℕ) → n < 2 ^ 32 → member_of (argument_text (argument.X n)) ≡ Some (argument.X n)
-unfolding member_of member_by register_by plain_register
+x_member : (n : ℕ) → n < 2 ^ 32 → member_of_text (argument_text (argument.X n)) ≡ Some (argument.X n)
+unfolding member_of_text member_of_parts register_of_parts plain_register
 x_member n lt = rw (tagged_headed (codes "x") (decimal n) x_word (number_part n lt), number_whole n lt) refl
 
-y_member : (n : ℕ) → n < 2 ^ 32 → member_of (argument_text (argument.Y n)) ≡ Some (argument.Y n)
-unfolding member_of member_by register_by plain_register
+y_member : (n : ℕ) → n < 2 ^ 32 → member_of_text (argument_text (argument.Y n)) ≡ Some (argument.Y n)
+unfolding member_of_text member_of_parts register_of_parts plain_register
 y_member n lt = rw (tagged_headed (codes "y") (decimal n) y_word (number_part n lt), number_whole n lt) refl
 
-f_member : (n : ℕ) → n < 2 ^ 32 → member_of (argument_text (argument.Label n)) ≡ Some (argument.Label n)
-unfolding member_of member_by
+f_member : (n : ℕ) → n < 2 ^ 32 → member_of_text (argument_text (argument.Label n)) ≡ Some (argument.Label n)
+unfolding member_of_text member_of_parts
 f_member n lt = rw (tagged_headed (codes "f") (decimal n) f_word (number_part n lt), number_whole n lt) refl
 
-integer_of_member : (z : ℤ) → IsSmall z → member_of (term_text (int_term z)) ≡ Some (argument.Term (int_term z))
-unfolding member_of member_by term_source term_by
+integer_of_member : (z : ℤ) → IsSmall z → member_of_text (term_text (int_term z)) ≡ Some (argument.Term (int_term z))
+unfolding member_of_text member_of_parts term_source term_of_part
 integer_of_member z small = rw (tagged_headed (codes "integer") (signed_decimal z) integer_word (integer_part z small), integer_whole z small) refl
 
-atom_of_member : (name : List ℕ) → IsAtomText name → member_of (term_text (atom_term name)) ≡ Some (argument.Term (atom_term name))
-unfolding member_of member_by term_source term_by
+atom_of_member : (name : List ℕ) → IsAtomText name → member_of_text (term_text (atom_term name)) ≡ Some (argument.Term (atom_term name))
+unfolding member_of_text member_of_parts term_source term_of_part
 atom_of_member name lawful = rw (tagged_headed (codes "atom") (atom_text name) atom_word (atom_part name), atom_whole name lawful) refl
 
-literal_member : (t : TermValue) → IsTerm t → HasText t → member_of (tagged (codes "literal") (text_of t)) ≡ Some (argument.Term t)
-unfolding member_of member_by term_source term_by
+literal_member : (t : TermValue) → IsTerm t → HasText t → member_of_text (tagged (codes "literal") (text_of t)) ≡ Some (argument.Term t)
+unfolding member_of_text member_of_parts term_source term_of_part
 literal_member t lawful printed = rw (tagged_headed (codes "literal") (text_of t) literal_word (term_part t lawful.in_range printed), term_whole t lawful printed) refl
 
-nil_member : member_of (codes "nil") ≡ Some (argument.Term nil_term)
-unfolding member_of nil_source
+nil_member : member_of_text (codes "nil") ≡ Some (argument.Term nil_term)
+unfolding member_of_text nil_source
 nil_member = rw (word_whole (codes "nil") nil_word) refl
 
 pub number_again : (n : ℕ) → n < 2 ^ 32 → number_member (decimal n) ≡ Some (argument.Number n)
 number_again n lt = rw (number_whole n lt) refl
 
-number_of_member : (n : ℕ) → n < 2 ^ 32 → member_of (decimal n) ≡ Some (argument.Number n)
-unfolding member_of
+number_of_member : (n : ℕ) → n < 2 ^ 32 → member_of_text (decimal n) ≡ Some (argument.Number n)
+unfolding member_of_text
 number_of_member n lt =
     let b = decimal_begins n (omega arith) in
     let low : 48 ≤ b.first = b.low in
     let high : b.first ≤ 57 = b.high in
     let read : number_member (b.first ∷ b.others) ≡ Some (argument.Number n) = sym (ap number_member b.parts) ∙ number_again n lt in
-    ap member_of b.parts ∙ rw (differ b.first 123 (λ e. omega (arith, e)), digit_is b.first b.low b.high) read
+    ap member_of_text b.parts ∙ rw (differ b.first 123 (λ e. omega (arith, e)), digit_is b.first b.low b.high) read
 
-pub member_again : (a : Argument) → IsReadArgument a → member_of (argument_text a) ≡ Some a
+pub member_again : (a : Argument) → IsReadArgument a → member_of_text (argument_text a) ≡ Some a
 member_again (argument.Term (int_term z)) is = integer_of_member z is.0.in_range
 member_again (argument.Term (atom_term name)) is = atom_of_member name is.0.in_range
 member_again (argument.Term (reference_term node creation words)) is = absurd is.1
@@ -183,10 +183,10 @@ members_parts as' are = parts_again square (texts_of as') (argument_parts as' ar
 pub list_text_part : (as' : List Argument) → AreArguments as' → IsPart (list_text as')
 list_text_part as' are = subst IsPart (sym (list_is as')) (tagged_part (codes "list") (members_text as') (word_part (codes "list") list_word) (members_part as' are))
 
-pub list_again : (as' : List Argument) → AreArguments as' → list_of (list_text as') ≡ Some as'
-unfolding list_of part_of
+pub list_again : (as' : List Argument) → AreArguments as' → members_of_text (list_text as') ≡ Some as'
+unfolding members_of_text part_of
 list_again as' are =
-    ap list_of (list_is as') ∙ rw (tagged_headed (codes "list") (members_text as') list_word (members_part as' are), members_parts as' are, members_again [] as' are) refl
+    ap members_of_text (list_is as') ∙ rw (tagged_headed (codes "list") (members_text as') list_word (members_part as' are), members_parts as' are, members_again [] as' are) refl
 
 -- ---- imports
 
@@ -215,10 +215,10 @@ pub import_part : (i : Import) → IsImport i → IsPart (import_text i)
 import_part i is =
     subst IsPart (sym (import_is i)) (tuple_part (codes "extfunc" ∷ atom_text i.«module» ∷ import_parts i) (word_part (codes "extfunc") extfunc_word, (atom_part i.«module», are_import_parts i is)))
 
-pub import_again : (i : Import) → IsImport i → import_of (import_text i) ≡ Some i
-unfolding import_of import_parts
+pub import_again : (i : Import) → IsImport i → import_of_text (import_text i) ≡ Some i
+unfolding import_of_text import_parts
 import_again i is =
-    ap import_of (import_is i)
+    ap import_of_text (import_is i)
     ∙ rw (tuple_headed (codes "extfunc") (atom_text i.«module») (import_parts i) extfunc_word (atom_part i.«module») (are_import_parts i is), atom_whole i.«module» is.«module», atom_whole i.function is.function, number_whole i.arity is.arity) refl
 
 pub native_again : (n : ℕ) (i : Import) → IsAtomText i.function → i.«module» ≡ codes "erlang" → i.arity ≡ n → native_of n (atom_text i.function) ≡ Some i

@@ -13,7 +13,7 @@ use Rattle.beam_model.specs.Text.{is_reserved, atom_text, text_of, HasText}
 use Rattle.beam_model.specs.TextReading.{after_blanks, integer_at, atom_at, term_at}
 use Rattle.beam_model.specs.Forms.{tuple_parts}
 use Rattle.beam_model.specs.ListingText.{tagged, term_text, argument_text}
-use Rattle.beam_model.specs.ListingForms.{whole_of, integer_of, atom_of, term_of, number_of_text, headed_of, part_of, plain_register, register_by, register_of, label_of, term_by, term_source, nil_source, source_of}
+use Rattle.beam_model.specs.ListingForms.{whole_of, integer_of_text, atom_of_text, term_of, number_of_text, headed_of, part_of, plain_register, register_of_parts, register_of_text, label_of_text, term_of_part, term_source, nil_source, source_of_text}
 use Rattle.beam_erltext.proofs.AgainIntegers.{integer_again, lt_true}
 use Rattle.beam_erltext.proofs.AgainNames.{atom_again}
 use Rattle.beam_erltext.proofs.AgainTerms.{from_integer, from_atom, integer_begins, atom_begins, text_begins, term_again}
@@ -22,8 +22,8 @@ use Rattle.beam_listing.proofs.Elements.{IsPart, closed, parts_again}
 
 -- ---- whole texts
 
-pub integer_whole : (z : ℤ) → IsSmall z → integer_of (signed_decimal z) ≡ Some z
-unfolding integer_of after_blanks
+pub integer_whole : (z : ℤ) → IsSmall z → integer_of_text (signed_decimal z) ≡ Some z
+unfolding integer_of_text after_blanks
 integer_whole z small = ap whole_of (ap integer_at (sym (append-nil (signed_decimal z))) ∙ integer_again z [] small tt)
 
 small_word : (n : ℕ) → n < 2 ^ 32 → IsSmall (pos n)
@@ -33,8 +33,8 @@ pub number_whole : (n : ℕ) → n < 2 ^ 32 → number_of_text (decimal n) ≡ S
 unfolding number_of_text
 number_whole n lt = rw (integer_whole (pos n) (small_word n lt), lt_true n (2 ^ 32) lt) refl
 
-pub atom_whole : (name : List ℕ) → IsAtomText name → atom_of (atom_text name) ≡ Some name
-unfolding atom_of after_blanks
+pub atom_whole : (name : List ℕ) → IsAtomText name → atom_of_text (atom_text name) ≡ Some name
+unfolding atom_of_text after_blanks
 atom_whole name lawful = ap whole_of (ap atom_at (sym (append-nil (atom_text name))) ∙ atom_again name [] lawful tt)
 
 pub term_whole : (t : TermValue) → IsTerm t → HasText t → term_of (text_of t) ≡ Some t
@@ -60,8 +60,8 @@ pub record IsWord (w : List ℕ) : Type 0 where
   pub bare : atom_text w ≡ w
   pub lawful : IsAtomText w
 
-pub word_whole : (w : List ℕ) → IsWord w → atom_of w ≡ Some w
-word_whole w is = ap atom_of (sym is.bare) ∙ atom_whole w is.lawful
+pub word_whole : (w : List ℕ) → IsWord w → atom_of_text w ≡ Some w
+word_whole w is = ap atom_of_text (sym is.bare) ∙ atom_whole w is.lawful
 
 pub word_part : (w : List ℕ) → IsWord w → IsPart w
 word_part w is = subst IsPart is.bare (atom_part w)
@@ -130,45 +130,45 @@ unfolding is_reserved is_utf8 chars lib.Utf8.encode
 nil_word = word (codes "nil") refl refl (omega arith)
 
 -- registers
-pub x_again : (n : ℕ) → n < 2 ^ 32 → register_of (argument_text (argument.X n)) ≡ Some (argument.X n)
-unfolding register_of register_by plain_register
+pub x_again : (n : ℕ) → n < 2 ^ 32 → register_of_text (argument_text (argument.X n)) ≡ Some (argument.X n)
+unfolding register_of_text register_of_parts plain_register
 x_again n lt = rw (tagged_headed (codes "x") (decimal n) x_word (number_part n lt), number_whole n lt) refl
 
-pub y_again : (n : ℕ) → n < 2 ^ 32 → register_of (argument_text (argument.Y n)) ≡ Some (argument.Y n)
-unfolding register_of register_by plain_register
+pub y_again : (n : ℕ) → n < 2 ^ 32 → register_of_text (argument_text (argument.Y n)) ≡ Some (argument.Y n)
+unfolding register_of_text register_of_parts plain_register
 y_again n lt = rw (tagged_headed (codes "y") (decimal n) y_word (number_part n lt), number_whole n lt) refl
 
 -- labels
-pub f_again : (n : ℕ) → n < 2 ^ 32 → label_of (argument_text (argument.Label n)) ≡ Some n
-unfolding label_of part_of
+pub f_again : (n : ℕ) → n < 2 ^ 32 → label_of_text (argument_text (argument.Label n)) ≡ Some n
+unfolding label_of_text part_of
 f_again n lt = rw (tagged_headed (codes "f") (decimal n) f_word (number_part n lt), number_whole n lt) refl
 
 -- sources
-pub x_source : (n : ℕ) → n < 2 ^ 32 → source_of (argument_text (argument.X n)) ≡ Some (argument.X n)
-unfolding source_of register_by plain_register
+pub x_source : (n : ℕ) → n < 2 ^ 32 → source_of_text (argument_text (argument.X n)) ≡ Some (argument.X n)
+unfolding source_of_text register_of_parts plain_register
 x_source n lt = rw (tagged_headed (codes "x") (decimal n) x_word (number_part n lt), number_whole n lt) refl
 
-pub y_source : (n : ℕ) → n < 2 ^ 32 → source_of (argument_text (argument.Y n)) ≡ Some (argument.Y n)
-unfolding source_of register_by plain_register
+pub y_source : (n : ℕ) → n < 2 ^ 32 → source_of_text (argument_text (argument.Y n)) ≡ Some (argument.Y n)
+unfolding source_of_text register_of_parts plain_register
 y_source n lt = rw (tagged_headed (codes "y") (decimal n) y_word (number_part n lt), number_whole n lt) refl
 
-integer_source : (z : ℤ) → IsSmall z → source_of (term_text (int_term z)) ≡ Some (argument.Term (int_term z))
-unfolding source_of term_source term_by
+integer_source : (z : ℤ) → IsSmall z → source_of_text (term_text (int_term z)) ≡ Some (argument.Term (int_term z))
+unfolding source_of_text term_source term_of_part
 integer_source z small = rw (tagged_headed (codes "integer") (signed_decimal z) integer_word (integer_part z small), integer_whole z small) refl
 
-atom_source : (name : List ℕ) → IsAtomText name → source_of (term_text (atom_term name)) ≡ Some (argument.Term (atom_term name))
-unfolding source_of term_source term_by
+atom_source : (name : List ℕ) → IsAtomText name → source_of_text (term_text (atom_term name)) ≡ Some (argument.Term (atom_term name))
+unfolding source_of_text term_source term_of_part
 atom_source name lawful = rw (tagged_headed (codes "atom") (atom_text name) atom_word (atom_part name), atom_whole name lawful) refl
 
-literal_source : (t : TermValue) → IsTerm t → HasText t → source_of (tagged (codes "literal") (text_of t)) ≡ Some (argument.Term t)
-unfolding source_of term_source term_by
+literal_source : (t : TermValue) → IsTerm t → HasText t → source_of_text (tagged (codes "literal") (text_of t)) ≡ Some (argument.Term t)
+unfolding source_of_text term_source term_of_part
 literal_source t lawful printed = rw (tagged_headed (codes "literal") (text_of t) literal_word (term_part t lawful.in_range printed), term_whole t lawful printed) refl
 
-nil_again : source_of (codes "nil") ≡ Some (argument.Term nil_term)
-unfolding source_of nil_source
+nil_again : source_of_text (codes "nil") ≡ Some (argument.Term nil_term)
+unfolding source_of_text nil_source
 nil_again = rw (word_whole (codes "nil") nil_word) refl
 
-pub term_source_again : (t : TermValue) → IsTerm t → HasText t → source_of (term_text t) ≡ Some (argument.Term t)
+pub term_source_again : (t : TermValue) → IsTerm t → HasText t → source_of_text (term_text t) ≡ Some (argument.Term t)
 term_source_again (int_term z) lawful printed = integer_source z lawful.in_range
 term_source_again (atom_term name) lawful printed = atom_source name lawful.in_range
 term_source_again (reference_term node creation words) lawful printed = absurd printed

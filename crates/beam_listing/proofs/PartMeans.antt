@@ -8,7 +8,7 @@ use Rattle.beam_erltext.proofs.AgainIntegers.{lt_true}
 use Rattle.beam_model.specs.SameText.{same_text}
 use Rattle.beam_model.specs.TextReading.{Reading, integer_at, atom_at, term_at}
 use Rattle.beam_model.specs.Forms.{◌>>=◌, tuple_parts}
-use Rattle.beam_model.specs.ListingForms.{whole_of, integer_of, atom_of, term_of, word_of, number_of_text, headed_by, headed_of, only, part_of}
+use Rattle.beam_model.specs.ListingForms.{whole_of, integer_of_text, atom_of_text, term_of, word_of, number_of_text, headed_by, headed_of, only, part_of}
 use Rattle.beam_listing.specs.OperandForm.{IsInteger, IsNumber, IsAtom, IsTermText, IsHeaded}
 use Rattle.beam_listing.proofs.Bracketed.{tuple_told, tuple_read}
 
@@ -43,20 +43,20 @@ whole_told (Ok (y, [])) x e = cc
 whole_told (Ok (y, c ∷ cs)) x e = absurd cc
 whole_told (Err left) x e = absurd cc
 
-pub integer_told : (text : List ℕ) (z : ℤ) → integer_of text ≡ Some z → IsInteger z text
-unfolding integer_of
+pub integer_told : (text : List ℕ) (z : ℤ) → integer_of_text text ≡ Some z → IsInteger z text
+unfolding integer_of_text
 integer_told text z e = whole_told (integer_at text) z e
 
-pub integer_read : (text : List ℕ) (z : ℤ) → IsInteger z text → integer_of text ≡ Some z
-unfolding integer_of
+pub integer_read : (text : List ℕ) (z : ℤ) → IsInteger z text → integer_of_text text ≡ Some z
+unfolding integer_of_text
 integer_read text z is = rw is refl
 
-pub atom_told : (text name : List ℕ) → atom_of text ≡ Some name → IsAtom name text
-unfolding atom_of
+pub atom_told : (text name : List ℕ) → atom_of_text text ≡ Some name → IsAtom name text
+unfolding atom_of_text
 atom_told text name e = whole_told (atom_at text) name e
 
-pub atom_read : (text name : List ℕ) → IsAtom name text → atom_of text ≡ Some name
-unfolding atom_of
+pub atom_read : (text name : List ℕ) → IsAtom name text → atom_of_text text ≡ Some name
+unfolding atom_of_text
 atom_read text name is = rw is refl
 
 pub term_told : (text : List ℕ) (t : TermValue) → term_of text ≡ Some t → IsTermText t text
@@ -81,7 +81,7 @@ word_told (negsuc m) n e = absurd cc
 pub number_told : (text : List ℕ) (n : ℕ) → number_of_text text ≡ Some n → IsNumber n text
 unfolding number_of_text
 number_told text n e =
-    let z = bind_some (integer_of text) word_of n e in
+    let z = bind_some (integer_of_text text) word_of n e in
     let w = word_told z.0 n z.2 in
     (integer_told text (pos n) (z.1 ∙ ap (λ (k : ℤ). Some k) w.0), w.1)
 
@@ -96,7 +96,7 @@ head_told : (all : List (List ℕ)) (name : List ℕ) (parts : List (List ℕ)) 
 head_told [] name parts e = absurd cc
 head_told (head ∷ []) name parts e = absurd cc
 head_told (head ∷ part ∷ others) name parts e =
-    let n = bind_some (atom_of head) (λ (name : List ℕ). Some (name, part ∷ others)) (name, parts) e in
+    let n = bind_some (atom_of_text head) (λ (name : List ℕ). Some (name, part ∷ others)) (name, parts) e in
     let pair : (n.0, part ∷ others) ≡ (name, parts) = some_is (n.0, part ∷ others) (name, parts) n.2 in
     (head, ap (λ (p : List ℕ × List (List ℕ)). head ∷ p.1) pair, atom_told head name (n.1 ∙ ap (λ (p : List ℕ × List (List ℕ)). Some p.0) pair))
 

@@ -6,7 +6,7 @@ use Rattle.beam_model.specs.declared.instruction.Operand.{Operand}
 use Rattle.beam_model.specs.declared.instruction.Instruction.{Instruction}
 use Rattle.beam_model.specs.Listing.{label_of}
 use Rattle.beam_model.specs.Loadable.{atom_in, number_in}
-use Rattle.beam_model.specs.ListingText.{behind_lines, entry_in, is_func_info, named_text, informed_text, function_text, before_text, instruction_text, instructions_text}
+use Rattle.beam_model.specs.ListingText.{after_leading_lines, front_label_or_zero, is_func_info, named_text, informed_text, function_line_at, before_text, instruction_text, instructions_text}
 use Rattle.beam_listing.proofs.Bodies.{forms_text, function_form}
 
 forms_append : (fs gs : List (List ℕ)) → forms_text (fs ++ gs) ≡ forms_text fs ++ forms_text gs
@@ -33,10 +33,10 @@ informed_function (m ∷ f ∷ a ∷ o ∷ os) entry = []
 
 abbrev pub function_in : List Instruction → List Function
 function_in [] = []
-function_in (i ∷ rest) = if is_func_info i.opcode then informed_function i.operands (entry_in rest) else []
+function_in (i ∷ rest) = if is_func_info i.opcode then informed_function i.operands (front_label_or_zero rest) else []
 
 abbrev pub function_before : Instruction → List Instruction → List Function
-function_before i rest = if is_some (label_of i) then function_in (behind_lines rest) else []
+function_before i rest = if is_some (label_of i) then function_in (after_leading_lines rest) else []
 
 named_is : (name : Option (List ℕ)) (arity : Option ℕ) (entry : ℕ) → named_text name arity entry ≡ forms_text (function_forms (named_function name arity entry))
 named_is (Some name) (Some arity) entry = refl
@@ -56,12 +56,12 @@ either : (b : Bool) (text : List ℕ) (fs : List Function) → text ≡ forms_te
 either true text fs e = e
 either false text fs e = refl
 
-function_is : (is : List Instruction) → function_text is ≡ forms_text (function_forms (function_in is))
+function_is : (is : List Instruction) → function_line_at is ≡ forms_text (function_forms (function_in is))
 function_is [] = refl
-function_is (i ∷ rest) = either (is_func_info i.opcode) (informed_text i.operands (entry_in rest)) (informed_function i.operands (entry_in rest)) (informed_is i.operands (entry_in rest))
+function_is (i ∷ rest) = either (is_func_info i.opcode) (informed_text i.operands (front_label_or_zero rest)) (informed_function i.operands (front_label_or_zero rest)) (informed_is i.operands (front_label_or_zero rest))
 
 before_is : (i : Instruction) (rest : List Instruction) → before_text i rest ≡ forms_text (function_forms (function_before i rest))
-before_is i rest = either (is_some (label_of i)) (function_text (behind_lines rest)) (function_in (behind_lines rest)) (function_is (behind_lines rest))
+before_is i rest = either (is_some (label_of i)) (function_line_at (after_leading_lines rest)) (function_in (after_leading_lines rest)) (function_is (after_leading_lines rest))
 
 -- ---- all forms
 

@@ -12,8 +12,8 @@ use Rattle.std.proofs.lemmas.List.Folds.{list_all-append}
 use Rattle.beam_term.specs.TermValue.{TermValue, Terms, int_term, atom_term, reference_term, pid_term, nil_term, pair_term, tuple_term, no_terms, more_terms, IsSmall, IsInRange, AreInRange}
 use Rattle.beam_model.specs.declared.inside.Inside.{Inside}
 use Rattle.beam_model.specs.declared.inside.Inside.TheVariants as inside
-use Rattle.beam_model.specs.Text.{is_lower, is_digit, is_name, is_bare, escaped, atom_text, text_of, tail_text, items_text, HasText, AllHaveText}
-use Rattle.beam_model.specs.Forms.{inside_behind, is_comment, is_closing, open_behind, is_stop, stop_from, uncommented_from}
+use Rattle.beam_model.specs.Text.{is_lower, is_digit, is_name, is_unquoted, escaped, atom_text, text_of, tail_text, items_text, HasText, AllHaveText}
+use Rattle.beam_model.specs.Forms.{inside_after, is_comment, is_closing, open_after, is_stop, stop_from, uncommented_from}
 use Rattle.beam_erltext.proofs.Texts.{differ}
 use Rattle.beam_erltext.proofs.AgainIntegers.{digit_is}
 use Rattle.beam_erltext.proofs.AgainNames.{and_true, bare_is}
@@ -22,8 +22,8 @@ use Rattle.beam_erltext.proofs.AgainNames.{and_true, bare_is}
 abbrev pub Trace : ℕ → Inside → List ℕ → List ℕ → Inside → List ℕ → Type 0
 Trace mark s d [] t e = (s ≡ t) × (d ≡ e)
 Trace mark s d (c ∷ cs) t e =
-    (is_stop mark s d c ≡ false) × (is_comment (inside_behind s c) ≡ false)
-    × ((inner : List ℕ) × (open_behind s c d ≡ Some inner) × Trace mark (inside_behind s c) inner cs t e)
+    (is_stop mark s d c ≡ false) × (is_comment (inside_after s c) ≡ false)
+    × ((inner : List ℕ) × (open_after s c d ≡ Some inner) × Trace mark (inside_after s c) inner cs t e)
 
 -- the marks that are looked for: comma and full stop
 abbrev pub IsMark : ℕ → Type 0
@@ -40,7 +40,7 @@ pub trace_append : (mark : ℕ) (s : Inside) (d xs : List ℕ) (t : Inside) (e y
     → Trace mark s d xs t e → Trace mark t e ys u f → Trace mark s d (xs ++ ys) u f
 trace_append mark s d [] t e ys u f first second = subst (λ (k : List ℕ). Trace mark s k ys u f) (sym first.1) (subst (λ (x : Inside). Trace mark x e ys u f) (sym first.0) second)
 trace_append mark s d (c ∷ cs) t e ys u f first second =
-    (first.0, first.1, (first.2.0, first.2.1, trace_append mark (inside_behind s c) first.2.0 cs t e ys u f first.2.2 second))
+    (first.0, first.1, (first.2.0, first.2.1, trace_append mark (inside_after s c) first.2.0 cs t e ys u f first.2.2 second))
 
 pub safe_append : (xs ys : List ℕ) → Safe xs → Safe ys → Safe (xs ++ ys)
 safe_append xs ys first second mark m d = trace_append mark inside.Nothing d xs inside.Nothing d ys inside.Nothing d (first mark m d) (second mark m d)
@@ -59,14 +59,14 @@ unfolding stop_from
 stop_behind mark s d [] t e n rest h =
     ap (λ (x : Inside). stop_from mark x d n rest) h.0 ∙ ap (λ (k : List ℕ). stop_from mark t k n rest) h.1 ∙ ap (λ (k : ℕ). stop_from mark t e k rest) (omega arith)
 stop_behind mark s d (c ∷ cs) t e n rest h =
-    rw (h.0, h.2.1) (stop_behind mark (inside_behind s c) h.2.0 cs t e (n + 1) rest h.2.2 ∙ ap (λ (k : ℕ). stop_from mark t e k rest) (omega arith))
+    rw (h.0, h.2.1) (stop_behind mark (inside_after s c) h.2.0 cs t e (n + 1) rest h.2.2 ∙ ap (λ (k : ℕ). stop_from mark t e k rest) (omega arith))
 
 pub uncommented_behind : (mark : ℕ) (s : Inside) (d text : List ℕ) (t : Inside) (e rest : List ℕ) → Trace mark s d text t e
     → uncommented_from s (text ++ rest) ≡ text ++ uncommented_from t rest
 unfolding uncommented_from
 uncommented_behind mark s d [] t e rest h = ap (λ (x : Inside). uncommented_from x rest) h.0
 uncommented_behind mark s d (c ∷ cs) t e rest h =
-    rw h.1 (ap (λ (text : List ℕ). c ∷ text) (uncommented_behind mark (inside_behind s c) h.2.0 cs t e rest h.2.2))
+    rw h.1 (ap (λ (text : List ℕ). c ∷ text) (uncommented_behind mark (inside_after s c) h.2.0 cs t e rest h.2.2))
 
 -- ---- bytes outside of quotes
 
@@ -87,10 +87,10 @@ pub record IsPlain (c : ℕ) : Type 0 where
 is_no_stop : (mark : ℕ) (d : List ℕ) (c : ℕ) → (c == mark) ≡ false → is_closing c ≡ false → is_stop mark inside.Nothing d c ≡ false
 is_no_stop mark d c m k = rw (m, k) (and_false (length d == 0))
 
-plain_inside : (c : ℕ) → IsPlain c → inside_behind inside.Nothing c ≡ inside.Nothing
+plain_inside : (c : ℕ) → IsPlain c → inside_after inside.Nothing c ≡ inside.Nothing
 plain_inside c p = rw (p.percent, p.double, p.single) refl
 
-plain_open : (c : ℕ) (d : List ℕ) → IsPlain c → open_behind inside.Nothing c d ≡ Some d
+plain_open : (c : ℕ) (d : List ℕ) → IsPlain c → open_after inside.Nothing c d ≡ Some d
 plain_open c d p = rw (p.round, p.square, p.brace, p.closing) refl
 
 pub plain_trace : (mark : ℕ) (d : List ℕ) (c : ℕ) → IsPlain c → (c == mark) ≡ false → Trace mark inside.Nothing d (c ∷ []) inside.Nothing d
@@ -167,7 +167,7 @@ quoted_append xs ys first second mark d = trace_append mark (inside.Quotes 39) d
 
 quoted_byte : (c : ℕ) → (c == 39) ≡ false → (c == 92) ≡ false → Quoted (c ∷ [])
 quoted_byte c q b mark d =
-    let same : inside_behind (inside.Quotes 39) c ≡ inside.Quotes 39 = rw (q, b) refl in
+    let same : inside_after (inside.Quotes 39) c ≡ inside.Quotes 39 = rw (q, b) refl in
     (refl, ap is_comment same, (d, refl, (same, refl)))
 
 quoted_escape : (c : ℕ) → Quoted (92 ∷ c ∷ [])
@@ -218,9 +218,9 @@ in_quotes text q mark m d =
     opened mark (inr e) d = is_no_stop mark d 39 (rw e refl) refl
 
 pub safe_atom : (name : List ℕ) → Safe (atom_text name)
-safe_atom name = by name (is_bare name) refl
+safe_atom name = by name (is_unquoted name) refl
   where
-    by : (name : List ℕ) (bare : Bool) → is_bare name ≡ bare → Safe (cond bare name (39 ∷ (flat_map escaped name ++ 39 ∷ [])))
+    by : (name : List ℕ) (bare : Bool) → is_unquoted name ≡ bare → Safe (cond bare name (39 ∷ (flat_map escaped name ++ 39 ∷ [])))
     by [] true e = absurd cc
     by (c ∷ cs) true e = safe_name (c ∷ cs) (bare_is c cs e).names
     by name false e = in_quotes (flat_map escaped name) (quoted_name name)

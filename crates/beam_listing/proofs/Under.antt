@@ -9,9 +9,9 @@ use Rattle.beam_model.specs.declared.opcode.Kind.{Kind}
 use Rattle.beam_model.specs.declared.opcode.Kind.TheVariants as kind
 use Rattle.beam_term.specs.TermValue.{int_term, atom_term, reference_term, pid_term, nil_term, pair_term, tuple_term}
 use Rattle.beam_model.specs.Text.{atom_text}
-use Rattle.beam_model.specs.Loadable.{is_number, is_label_operand, is_atom}
+use Rattle.beam_model.specs.Loadable.{is_number_operand, is_label_operand, is_atom_operand}
 use Rattle.beam_model.specs.ListingText.{term_text, operand_text}
-use Rattle.beam_model.specs.ListingForms.{number_member, label_argument, atom_argument, part_of, source_of, register_of, import_of, native_of, list_of, as_one, as_import, as_list, operand_of, operands_from}
+use Rattle.beam_model.specs.ListingForms.{number_member, label_argument, atom_argument, part_of, source_of_text, register_of_text, import_of_text, native_of, members_of_text, as_one, as_import, as_list, operand_of_text, operands_from}
 use Rattle.beam_listing.specs.Typed.{IsImport}
 use Rattle.beam_listing.specs.Printed.{is_any_register, is_any_source, is_any_import, is_any_list, is_of_kind, is_raise_two}
 use Rattle.beam_listing.proofs.Elements.{IsPart, AreParts}
@@ -38,7 +38,7 @@ abbrev pub text_under : Kind → Operand → List ℕ
 text_under (kind.Native n) (operand.Import i) = atom_text i.function
 text_under _ o = operand_text o
 
-number_operand : (o : Operand) → IsReadOperand o → is_number o ≡ true → as_one (number_member (operand_text o)) ≡ Some o
+number_operand : (o : Operand) → IsReadOperand o → is_number_operand o ≡ true → as_one (number_member (operand_text o)) ≡ Some o
 number_operand (operand.One (argument.Term t)) is e = absurd cc
 number_operand (operand.One (argument.X n)) is e = absurd cc
 number_operand (operand.One (argument.Y n)) is e = absurd cc
@@ -60,7 +60,7 @@ atom_alone : (name : List ℕ) → IsReadArgument (argument.Term (atom_term name
 unfolding atom_argument part_of
 atom_alone name is = rw (tagged_headed (codes "atom") (atom_text name) atom_word (atom_part name), atom_whole name is.0.in_range) refl
 
-atom_operand : (o : Operand) → IsReadOperand o → is_atom o ≡ true → as_one (atom_argument (operand_text o)) ≡ Some o
+atom_operand : (o : Operand) → IsReadOperand o → is_atom_operand o ≡ true → as_one (atom_argument (operand_text o)) ≡ Some o
 atom_operand (operand.One (argument.Term (int_term z))) is e = absurd cc
 atom_operand (operand.One (argument.Term (atom_term name))) is e = rw (atom_alone name is) refl
 atom_operand (operand.One (argument.Term (reference_term node creation words))) is e = absurd cc
@@ -75,7 +75,7 @@ atom_operand (operand.One (argument.Number n)) is e = absurd cc
 atom_operand (operand.Import i) is e = absurd cc
 atom_operand (operand.List as') is e = absurd cc
 
-source_operand : (o : Operand) → IsReadOperand o → is_any_source o ≡ true → as_one (source_of (operand_text o)) ≡ Some o
+source_operand : (o : Operand) → IsReadOperand o → is_any_source o ≡ true → as_one (source_of_text (operand_text o)) ≡ Some o
 source_operand (operand.One (argument.Term t)) is e = rw (term_source_again t is.0 is.1) refl
 source_operand (operand.One (argument.X n)) is e = rw (x_source n is) refl
 source_operand (operand.One (argument.Y n)) is e = rw (y_source n is) refl
@@ -84,7 +84,7 @@ source_operand (operand.One (argument.Number n)) is e = absurd cc
 source_operand (operand.Import i) is e = absurd cc
 source_operand (operand.List as') is e = absurd cc
 
-register_operand : (o : Operand) → IsReadOperand o → is_any_register o ≡ true → as_one (register_of (operand_text o)) ≡ Some o
+register_operand : (o : Operand) → IsReadOperand o → is_any_register o ≡ true → as_one (register_of_text (operand_text o)) ≡ Some o
 register_operand (operand.One (argument.Term t)) is e = absurd cc
 register_operand (operand.One (argument.X n)) is e = rw (x_again n is) refl
 register_operand (operand.One (argument.Y n)) is e = rw (y_again n is) refl
@@ -93,7 +93,7 @@ register_operand (operand.One (argument.Number n)) is e = absurd cc
 register_operand (operand.Import i) is e = absurd cc
 register_operand (operand.List as') is e = absurd cc
 
-import_operand : (o : Operand) → IsReadOperand o → is_any_import o ≡ true → as_import (import_of (operand_text o)) ≡ Some o
+import_operand : (o : Operand) → IsReadOperand o → is_any_import o ≡ true → as_import (import_of_text (operand_text o)) ≡ Some o
 import_operand (operand.One a) is e = absurd cc
 import_operand (operand.Import i) is e = rw (import_again i is) refl
 import_operand (operand.List as') is e = absurd cc
@@ -103,13 +103,13 @@ native_operand n (operand.One a) is built e = absurd cc
 native_operand n (operand.Import i) is built e = rw (native_again n i is.function built.«module» built.arity) refl
 native_operand n (operand.List as') is built e = absurd cc
 
-list_operand : (o : Operand) → IsReadOperand o → is_any_list o ≡ true → as_list (list_of (operand_text o)) ≡ Some o
+list_operand : (o : Operand) → IsReadOperand o → is_any_list o ≡ true → as_list (members_of_text (operand_text o)) ≡ Some o
 list_operand (operand.One a) is e = absurd cc
 list_operand (operand.Import i) is e = absurd cc
 list_operand (operand.List as') is e = rw (list_again as' is) refl
 
-pub operand_again : (k : Kind) (o : Operand) → IsReadOperand o → IsBuiltIn k o → is_of_kind k o ≡ true → operand_of k (text_under k o) ≡ Some o
-unfolding operand_of
+pub operand_again : (k : Kind) (o : Operand) → IsReadOperand o → IsBuiltIn k o → is_of_kind k o ≡ true → operand_of_text k (text_under k o) ≡ Some o
+unfolding operand_of_text
 operand_again kind.Number o is built e = number_operand o is e
 operand_again kind.Arity o is built e = number_operand o is e
 operand_again kind.FrameSize o is built e = number_operand o is e

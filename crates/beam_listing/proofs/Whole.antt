@@ -8,7 +8,7 @@ use Rattle.beam_model.specs.Listing.{Listing}
 use Rattle.beam_model.specs.Text.{atom_text}
 use Rattle.beam_model.specs.ListingText.{tagged, heads_text, listing_text}
 use Rattle.beam_model.specs.ListingForms.{module_of, exports_of, attributes_of, labels_of}
-use Rattle.beam_model.specs.ListingReading.{Body, no_body, body_from, export_by, listing_at, with_line, listing_of_forms, listing_of_text}
+use Rattle.beam_model.specs.ListingReading.{ListingBody, no_body, body_from, export_by, listing_at, with_line, listing_of_forms, listing_of_text}
 use Rattle.beam_listing.proofs.Elements.{AreParts}
 use Rattle.beam_listing.proofs.HeadForms.{AreExports, signatures_by, next_again, exports_form, module_part, module_again, exports_part, exports_again, attributes_part, attributes_again, labels_part, labels_again}
 use Rattle.beam_listing.proofs.Bodies.{forms_text, forms_plain, forms_uncommented, AreItems, item_parts, Adds, body_again}
@@ -35,17 +35,17 @@ listing_is l =
     ∙ lines (tagged (codes "module") (atom_text l.name)) (exports_form l.exports) (codes "{attributes,[]}") (tagged (codes "labels") (decimal l.label_count)) (forms_text (instruction_forms l.instructions))
 
 -- the conditions on the heads, and the items of the forms after them
-pub record IsReadListing (l : Listing) (xs : List Item) (body : Body) : Type 0 where
+pub record IsReadListing (l : Listing) (xs : List Item) (body : ListingBody) : Type 0 where
   pub name : IsAtomText l.name
   pub exports : AreExports l.exports
   pub count : l.label_count < 2 ^ 32
   pub items : AreItems (instruction_forms l.instructions) xs
   pub adds : Adds no_body xs body
 
-abbrev pub listing_by : Listing → Body → Listing
+abbrev pub listing_by : Listing → ListingBody → Listing
 listing_by l body = record { name = l.name; exports = map (export_by body.functions) (signatures_by l.exports); label_count = l.label_count; function_count = length body.functions; instructions = body.instructions }
 
-listing_read : (l : Listing) (xs : List Item) (body : Body) → IsReadListing l xs body → listing_at (forms_text (listing_forms l)) ≡ Ok (listing_by l body)
+listing_read : (l : Listing) (xs : List Item) (body : ListingBody) → IsReadListing l xs body → listing_at (forms_text (listing_forms l)) ≡ Ok (listing_by l body)
 unfolding listing_at
 listing_read l xs body is =
     let others : AreParts (instruction_forms l.instructions) = item_parts (instruction_forms l.instructions) xs is.items in
@@ -62,7 +62,7 @@ listing_read l xs body is =
     let fifth : body_from (length text) no_body text ≡ Ok body = body_again (length text) no_body body (instruction_forms l.instructions) xs is.items is.adds (omega arith) in
     rw (first, second, third, fourth, fifth) refl
 
-pub listing_again : (l : Listing) (xs : List Item) (body : Body) → IsReadListing l xs body → listing_of_text (listing_text l) ≡ Ok (listing_by l body)
+pub listing_again : (l : Listing) (xs : List Item) (body : ListingBody) → IsReadListing l xs body → listing_of_text (listing_text l) ≡ Ok (listing_by l body)
 unfolding listing_of_forms
 listing_again l xs body is =
     let others : AreParts (instruction_forms l.instructions) = item_parts (instruction_forms l.instructions) xs is.items in

@@ -19,7 +19,7 @@ use Rattle.beam_model.specs.Opcodes.{kinds_of, name_of}
 use Rattle.beam_model.specs.ListingShapes.{shape_of}
 use Rattle.beam_model.specs.Forms.{◌>>=◌, list_parts}
 use Rattle.beam_model.specs.ListingText.{operand_text, operands_text, plain_text, line_text, test_text}
-use Rattle.beam_model.specs.ListingForms.{headed_of, operands_from, is_plain, is_test, is_end, plain_of, test_of, instruction_by, item_by, bare_item, item_of}
+use Rattle.beam_model.specs.ListingForms.{headed_of, operands_from, is_plain_shape, is_test_shape, is_end, plain_of, test_of, instruction_by, item_by, bare_item, item_of}
 use Rattle.beam_listing.proofs.Traces.{Brackets, square, brace, right}
 use Rattle.beam_listing.proofs.Elements.{IsPart, AreParts, closed, parts_again}
 use Rattle.beam_listing.proofs.Operands.{IsWord, word, word_part, atom_part, atom_whole}
@@ -88,7 +88,7 @@ as_item found = found >>= λ i. Some (item.Instruction i)
 abbrev pub made : Opcode → List Operand → Instruction
 made o os = record { opcode = o; operands = os }
 
-plain_again : (o : Opcode) (os : List Operand) → is_end o ≡ false → is_plain (shape_of o) ≡ true → AreUnder (kinds_of o) os
+plain_again : (o : Opcode) (os : List Operand) → is_end o ≡ false → is_plain_shape (shape_of o) ≡ true → AreUnder (kinds_of o) os
     → plain_of (name_of o) (texts_under (kinds_of o) os) ≡ Some (made o os)
 unfolding plain_of
 plain_again o os ends shape are = rw (named_again o, ends, shape, operands_again [] (kinds_of o) os are) refl
@@ -97,11 +97,11 @@ plain_again o os ends shape are = rw (named_again o, ends, shape, operands_again
 abbrev pub is_special : List ℕ → Bool
 is_special name = list_any (same_text name) (codes "function" ∷ codes "%" ∷ codes "test" ∷ codes "bif" ∷ codes "gc_bif" ∷ codes "raise" ∷ codes "line" ∷ [])
 
-pub plain_names : (o : Opcode) → (not (is_plain (shape_of o)) || not (is_special (name_of o))) ≡ true
+pub plain_names : (o : Opcode) → (not (is_plain_shape (shape_of o)) || not (is_special (name_of o))) ≡ true
 plain_names op.Label = refl
 plain_names _ = refl
 
-plain_kinds : (o : Opcode) → (not (is_plain (shape_of o)) || are_plain (kinds_of o)) ≡ true
+plain_kinds : (o : Opcode) → (not (is_plain_shape (shape_of o)) || are_plain (kinds_of o)) ≡ true
 unfolding are_plain is_plain_kind
 plain_kinds op.Label = refl
 plain_kinds _ = refl
@@ -127,18 +127,18 @@ pub headed_item : (cs w : List ℕ) (ps : List (List ℕ)) → headed_of (123 �
 unfolding item_of
 headed_item cs w ps e = rw e refl
 
-named_written : (o : Opcode) (a : Operand) (os : List Operand) → is_end o ≡ false → is_plain (shape_of o) ≡ true → AreUnder (kinds_of o) (a ∷ os)
+named_written : (o : Opcode) (a : Operand) (os : List Operand) → is_end o ≡ false → is_plain_shape (shape_of o) ≡ true → AreUnder (kinds_of o) (a ∷ os)
     → IsWritten (plain_text (atom_text (name_of o)) (a ∷ os)) (made o (a ∷ os))
 unfolding as_item
 named_written o a os ends shape are =
     let name : List ℕ = name_of o in
     let ps : List (List ℕ) = plain_texts (a ∷ os) in
-    let same : texts_under (kinds_of o) (a ∷ os) ≡ ps = texts_plain (kinds_of o) (a ∷ os) (either_true (is_plain (shape_of o)) (are_plain (kinds_of o)) (plain_kinds o) shape) are in
+    let same : texts_under (kinds_of o) (a ∷ os) ≡ ps = texts_plain (kinds_of o) (a ∷ os) (either_true (is_plain_shape (shape_of o)) (are_plain (kinds_of o)) (plain_kinds o) shape) are in
     let parts : AreParts ps = subst AreParts same (parts_under (kinds_of o) (a ∷ os) are) in
     let read : plain_of name ps ≡ Some (made o (a ∷ os)) = ap (plain_of name) (sym same) ∙ plain_again o (a ∷ os) ends shape are in
     tuple_written (plain_text (atom_text name) (a ∷ os)) (atom_text name ∷ ps) (made o (a ∷ os)) (plain_is (atom_text name) a os) (atom_part name, parts)
     (headed_item (closed brace [] (atom_text name ∷ ps)) name ps (name_headed name (operand_text a) (plain_texts os) (name_lawful o) parts.0 parts.1)
-    ∙ plain_item name ps (either_true (is_plain (shape_of o)) (not (is_special name)) (plain_names o) shape) ∙ ap as_item read)
+    ∙ plain_item name ps (either_true (is_plain_shape (shape_of o)) (not (is_special name)) (plain_names o) shape) ∙ ap as_item read)
 
 -- a name alone
 name_alone : (o : Opcode) → item_of (atom_text (name_of o)) ≡ bare_item (atom_text (name_of o))
@@ -154,13 +154,13 @@ bare_again : (o : Opcode) → plain_of (name_of o) [] ≡ Some (made o []) → b
 unfolding bare_item
 bare_again o read = rw (atom_whole (name_of o) (name_lawful o), read) refl
 
-bare_written : (o : Opcode) → is_end o ≡ false → is_plain (shape_of o) ≡ true → AreUnder (kinds_of o) []
+bare_written : (o : Opcode) → is_end o ≡ false → is_plain_shape (shape_of o) ≡ true → AreUnder (kinds_of o) []
     → IsWritten (plain_text (atom_text (name_of o)) []) (made o [])
 bare_written o ends shape are =
     let read : plain_of (name_of o) [] ≡ Some (made o []) = ap (plain_of (name_of o)) (sym (no_texts (kinds_of o))) ∙ plain_again o [] ends shape are in
     record { part = atom_part (name_of o); item = name_alone o ∙ bare_again o read }
 
-pub plain_written : (o : Opcode) (os : List Operand) → is_end o ≡ false → is_plain (shape_of o) ≡ true → AreUnder (kinds_of o) os
+pub plain_written : (o : Opcode) (os : List Operand) → is_end o ≡ false → is_plain_shape (shape_of o) ≡ true → AreUnder (kinds_of o) os
     → IsWritten (plain_text (atom_text (name_of o)) os) (made o os)
 plain_written o [] ends shape are = bare_written o ends shape are
 plain_written o (a ∷ os) ends shape are = named_written o a os ends shape are
@@ -210,7 +210,7 @@ test_is w l os =
     ∙ two w (operand_text l) (44 ∷ 91 ∷ (r ++ 93 ∷ 125 ∷ []))
     ∙ ap (λ (t : List ℕ). w ++ (44 ∷ (operand_text l ++ (44 ∷ 91 ∷ t)))) (list_end os))
 
-test_again : (o : Opcode) (l : Operand) (os : List Operand) → is_test (shape_of o) ≡ true → AreParts (plain_texts os)
+test_again : (o : Opcode) (l : Operand) (os : List Operand) → is_test_shape (shape_of o) ≡ true → AreParts (plain_texts os)
     → operands_from [] (kinds_of o) (operand_text l ∷ plain_texts os) ≡ Some (l ∷ os)
     → test_of (atom_text (name_of o) ∷ operand_text l ∷ list_texts (plain_texts os) ∷ []) ≡ Some (made o (l ∷ os))
 unfolding test_of
@@ -220,16 +220,16 @@ test_item : (ps : List (List ℕ)) → item_by (codes "test") ps ≡ as_item (te
 unfolding item_by instruction_by as_item
 test_item ps = refl
 
-test_kinds : (o : Opcode) → (not (is_test (shape_of o)) || are_plain (kinds_of o)) ≡ true
+test_kinds : (o : Opcode) → (not (is_test_shape (shape_of o)) || are_plain (kinds_of o)) ≡ true
 unfolding are_plain is_plain_kind
 test_kinds op.Label = refl
 test_kinds _ = refl
 
-labelled_written : (o : Opcode) (l : Operand) (os : List Operand) → is_test (shape_of o) ≡ true → AreUnder (kinds_of o) (l ∷ os)
+labelled_written : (o : Opcode) (l : Operand) (os : List Operand) → is_test_shape (shape_of o) ≡ true → AreUnder (kinds_of o) (l ∷ os)
     → IsWritten (test_text (atom_text (name_of o)) (l ∷ os)) (made o (l ∷ os))
 unfolding as_item
 labelled_written o l os shape are =
-    let same : texts_under (kinds_of o) (l ∷ os) ≡ plain_texts (l ∷ os) = texts_plain (kinds_of o) (l ∷ os) (either_true (is_test (shape_of o)) (are_plain (kinds_of o)) (test_kinds o) shape) are in
+    let same : texts_under (kinds_of o) (l ∷ os) ≡ plain_texts (l ∷ os) = texts_plain (kinds_of o) (l ∷ os) (either_true (is_test_shape (shape_of o)) (are_plain (kinds_of o)) (test_kinds o) shape) are in
     let parts : AreParts (plain_texts (l ∷ os)) = subst AreParts same (parts_under (kinds_of o) (l ∷ os) are) in
     let read : operands_from [] (kinds_of o) (plain_texts (l ∷ os)) ≡ Some (l ∷ os) = ap (operands_from [] (kinds_of o)) (sym same) ∙ operands_again [] (kinds_of o) (l ∷ os) are in
     let w : List ℕ = atom_text (name_of o) in
@@ -240,7 +240,7 @@ labelled_written o l os shape are =
     ∙ test_item (w ∷ ps) ∙ ap as_item (test_again o l os shape parts.1 read))
 
 -- a test has a label
-test_labelled : (o : Opcode) → (not (is_test (shape_of o)) || not (length (kinds_of o) == 0)) ≡ true
+test_labelled : (o : Opcode) → (not (is_test_shape (shape_of o)) || not (length (kinds_of o) == 0)) ≡ true
 test_labelled op.Label = refl
 test_labelled _ = refl
 
@@ -248,7 +248,7 @@ some_under : (ks : List Kind) → not (length ks == 0) ≡ true → AreUnder ks 
 some_under [] e are = absurd cc
 some_under (k ∷ ks) e are = are
 
-pub test_written : (o : Opcode) (os : List Operand) → is_test (shape_of o) ≡ true → AreUnder (kinds_of o) os
+pub test_written : (o : Opcode) (os : List Operand) → is_test_shape (shape_of o) ≡ true → AreUnder (kinds_of o) os
     → IsWritten (test_text (atom_text (name_of o)) os) (made o os)
-test_written o [] shape are = absurd (some_under (kinds_of o) (either_true (is_test (shape_of o)) (not (length (kinds_of o) == 0)) (test_labelled o) shape) are)
+test_written o [] shape are = absurd (some_under (kinds_of o) (either_true (is_test_shape (shape_of o)) (not (length (kinds_of o) == 0)) (test_labelled o) shape) are)
 test_written o (l ∷ os) shape are = labelled_written o l os shape are

@@ -11,7 +11,7 @@ use Rattle.beam_model.specs.declared.opcode.Kind.{Kind}
 use Rattle.beam_model.specs.declared.opcode.Kind.TheVariants as kind
 use Rattle.beam_model.specs.Listing.{Listing}
 use Rattle.beam_model.specs.SameText.{same_text}
-use Rattle.beam_model.specs.Loadable.{all_operands, is_number, is_label_operand, is_atom, are_heads_lawful, are_exports_lawful}
+use Rattle.beam_model.specs.Loadable.{all_operands, is_number_operand, is_label_operand, is_atom_operand, are_heads_lawful, are_exports_lawful}
 use Rattle.beam_model.specs.Opcodes.{kinds_of}
 use Rattle.beam_model.specs.Text.{HasText}
 
@@ -36,12 +36,12 @@ is_any_list _ = false
 
 -- The operand is of its kind's letter: its numbers may be above the limits of arities, frames and registers, and its labels may be undefined.
 abbrev pub is_of_kind : Kind → Operand → Bool
-is_of_kind kind.Number o = is_number o
-is_of_kind kind.Arity o = is_number o
-is_of_kind kind.FrameSize o = is_number o
+is_of_kind kind.Number o = is_number_operand o
+is_of_kind kind.Arity o = is_number_operand o
+is_of_kind kind.FrameSize o = is_number_operand o
 is_of_kind kind.Label o = is_label_operand o
 is_of_kind kind.FailLabel o = is_label_operand o
-is_of_kind kind.Atom o = is_atom o
+is_of_kind kind.Atom o = is_atom_operand o
 is_of_kind kind.Source o = is_any_source o
 is_of_kind kind.Register o = is_any_register o
 is_of_kind kind.Import o = is_any_import o

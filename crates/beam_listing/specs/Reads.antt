@@ -1,6 +1,6 @@
 -- The result of a reader of forms against the definition of the text's listing.
 use Rattle.std.specs.Prelude.{◌≡◌, Result, Ok, Err}
-use Rattle.beam_model.specs.ListingReading.{ListingFault, syntax, unknown, Body}
+use Rattle.beam_model.specs.ListingReading.{ListingFault, syntax, unknown, ListingBody}
 use Rattle.beam_listing.specs.declared.read.Body.{Body as BodyRead}
 use Rattle.beam_listing.specs.declared.refusal.Refusal.{Refusal}
 use Rattle.beam_listing.specs.declared.refusal.Refusal.TheVariants as refusals
@@ -22,5 +22,5 @@ abbrev pub Reads : {X Y : Type 0} → (X → Y) → Result X Refusal → Result 
 Reads view (Ok x) read = read ≡ Ok (view x)
 Reads view (Err e) read = Refuses e read
 
-abbrev pub body_of : BodyRead → Body
+abbrev pub body_of : BodyRead → ListingBody
 body_of body = record { functions = body.functions.items; instructions = body.instructions.items }

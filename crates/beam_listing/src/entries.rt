@@ -3,7 +3,7 @@
 ghost use Rattle.std.specs.Prelude.{◌≡◌, unwrap_or, IfOk, map};
 ghost use Rattle.indexmap.specs.IndexMap.{get};
 ghost use Rattle.beam_model.specs.Loadable.{same_signature};
-ghost use Rattle.beam_model.specs.ListingReading.{entry_in, export_by};
+ghost use Rattle.beam_model.specs.ListingReading.{entry_label_of, export_by};
 ghost use Rattle.beam_model.specs.declared.function.Signature.{Signature as TheSignature};
 
 use beam_model::function::{Export, Function, Signature};
@@ -12,7 +12,7 @@ use std::alloc::{AllocError, Global};
 
 // The entry of each name and arity: of two functions with one name and arity, the first one's.
 fn entries(alloc: Global, functions: &[Function]) -> Result<IndexMap<Signature, u32>, AllocError>
-    ensures { IfOk result (λ m. (s : TheSignature) → unwrap_or (get same_signature m s) 0 ≡ entry_in functions.now s) }
+    ensures { IfOk result (λ m. (s : TheSignature) → unwrap_or (get same_signature m s) 0 ≡ entry_label_of functions.now s) }
 {
     let mut entries = IndexMap::new(alloc);
     let mut rest = functions;

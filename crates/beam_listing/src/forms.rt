@@ -1,7 +1,7 @@
 //! A text of forms: comments, full stops, brackets and commas.
 
 ghost use Rattle.std.specs.Prelude.{◌≡◌, ◌<◌, if◌then◌else◌, [], None, IfOk, length, reverse};
-ghost use Rattle.beam_model.specs.Forms.{inside_behind, is_comment, is_outside, uncommented, is_closing, closed, open_behind, is_stop, stop_in, alone, elements_from, elements_within, elements_of};
+ghost use Rattle.beam_model.specs.Forms.{inside_after, is_comment, is_outside, uncommented, is_closing, closed, open_after, is_stop, stop_in, alone, elements_from, elements_within, bracketed_elements};
 ghost use Rattle.beam_listing.specs.Gives.{Gives};
 
 use crate::miss::Miss;
@@ -11,7 +11,7 @@ use beam_model::inside::Inside;
 use std::alloc::{AllocError, Global};
 
 fn inside_behind(stands: Inside, byte: u8) -> Inside
-    ensures { result ≡ inside_behind stands byte }
+    ensures { result ≡ inside_after stands byte }
 {
     match stands {
         Inside::Nothing if byte == b'%' => Inside::Comment,
@@ -73,7 +73,7 @@ fn close(brackets: &mut Vec<u8>, byte: u8) -> Result<(), Miss>
 // The brackets that are open after a byte, each by its closing bracket, the innermost last.
 #[tactic(auto, using(crate::proofs::Reversed::reversed_push))]
 fn nest(brackets: &mut Vec<u8>, stands: Inside, byte: u8) -> Result<(), Miss>
-    ensures { Gives (λ _. reverse brackets.new.items) result (open_behind stands byte (reverse brackets.old.items)) }
+    ensures { Gives (λ _. reverse brackets.new.items) result (open_after stands byte (reverse brackets.old.items)) }
 {
     if !is_outside(stands) {
         return Ok(());
@@ -165,9 +165,9 @@ fn elements_within(alloc: Global, close: u8, text: &[u8]) -> Result<Vec<Part<'_>
 }
 
 /// The elements of a text in these brackets, in their order.
-#[tactic(auto, unfolding(beam_model::specs::Forms::elements_of))]
+#[tactic(auto, unfolding(beam_model::specs::Forms::bracketed_elements))]
 pub fn elements(alloc: Global, opening: u8, close: u8, text: &[u8]) -> Result<Vec<Part<'_>>, Miss>
-    ensures { Gives (λ v. v.items) result (elements_of opening close text.now) }
+    ensures { Gives (λ v. v.items) result (bracketed_elements opening close text.now) }
 {
     let Some((first, others)) = text.split_first() else {
         return Err(Miss::Unknown);

@@ -1,7 +1,7 @@
 //! The forms of a listing, each by its text: heads, functions and instructions.
 
 ghost use Rattle.std.specs.Prelude.{◌≡◌, []};
-ghost use Rattle.beam_model.specs.ListingForms.{function_of, item_by, bare_item, item_of, module_of, signature_by, signature_of, signatures_from, exports_of, attributes_of, labels_of};
+ghost use Rattle.beam_model.specs.ListingForms.{function_of_parts, item_by, bare_item, item_of, module_of, signature_of_parts, signature_of_text, signatures_from, exports_of, attributes_of, labels_of};
 ghost use Rattle.beam_listing.specs.Gives.{Gives};
 
 use crate::instruction::{instruction, plain};
@@ -14,9 +14,9 @@ use beam_term::Atom;
 use std::alloc::Global;
 
 // The function of `{function,F,A,Entry}`.
-#[tactic(auto, unfolding(beam_model::specs::ListingForms::function_of))]
+#[tactic(auto, unfolding(beam_model::specs::ListingForms::function_of_parts))]
 fn function(alloc: Global, parts: &[Part<'_>]) -> Result<Function, Miss>
-    ensures { Gives (λ f. f) result (function_of parts.now) }
+    ensures { Gives (λ f. f) result (function_of_parts parts.now) }
 {
     let [name, arity, entry] = parts else {
         return Err(Miss::Unknown);
@@ -76,9 +76,9 @@ pub fn module(alloc: Global, text: &[u8]) -> Result<Atom, Miss>
 }
 
 // The name and arity of `{F,A}`.
-#[tactic(auto, unfolding(beam_model::specs::ListingForms::signature_of))]
+#[tactic(auto, unfolding(beam_model::specs::ListingForms::signature_of_text))]
 fn signature(alloc: Global, text: &[u8]) -> Result<Signature, Miss>
-    ensures { Gives (λ s. s) result (signature_of text.now) }
+    ensures { Gives (λ s. s) result (signature_of_text text.now) }
 {
     let parts = tuple_parts(alloc, text)?;
     let [name, arity] = parts.as_slice() else {

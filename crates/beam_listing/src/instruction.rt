@@ -2,7 +2,7 @@
 
 ghost use Rattle.std.specs.Prelude.{◌≡◌, ◌++◌, ◌<◌, IfOk, OnOk};
 ghost use Rattle.beam_model.specs.Opcodes.{opcode_of, opcode_named};
-ghost use Rattle.beam_model.specs.ListingForms.{written, is_plain, is_test, is_bif0, is_bif, is_gc_bif, is_raise, is_end, plain_of, test_of, raise_by, raise_of, counted, bif0_of, bif_by, is_raise_call, bif_of, gc_bif_of, line_instruction, instruction_by};
+ghost use Rattle.beam_model.specs.ListingForms.{instruction_of_parts, is_plain_shape, is_test_shape, is_bif0_shape, is_bif_shape, is_gc_bif_shape, is_raise_shape, is_end, plain_of, test_of, raise_by, raise_of_text, counted, bif0_of, bif_by, is_raise_call, bif_of, gc_bif_of, line_instruction, instruction_by};
 ghost use Rattle.beam_model.specs.ListingShapes.{shape_of};
 ghost use Rattle.beam_listing.specs.Gives.{Gives};
 
@@ -24,7 +24,7 @@ fn written(
     opcode: Opcode,
     parts: &[Part<'_>],
 ) -> Result<Instruction, Miss>
-    ensures { Gives (λ i. i) result (written fits opcode parts.now) }
+    ensures { Gives (λ i. i) result (instruction_of_parts fits opcode parts.now) }
 {
     if !fits {
         return Err(Miss::Unknown);
@@ -34,37 +34,37 @@ fn written(
 }
 
 fn is_plain(shape: Shape) -> bool
-    ensures { result ≡ is_plain shape }
+    ensures { result ≡ is_plain_shape shape }
 {
     matches!(shape, Shape::Plain)
 }
 
 fn is_test(shape: Shape) -> bool
-    ensures { result ≡ is_test shape }
+    ensures { result ≡ is_test_shape shape }
 {
     matches!(shape, Shape::Test)
 }
 
 fn is_bif0(shape: Shape) -> bool
-    ensures { result ≡ is_bif0 shape }
+    ensures { result ≡ is_bif0_shape shape }
 {
     matches!(shape, Shape::Bif0)
 }
 
 fn is_bif(shape: Shape) -> bool
-    ensures { result ≡ is_bif shape }
+    ensures { result ≡ is_bif_shape shape }
 {
     matches!(shape, Shape::Bif)
 }
 
 fn is_gc_bif(shape: Shape) -> bool
-    ensures { result ≡ is_gc_bif shape }
+    ensures { result ≡ is_gc_bif_shape shape }
 {
     matches!(shape, Shape::GcBif)
 }
 
 fn is_raise(shape: Shape) -> bool
-    ensures { result ≡ is_raise shape }
+    ensures { result ≡ is_raise_shape shape }
 {
     matches!(shape, Shape::Raise)
 }
@@ -168,9 +168,9 @@ fn raise_by(alloc: Global, parts: &[Part<'_>]) -> Result<Instruction, Miss>
 }
 
 // `{raise,[operands]}`
-#[tactic(auto, unfolding(beam_model::specs::ListingForms::raise_of))]
+#[tactic(auto, unfolding(beam_model::specs::ListingForms::raise_of_text))]
 fn raise(alloc: Global, list: &[u8]) -> Result<Instruction, Miss>
-    ensures { Gives (λ i. i) result (raise_of list.now) }
+    ensures { Gives (λ i. i) result (raise_of_text list.now) }
 {
     let parts = list_parts(alloc, list)?;
     raise_by(alloc, &parts)

@@ -1,14 +1,14 @@
 //! Laws of printing and reading listings. The functions do nothing: their contracts are proved.
 
 ghost use Rattle.std.specs.Prelude.{◌≡◌, ◌↔◌, ℕ, List, ◌∷◌, ◌++◌, length, Some, Ok, IsTrue, codes};
-ghost use Rattle.beam_model.specs.Assembly.{spelled};
+ghost use Rattle.beam_model.specs.Assembly.{without_line_numbers};
 ghost use Rattle.beam_model.specs.declared.function.Signature.{Signature as TheSignature};
 ghost use Rattle.beam_model.specs.declared.instruction.Operand.{Operand as TheOperand};
 ghost use Rattle.beam_model.specs.declared.item.Item.{Item as TheItem};
 ghost use Rattle.beam_model.specs.declared.opcode.Kind.{Kind};
 ghost use Rattle.beam_model.specs.Forms.{tuple_parts, list_parts, is_closing, stop_in};
 ghost use Rattle.beam_model.specs.Listing.{Listing};
-ghost use Rattle.beam_model.specs.ListingForms.{attributes_of, exports_of, item_of, labels_of, module_of, operand_of};
+ghost use Rattle.beam_model.specs.ListingForms.{attributes_of, exports_of, item_of, labels_of, module_of, operand_of_text};
 ghost use Rattle.beam_model.specs.ListingReading.{listing_of_text};
 ghost use Rattle.beam_model.specs.ListingText.{listing_text};
 ghost use Rattle.beam_model.specs.Loads.{IsLoadable};
@@ -39,7 +39,7 @@ pub fn forms_mean()
     ensures attributes_head { (about form : List ℕ) → IsAttributesForm about form ↔ (attributes_of form ≡ Some about) }
     ensures labels_head { (n : ℕ) (form : List ℕ) → IsLabelsForm n form ↔ (labels_of form ≡ Some n) }
     ensures item { (x : TheItem) (form : List ℕ) → IsItemForm x form ↔ (item_of form ≡ Some x) }
-    ensures operand { (kind : Kind) (o : TheOperand) (text : List ℕ) → IsOperand kind o text ↔ (operand_of kind text ≡ Some o) }
+    ensures operand { (kind : Kind) (o : TheOperand) (text : List ℕ) → IsOperand kind o text ↔ (operand_of_text kind text ≡ Some o) }
 {}
 
 /// A text is balanced, with no `mark` outside of its quotes and brackets, exactly where the first mark or closing bracket outside of
@@ -65,12 +65,12 @@ pub fn one_listing()
 /// of them is raise/2 (`{bif,raise,F,[S,S],D}` is read as the instruction raise), and no pid and no reference stands in its terms.
 /// A listing that can be loaded has all this but the last.
 pub fn printed_is_read()
-    ensures read { (l : Listing) → IsListing l → HasListingText l → listing_of_text (listing_text l) ≡ Ok (spelled l) }
-    ensures loadable { (l : Listing) → IsListing l → IsLoadable l → TermsHaveText l → listing_of_text (listing_text l) ≡ Ok (spelled l) }
+    ensures read { (l : Listing) → IsListing l → HasListingText l → listing_of_text (listing_text l) ≡ Ok (without_line_numbers l) }
+    ensures loadable { (l : Listing) → IsListing l → IsLoadable l → TermsHaveText l → listing_of_text (listing_text l) ≡ Ok (without_line_numbers l) }
 {}
 
 /// In a listing that a text has, each line has the operand 0, so its printed text is read as the same listing.
 pub fn read_is_printed()
-    ensures canonical { (text : List ℕ) (l : Listing) → listing_of_text text ≡ Ok l → spelled l ≡ l }
+    ensures canonical { (text : List ℕ) (l : Listing) → listing_of_text text ≡ Ok l → without_line_numbers l ≡ l }
     ensures same { (text : List ℕ) (l : Listing) → listing_of_text text ≡ Ok l → IsListing l → HasListingText l → listing_of_text (listing_text l) ≡ Ok l }
 {}

@@ -3,8 +3,8 @@
 ghost use Rattle.std.specs.Prelude.{◌≡◌, Some, IfOk};
 ghost use Rattle.std.specs.List.{list_all};
 ghost use Rattle.beam_model.specs.Forms.{list_parts};
-ghost use Rattle.beam_model.specs.ListingForms.{atom_of, headed_of};
-ghost use Rattle.beam_model.specs.ListingReading.{is_term, is_free_head, is_raise, bound_parts, is_tuple_of, is_list_of, is_loose};
+ghost use Rattle.beam_model.specs.ListingForms.{atom_of_text, headed_of};
+ghost use Rattle.beam_model.specs.ListingReading.{is_term, has_unparsed_part, is_raise, parsed_parts, is_partial_tuple, is_partial_list, is_partial_term};
 
 use crate::miss::Miss;
 use crate::part::Part;
@@ -33,13 +33,13 @@ fn are_terms(alloc: Global, parts: &[Part<'_>]) -> Result<bool, AllocError>
 }
 
 fn is_free_head(name: &str) -> bool
-    ensures { result ≡ is_free_head name.now }
+    ensures { result ≡ has_unparsed_part name.now }
 {
     name == "attributes" || name == "line" || name == "%"
 }
 
 fn is_raise(alloc: Global, text: &[u8]) -> Result<bool, AllocError>
-    ensures { IfOk result (λ b. b ≡ is_raise (atom_of text.now)) }
+    ensures { IfOk result (λ b. b ≡ is_raise (atom_of_text text.now)) }
 {
     match atom(alloc, text) {
         Ok(name) => Ok(name.as_str() == "raise"),
@@ -54,7 +54,7 @@ fn bound_parts<'p, 'a>(
     name: &str,
     parts: &'p [Part<'a>],
 ) -> Result<&'p [Part<'a>], AllocError>
-    ensures { IfOk result (λ v. v.now ≡ bound_parts name.now parts.now) }
+    ensures { IfOk result (λ v. v.now ≡ parsed_parts name.now parts.now) }
 {
     match parts {
         [_] if is_free_head(name) => Ok(&parts[1..]),
@@ -73,7 +73,7 @@ fn bound_parts<'p, 'a>(
 #[cycle(loose)]
 #[tactic(auto, using(crate::proofs::Fuel::is_loose_is, crate::proofs::Fuel::is_loose_none))]
 pub fn is_loose(alloc: Global, levels: u8, text: &[u8]) -> Result<bool, AllocError>
-    ensures { IfOk result (λ b. b ≡ is_loose levels text.now) }
+    ensures { IfOk result (λ b. b ≡ is_partial_term levels text.now) }
 {
     if is_term(alloc, text)? {
         return Ok(true);
@@ -90,7 +90,7 @@ pub fn is_loose(alloc: Global, levels: u8, text: &[u8]) -> Result<bool, AllocErr
 #[cycle(loose)]
 #[tactic(auto, unfolding(beam_model::specs::ListingForms::headed_of))]
 fn is_loose_tuple(alloc: Global, levels: u8, text: &[u8]) -> Result<bool, AllocError>
-    ensures { IfOk result (λ b. b ≡ is_tuple_of (is_loose levels) (headed_of text.now)) }
+    ensures { IfOk result (λ b. b ≡ is_partial_tuple (is_partial_term levels) (headed_of text.now)) }
 {
     let parts = match tuple_parts(alloc, text) {
         Ok(parts) => parts,
@@ -112,7 +112,7 @@ fn are_loose_behind(
     name: &str,
     parts: &[Part<'_>],
 ) -> Result<bool, AllocError>
-    ensures { IfOk result (λ b. b ≡ is_tuple_of (is_loose levels) (Some (name.now, parts.now))) }
+    ensures { IfOk result (λ b. b ≡ is_partial_tuple (is_partial_term levels) (Some (name.now, parts.now))) }
 {
     if name == "literal" {
         return are_terms(alloc, parts);
@@ -122,7 +122,7 @@ fn are_loose_behind(
 
 #[cycle(loose)]
 fn is_loose_list(alloc: Global, levels: u8, text: &[u8]) -> Result<bool, AllocError>
-    ensures { IfOk result (λ b. b ≡ is_list_of (is_loose levels) (list_parts text.now)) }
+    ensures { IfOk result (λ b. b ≡ is_partial_list (is_partial_term levels) (list_parts text.now)) }
 {
     match list_parts(alloc, text) {
         Ok(parts) => are_loose(alloc, levels, &parts),
@@ -133,7 +133,7 @@ fn is_loose_list(alloc: Global, levels: u8, text: &[u8]) -> Result<bool, AllocEr
 
 #[cycle(loose)]
 fn are_loose(alloc: Global, levels: u8, parts: &[Part<'_>]) -> Result<bool, AllocError>
-    ensures { IfOk result (λ b. b ≡ list_all (is_loose levels) parts.now) }
+    ensures { IfOk result (λ b. b ≡ list_all (is_partial_term levels) parts.now) }
 {
     for part in parts {
         if !is_loose(alloc, levels, part.text())? {

@@ -1,7 +1,7 @@
 //! Operands, by the kinds that the opcode table gives them.
 
 ghost use Rattle.std.specs.Prelude.{◌≡◌, [], IfOk, IfErr, codes};
-ghost use Rattle.beam_model.specs.ListingForms.{plain_register, typed_part, typed_register, register_by, register_of, label_of, term_by, term_source, is_register_name, source_by, nil_source, source_of, member_by, number_member, member_of, members_from, list_of, import_by, import_of, native_of, label_argument, atom_argument, operand_of, operands_from};
+ghost use Rattle.beam_model.specs.ListingForms.{plain_register, typed_part, typed_register, register_of_parts, register_of_text, label_of_text, term_of_part, term_source, is_register_name, source_of_parts, nil_source, source_of_text, member_of_parts, number_member, member_of_text, members_from, members_of_text, import_of_parts, import_of_text, native_of, label_argument, atom_argument, operand_of_text, operands_from};
 ghost use Rattle.beam_listing.specs.Gives.{Gives};
 
 use crate::miss::Miss;
@@ -38,9 +38,9 @@ fn typed_register(alloc: Global, parts: &[Part<'_>]) -> Result<Argument, Miss>
     plain_register(name.as_str(), others)
 }
 
-#[tactic(auto, unfolding(beam_model::specs::ListingForms::register_by))]
+#[tactic(auto, unfolding(beam_model::specs::ListingForms::register_of_parts))]
 fn register_by(alloc: Global, name: &str, parts: &[Part<'_>]) -> Result<Argument, Miss>
-    ensures { Gives (λ a. a) result (register_by name.now parts.now) }
+    ensures { Gives (λ a. a) result (register_of_parts name.now parts.now) }
 {
     if name == "tr" {
         return typed_register(alloc, parts);
@@ -48,9 +48,9 @@ fn register_by(alloc: Global, name: &str, parts: &[Part<'_>]) -> Result<Argument
     plain_register(name, parts)
 }
 
-#[tactic(auto, unfolding(beam_model::specs::ListingForms::register_of, beam_model::specs::ListingForms::headed_of))]
+#[tactic(auto, unfolding(beam_model::specs::ListingForms::register_of_text, beam_model::specs::ListingForms::headed_of))]
 fn register(alloc: Global, text: &[u8]) -> Result<Argument, Miss>
-    ensures { Gives (λ a. a) result (register_of text.now) }
+    ensures { Gives (λ a. a) result (register_of_text text.now) }
 {
     let parts = tuple_parts(alloc, text)?;
     let (name, others) = headed(alloc, &parts)?;
@@ -58,16 +58,16 @@ fn register(alloc: Global, text: &[u8]) -> Result<Argument, Miss>
 }
 
 /// The label of `{f,N}`.
-#[tactic(auto, unfolding(beam_model::specs::ListingForms::label_of))]
+#[tactic(auto, unfolding(beam_model::specs::ListingForms::label_of_text))]
 pub fn label(alloc: Global, text: &[u8]) -> Result<u32, Miss>
-    ensures { Gives (λ n. n) result (label_of text.now) }
+    ensures { Gives (λ n. n) result (label_of_text text.now) }
 {
     number(part(alloc, "f", text)?)
 }
 
-#[tactic(auto, unfolding(beam_model::specs::ListingForms::term_by))]
+#[tactic(auto, unfolding(beam_model::specs::ListingForms::term_of_part))]
 fn term_by(alloc: Global, name: &str, part: &[u8]) -> Result<Term, Miss>
-    ensures { Gives (λ t. t) result (term_by name.now part.now) }
+    ensures { Gives (λ t. t) result (term_of_part name.now part.now) }
 {
     match name {
         "integer" => Ok(Term::integer(integer(part)?)),
@@ -91,7 +91,7 @@ fn is_register_name(name: &str) -> bool
 }
 
 fn source_by(alloc: Global, name: &str, parts: &[Part<'_>]) -> Result<Argument, Miss>
-    ensures { Gives (λ a. a) result (source_by name.now parts.now) }
+    ensures { Gives (λ a. a) result (source_of_parts name.now parts.now) }
 {
     if is_register_name(name) {
         return register_by(alloc, name, parts);
@@ -110,9 +110,9 @@ fn nil_source(alloc: Global, text: &[u8]) -> Result<Argument, Miss>
     Ok(Argument::Term(Term::nil()))
 }
 
-#[tactic(auto, unfolding(beam_model::specs::ListingForms::source_of, beam_model::specs::ListingForms::headed_of))]
+#[tactic(auto, unfolding(beam_model::specs::ListingForms::source_of_text, beam_model::specs::ListingForms::headed_of))]
 fn source(alloc: Global, text: &[u8]) -> Result<Argument, Miss>
-    ensures { Gives (λ a. a) result (source_of text.now) }
+    ensures { Gives (λ a. a) result (source_of_text text.now) }
 {
     match text {
         [] => Err(Miss::Unknown),
@@ -126,9 +126,9 @@ fn source(alloc: Global, text: &[u8]) -> Result<Argument, Miss>
 }
 
 // A member of a list operand, in braces.
-#[tactic(auto, unfolding(beam_model::specs::ListingForms::member_by))]
+#[tactic(auto, unfolding(beam_model::specs::ListingForms::member_of_parts))]
 fn member_by(alloc: Global, name: &str, parts: &[Part<'_>]) -> Result<Argument, Miss>
-    ensures { Gives (λ a. a) result (member_by name.now parts.now) }
+    ensures { Gives (λ a. a) result (member_of_parts name.now parts.now) }
 {
     if name == "f" {
         return Ok(Argument::Label(number(only(parts)?)?));
@@ -142,9 +142,9 @@ fn plain_number(text: &[u8]) -> Result<Argument, Miss>
     Ok(Argument::Number(number(text)?))
 }
 
-#[tactic(auto, unfolding(beam_model::specs::ListingForms::member_of, beam_model::specs::ListingForms::headed_of))]
+#[tactic(auto, unfolding(beam_model::specs::ListingForms::member_of_text, beam_model::specs::ListingForms::headed_of))]
 fn member(alloc: Global, text: &[u8]) -> Result<Argument, Miss>
-    ensures { Gives (λ a. a) result (member_of text.now) }
+    ensures { Gives (λ a. a) result (member_of_text text.now) }
 {
     match text {
         [] => Err(Miss::Unknown),
@@ -170,16 +170,16 @@ fn members(alloc: Global, parts: &[Part<'_>]) -> Result<Arguments, Miss>
 }
 
 // The members of `{list,[..]}`.
-#[tactic(auto, unfolding(beam_model::specs::ListingForms::list_of))]
+#[tactic(auto, unfolding(beam_model::specs::ListingForms::members_of_text))]
 fn list(alloc: Global, text: &[u8]) -> Result<Arguments, Miss>
-    ensures { Gives (λ v. v) result (list_of text.now) }
+    ensures { Gives (λ v. v) result (members_of_text text.now) }
 {
     let parts = list_parts(alloc, part(alloc, "list", text)?)?;
     members(alloc, &parts)
 }
 
 fn import_by(alloc: Global, name: &str, parts: &[Part<'_>]) -> Result<Import, Miss>
-    ensures { Gives (λ i. i) result (import_by name.now parts.now) }
+    ensures { Gives (λ i. i) result (import_of_parts name.now parts.now) }
 {
     let [module, function, arity] = parts else {
         return Err(Miss::Unknown);
@@ -198,9 +198,9 @@ fn import_by(alloc: Global, name: &str, parts: &[Part<'_>]) -> Result<Import, Mi
 }
 
 // The function of `{extfunc,M,F,A}`.
-#[tactic(auto, unfolding(beam_model::specs::ListingForms::import_of, beam_model::specs::ListingForms::headed_of))]
+#[tactic(auto, unfolding(beam_model::specs::ListingForms::import_of_text, beam_model::specs::ListingForms::headed_of))]
 fn import(alloc: Global, text: &[u8]) -> Result<Import, Miss>
-    ensures { Gives (λ i. i) result (import_of text.now) }
+    ensures { Gives (λ i. i) result (import_of_text text.now) }
 {
     let parts = tuple_parts(alloc, text)?;
     let (name, others) = headed(alloc, &parts)?;
@@ -247,9 +247,9 @@ fn plain_label(alloc: Global, text: &[u8]) -> Result<Argument, Miss>
 }
 
 // The operand that a text is under its kind.
-#[tactic(auto, unfolding(beam_model::specs::ListingForms::operand_of))]
+#[tactic(auto, unfolding(beam_model::specs::ListingForms::operand_of_text))]
 fn operand(alloc: Global, kind: Kind, text: &[u8]) -> Result<Operand, Miss>
-    ensures { Gives (λ o. o) result (operand_of kind text.now) }
+    ensures { Gives (λ o. o) result (operand_of_text kind text.now) }
 {
     match kind {
         Kind::Number | Kind::Arity | Kind::FrameSize => Ok(Operand::One(plain_number(text)?)),

@@ -3,7 +3,7 @@
 ghost use Rattle.std.specs.Prelude.{◌≡◌, Ok, Err, IfOk, IfErr, MatchResult, ℕ, length};
 ghost use Rattle.beam_model.specs.Listing.{Listing as TheListing};
 ghost use Rattle.beam_model.specs.ListingForms.{item_of, module_of, exports_of, attributes_of, labels_of};
-ghost use Rattle.beam_model.specs.ListingReading.{fault_of, form_at, next_at, with_item, body_from, no_body, listing_at, listing_of_forms, listing_of_text, syntax, unknown};
+ghost use Rattle.beam_model.specs.ListingReading.{fault_of, listing_form_at, next_form, with_item, body_from, no_body, listing_at, listing_of_forms, listing_of_text, syntax, unknown};
 ghost use Rattle.beam_listing.specs.ListingForm.{IsListingText};
 ghost use Rattle.beam_listing.specs.Reads.{Names, Reads, body_of};
 
@@ -31,9 +31,9 @@ pub struct Body {
 }
 
 // The form at the front of a text, and the text after its full stop.
-#[tactic(auto, unfolding(beam_model::specs::ListingReading::form_at))]
+#[tactic(auto, unfolding(beam_model::specs::ListingReading::listing_form_at))]
 fn form(alloc: Global, text: &[u8]) -> Result<(&[u8], &[u8]), Refusal>
-    ensures { Reads (λ x. (x.0.now, x.1.now)) result (form_at text.now) }
+    ensures { Reads (λ x. (x.0.now, x.1.now)) result (listing_form_at text.now) }
 {
     let size = match stop(alloc, b'.', text) {
         Ok(size) => size,
@@ -62,9 +62,9 @@ fn refusal(alloc: Global, text: &[u8], form: &[u8], miss: Miss) -> Refusal
     }
 }
 
-#[tactic(auto, unfolding(beam_model::specs::ListingReading::next_at))]
+#[tactic(auto, unfolding(beam_model::specs::ListingReading::next_form))]
 fn module_head(alloc: Global, text: &[u8]) -> Result<(Atom, &[u8]), Refusal>
-    ensures { Reads (λ x. (x.0, x.1.now)) result (next_at module_of text.now) }
+    ensures { Reads (λ x. (x.0, x.1.now)) result (next_form module_of text.now) }
 {
     let Some(_) = text.first() else {
         return Err(Refusal::Unknown(0));
@@ -76,9 +76,9 @@ fn module_head(alloc: Global, text: &[u8]) -> Result<(Atom, &[u8]), Refusal>
     }
 }
 
-#[tactic(auto, unfolding(beam_model::specs::ListingReading::next_at))]
+#[tactic(auto, unfolding(beam_model::specs::ListingReading::next_form))]
 fn exports_head(alloc: Global, text: &[u8]) -> Result<(Vec<Signature>, &[u8]), Refusal>
-    ensures { Reads (λ x. (x.0.items, x.1.now)) result (next_at exports_of text.now) }
+    ensures { Reads (λ x. (x.0.items, x.1.now)) result (next_form exports_of text.now) }
 {
     let Some(_) = text.first() else {
         return Err(Refusal::Unknown(0));
@@ -90,9 +90,9 @@ fn exports_head(alloc: Global, text: &[u8]) -> Result<(Vec<Signature>, &[u8]), R
     }
 }
 
-#[tactic(auto, unfolding(beam_model::specs::ListingReading::next_at))]
+#[tactic(auto, unfolding(beam_model::specs::ListingReading::next_form))]
 fn attributes_head(alloc: Global, text: &[u8]) -> Result<(&[u8], &[u8]), Refusal>
-    ensures { Reads (λ x. (x.0.now, x.1.now)) result (next_at attributes_of text.now) }
+    ensures { Reads (λ x. (x.0.now, x.1.now)) result (next_form attributes_of text.now) }
 {
     let Some(_) = text.first() else {
         return Err(Refusal::Unknown(0));
@@ -104,9 +104,9 @@ fn attributes_head(alloc: Global, text: &[u8]) -> Result<(&[u8], &[u8]), Refusal
     }
 }
 
-#[tactic(auto, unfolding(beam_model::specs::ListingReading::next_at))]
+#[tactic(auto, unfolding(beam_model::specs::ListingReading::next_form))]
 fn labels_head(alloc: Global, text: &[u8]) -> Result<(u32, &[u8]), Refusal>
-    ensures { Reads (λ x. (x.0, x.1.now)) result (next_at labels_of text.now) }
+    ensures { Reads (λ x. (x.0, x.1.now)) result (next_form labels_of text.now) }
 {
     let Some(_) = text.first() else {
         return Err(Refusal::Unknown(0));
@@ -118,9 +118,9 @@ fn labels_head(alloc: Global, text: &[u8]) -> Result<(u32, &[u8]), Refusal>
     }
 }
 
-#[tactic(auto, unfolding(beam_model::specs::ListingReading::next_at))]
+#[tactic(auto, unfolding(beam_model::specs::ListingReading::next_form))]
 fn next_item(alloc: Global, text: &[u8]) -> Result<(Item, &[u8]), Refusal>
-    ensures { Reads (λ x. (x.0, x.1.now)) result (next_at item_of text.now) }
+    ensures { Reads (λ x. (x.0, x.1.now)) result (next_form item_of text.now) }
 {
     let Some(_) = text.first() else {
         return Err(Refusal::Unknown(0));

@@ -3,7 +3,7 @@
 ghost use Rattle.std.specs.Prelude.{◌≡◌, IfOk};
 ghost use Rattle.beam_term.specs.TermValue.{IsSmall};
 ghost use Rattle.beam_model.specs.Forms.{tuple_parts, list_parts};
-ghost use Rattle.beam_model.specs.ListingForms.{integer_of, atom_of, term_of, number_of_text, headed_by, only, part_of};
+ghost use Rattle.beam_model.specs.ListingForms.{integer_of_text, atom_of_text, term_of, number_of_text, headed_by, only, part_of};
 ghost use Rattle.beam_listing.specs.Gives.{Gives};
 
 use crate::forms::elements;
@@ -16,9 +16,9 @@ use beam_term::{Atom, Term};
 use std::alloc::Global;
 
 /// The integer that a text is.
-#[tactic(auto, unfolding(beam_model::specs::ListingForms::integer_of))]
+#[tactic(auto, unfolding(beam_model::specs::ListingForms::integer_of_text))]
 pub fn integer(text: &[u8]) -> Result<i64, Miss>
-    ensures gives { Gives (λ z. z) result (integer_of text.now) }
+    ensures gives { Gives (λ z. z) result (integer_of_text text.now) }
     ensures small { IfOk result (λ z. IsSmall z) }
 {
     match read_integer(text) {
@@ -41,9 +41,9 @@ pub fn number(text: &[u8]) -> Result<u32, Miss>
 }
 
 /// The atom that a text is.
-#[tactic(auto, unfolding(beam_model::specs::ListingForms::atom_of))]
+#[tactic(auto, unfolding(beam_model::specs::ListingForms::atom_of_text))]
 pub fn atom(alloc: Global, text: &[u8]) -> Result<Atom, Miss>
-    ensures { Gives (λ name. name) result (atom_of text.now) }
+    ensures { Gives (λ name. name) result (atom_of_text text.now) }
 {
     match read_atom(alloc, text) {
         Ok((name, [])) => Ok(name),

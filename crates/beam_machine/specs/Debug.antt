@@ -76,12 +76,12 @@ abbrev pub row_in : ℕ → ℕ → Instance → Option Place
 row_in label rows i = option_map (λ at. record { instance = i.number; at = at })
     (option_and_then (λ at. rows_after rows at i.listing.instructions) (row_of_label label 0 i.listing.instructions))
 
-abbrev pub version_of : Version → Versions → Option Instance
-version_of Current v = v.current
-version_of Old v = v.old
+abbrev pub instance_of_version : Version → Versions → Option Instance
+instance_of_version Current v = v.current
+instance_of_version Old v = v.old
 
 abbrev pub place_named : Code → Spot → Option Place
-place_named code spot = option_and_then (row_in spot.label spot.rows) (version_of spot.version (versions_of code spot.«module»))
+place_named code spot = option_and_then (row_in spot.label spot.rows) (instance_of_version spot.version (versions_of code spot.«module»))
 
 -- ---- rows, with break spots
 
@@ -127,15 +127,15 @@ abbrev pub is_live_process : State → ℕ → Bool
 is_live_process s pid = is_some (live_process s.processes pid)
 
 -- an ended process isn't held, and a break spot goes with its instance
-abbrev pub settled : Debugged → Debugged
-settled d = record d {
+abbrev pub pruned : Debugged → Debugged
+pruned d = record d {
   spots = filter (λ spot. is_live d.node.code spot.instance) d.spots;
   held = filter (is_live_process d.node) d.held;
   passing = filter (is_live_process d.node) d.passing;
 }
 
 abbrev pub replies : Debugged → DebugReply View → DebugNext
-replies d reply = record { answer = Ok reply; state = settled d }
+replies d reply = record { answer = Ok reply; state = pruned d }
 
 abbrev pub answered : Debugged → State → Answer → DebugNext
 answered d s (Ok reply) = replies (record d { node = s }) (Node reply)
@@ -229,10 +229,10 @@ debug_run d (event ∷ events) =
 -- ---- without the debugger
 
 -- the count of rows in an answer
-abbrev pub rows_told : DebugAnswer → ℕ
-rows_told (Ok (Node (Ran count after))) = count
-rows_told (Ok (Held count)) = count
-rows_told _ = 0
+abbrev pub rows_of_answer : DebugAnswer → ℕ
+rows_of_answer (Ok (Node (Ran count after))) = count
+rows_of_answer (Ok (Held count)) = count
+rows_of_answer _ = 0
 
 abbrev pub steps_of : ℕ → ℕ → List (Event Listing)
 steps_of pid zero = []
@@ -240,9 +240,9 @@ steps_of pid (suc n) = Steps pid (suc n) ∷ []
 
 -- the events of a node without a debugger that an event with this answer stands for: the rows that were done, none for the debugger's own
 abbrev pub erased : DebugEvent Listing → DebugAnswer → List (Event Listing)
-erased (NodeEvent (Steps pid n)) answer = steps_of pid (rows_told answer)
+erased (NodeEvent (Steps pid n)) answer = steps_of pid (rows_of_answer answer)
 erased (NodeEvent event) answer = event ∷ []
-erased (StepOne pid) answer = steps_of pid (rows_told answer)
+erased (StepOne pid) answer = steps_of pid (rows_of_answer answer)
 erased _ answer = []
 
 abbrev pub erase : Debugged → List (DebugEvent Listing) → List (Event Listing)

@@ -9,42 +9,42 @@ use Rattle.beam_machine.specs.declared.event.Reply.TheVariants.{Ran}
 use Rattle.beam_model.specs.Listing.{Listing}
 use Rattle.beam_machine.specs.Debug.{Debugged, DebugAnswer, debug_next}
 use Rattle.beam_machine.specs.Quiet.{is_quiet_event, is_upgrade}
-use Rattle.beam_machine.specs.Run.{granted}
+use Rattle.beam_machine.specs.Run.{effective_rows}
 
 -- the event that took place where memory was refused in the middle of it: fewer rows
-abbrev pub debug_cut : DebugEvent Listing → DebugAnswer → DebugEvent Listing
-debug_cut (NodeEvent (Steps pid n)) (Ok (Node (Ran count after))) = NodeEvent (Steps pid (granted n count after))
-debug_cut event answer = event
+abbrev pub debug_cut_event : DebugEvent Listing → DebugAnswer → DebugEvent Listing
+debug_cut_event (NodeEvent (Steps pid n)) (Ok (Node (Ran count after))) = NodeEvent (Steps pid (effective_rows n count after))
+debug_cut_event event answer = event
 
 -- a possible answer to an event: that of debug_next, for the event or for its rows that were done; or NoMemory, and nothing changed
 abbrev pub DebugAnswers : Debugged → DebugEvent Listing → DebugAnswer → Debugged → Type 0
 DebugAnswers old event (Err NoMemory) new = new ≡ old
-DebugAnswers old event answer new = debug_next old (debug_cut event answer) ≡ record { answer = answer; state = new }
+DebugAnswers old event answer new = debug_next old (debug_cut_event event answer) ≡ record { answer = answer; state = new }
 
 -- the state after an event that was answered so
 abbrev pub debug_after : Debugged → DebugEvent Listing → DebugAnswer → Debugged
 debug_after d event (Err NoMemory) = d
-debug_after d event answer = (debug_next d (debug_cut event answer)).state
+debug_after d event answer = (debug_next d (debug_cut_event event answer)).state
 
 -- an event that was refused for memory doesn't stand in the list
-abbrev pub debug_listed : DebugEvent Listing → DebugAnswer → List (DebugEvent Listing)
-debug_listed event (Err NoMemory) = []
-debug_listed event answer = debug_cut event answer ∷ []
+abbrev pub effective_debug_event : DebugEvent Listing → DebugAnswer → List (DebugEvent Listing)
+effective_debug_event event (Err NoMemory) = []
+effective_debug_event event answer = debug_cut_event event answer ∷ []
 
-abbrev pub debug_said : DebugAnswer → List DebugAnswer
-debug_said (Err NoMemory) = []
-debug_said answer = answer ∷ []
+abbrev pub effective_debug_answer : DebugAnswer → List DebugAnswer
+effective_debug_answer (Err NoMemory) = []
+effective_debug_answer answer = answer ∷ []
 
 -- the events that took place: without those that were refused for memory, and each with as many rows as its answer has
-abbrev pub debug_cuts : List (DebugEvent Listing) → List DebugAnswer → List (DebugEvent Listing)
-debug_cuts (event ∷ events) (answer ∷ answers) = debug_listed event answer ++ debug_cuts events answers
-debug_cuts [] answers = []
-debug_cuts events [] = []
+abbrev pub effective_debug_events : List (DebugEvent Listing) → List DebugAnswer → List (DebugEvent Listing)
+effective_debug_events (event ∷ events) (answer ∷ answers) = effective_debug_event event answer ++ effective_debug_events events answers
+effective_debug_events [] answers = []
+effective_debug_events events [] = []
 
 -- the answers without those for want of memory
-abbrev pub debug_told : List DebugAnswer → List DebugAnswer
-debug_told [] = []
-debug_told (answer ∷ answers) = debug_said answer ++ debug_told answers
+abbrev pub effective_debug_answers : List DebugAnswer → List DebugAnswer
+effective_debug_answers [] = []
+effective_debug_answers (answer ∷ answers) = effective_debug_answer answer ++ effective_debug_answers answers
 
 -- the events that take no memory: the node's quiet events, and clearing a break spot
 abbrev pub is_quiet_debug_event : Debugged → DebugEvent Listing → Bool

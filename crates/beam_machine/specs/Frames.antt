@@ -5,7 +5,7 @@ use Rattle.std.specs.Str.{chars, is_utf8}
 use Rattle.byteorder.specs.Endian.{big_number, big_bytes}
 use Rattle.beam_term.specs.Atom.{IsAtomText}
 use Rattle.beam_term.specs.TermValue.{TermValue, int_term, atom_term, pid_term, tuple_term, tuple_of, list_of, elements_of}
-use Rattle.beam_model.specs.External.{IsExternal, written}
+use Rattle.beam_model.specs.External.{IsExternal, external_bytes}
 use Rattle.beam_model.specs.ExternalFault.{ExternalFault}
 use Rattle.beam_model.specs.ExternalReading.{external_at}
 use Rattle.beam_model.specs.Native.{elements_in}
@@ -30,7 +30,7 @@ use Rattle.beam_machine.specs.declared.event.Reply.TheVariants as reply
 use Rattle.beam_machine.specs.declared.event.Then.{Then}
 use Rattle.beam_machine.specs.declared.event.Then.TheVariants as then
 use Rattle.beam_machine.specs.Debug.{DebugAnswer}
-use Rattle.beam_machine.specs.Refusal.{number_of}
+use Rattle.beam_machine.specs.Refusal.{number_of_refusal}
 use Rattle.beam_machine.specs.View.{view_text}
 
 -- ---- which bytes spell a command
@@ -132,11 +132,11 @@ kind_of n =
     else (if n == 17 then Some kind.Versions
     else (if n == 18 then Some kind.AtomicLoad else None)))))))))))))))))
 
-unfoldable pub atom_in : List ℕ → Option (List ℕ)
-atom_in body = if is_utf8 body && not (nat_lt 255 (length (chars body))) then Some body else None
+unfoldable pub atom_in_body : List ℕ → Option (List ℕ)
+atom_in_body body = if is_utf8 body && not (nat_lt 255 (length (chars body))) then Some body else None
 
-unfoldable pub number_in : ℕ → List ℕ → Option ℕ
-number_in count body = if length body == count then Some (big_number count body) else None
+unfoldable pub number_in_body : ℕ → List ℕ → Option ℕ
+number_in_body count body = if length body == count then Some (big_number count body) else None
 
 abbrev pub only_term : TermValue → List ℕ → Option TermValue
 only_term t [] = Some t
@@ -178,14 +178,14 @@ spot_of fields = None
 
 -- two numbers of four bytes
 abbrev pub steps_in : List ℕ → Option Command
-steps_in body = option_and_then (λ pid. option_map (λ rows. Node (event.Steps pid rows)) (number_in 4 (drop 4 body))) (number_in 4 (take 4 body))
+steps_in body = option_and_then (λ pid. option_map (λ rows. Node (event.Steps pid rows)) (number_in_body 4 (drop 4 body))) (number_in_body 4 (take 4 body))
 
 abbrev pub mode_of : ℕ → Option Mode
 mode_of n = if n == 0 then Some Strict else (if n == 1 then Some Soft else (if n == 2 then Some Hard else None))
 
 -- reads a number in four bytes at the front, and then the bytes after it, by a reader that knows the number
 abbrev pub after_number : {X : Type 0} → (ℕ → List ℕ → Option X) → List ℕ → Option X
-after_number read bytes = option_and_then (λ n. read n (drop 4 bytes)) (number_in 4 (take 4 bytes))
+after_number read bytes = option_and_then (λ n. read n (drop 4 bytes)) (number_in_body 4 (take 4 bytes))
 
 -- a file of that size, before others
 abbrev pub file_before : (List ℕ → Option (List (List ℕ))) → ℕ → List ℕ → Option (List (List ℕ))
@@ -206,21 +206,21 @@ atomic_load_in (n ∷ body) = option_and_then (λ mode. option_map (λ files. No
 abbrev pub command_in : CommandKind → List ℕ → Option Command
 command_in kind.Load body = Some (Node (event.Load body))
 command_in kind.LoadStrict body = Some (Node (event.LoadStrict body))
-command_in kind.Delete body = option_map (λ name. Node (event.Delete name)) (atom_in body)
-command_in kind.SoftPurge body = option_map (λ name. Node (event.SoftPurge name)) (atom_in body)
-command_in kind.Purge body = option_map (λ name. Node (event.Purge name)) (atom_in body)
+command_in kind.Delete body = option_map (λ name. Node (event.Delete name)) (atom_in_body body)
+command_in kind.SoftPurge body = option_map (λ name. Node (event.SoftPurge name)) (atom_in_body body)
+command_in kind.Purge body = option_map (λ name. Node (event.Purge name)) (atom_in_body body)
 command_in kind.Spawn body = option_and_then spawn_of (fields_in body)
 command_in kind.Send body = option_and_then send_of (fields_in body)
 command_in kind.Steps body = steps_in body
-command_in kind.Deliver body = option_map (λ pid. Node (event.Deliver pid)) (number_in 4 body)
-command_in kind.Clock body = option_map (λ now. Node (event.Clock now)) (number_in 8 body)
-command_in kind.Timeout body = option_map (λ pid. Node (event.Timeout pid)) (number_in 4 body)
+command_in kind.Deliver body = option_map (λ pid. Node (event.Deliver pid)) (number_in_body 4 body)
+command_in kind.Clock body = option_map (λ now. Node (event.Clock now)) (number_in_body 8 body)
+command_in kind.Timeout body = option_map (λ pid. Node (event.Timeout pid)) (number_in_body 4 body)
 command_in kind.SetBreak body = option_map (λ spot. SetBreak spot) (option_and_then spot_of (fields_in body))
 command_in kind.ClearBreak body = option_map (λ spot. ClearBreak spot) (option_and_then spot_of (fields_in body))
-command_in kind.Resume body = option_map (λ pid. Resume pid) (number_in 4 body)
-command_in kind.StepOne body = option_map (λ pid. StepOne pid) (number_in 4 body)
-command_in kind.Inspect body = option_map (λ pid. Inspect pid) (number_in 4 body)
-command_in kind.Versions body = option_map (λ name. Node (event.Versions name)) (atom_in body)
+command_in kind.Resume body = option_map (λ pid. Resume pid) (number_in_body 4 body)
+command_in kind.StepOne body = option_map (λ pid. StepOne pid) (number_in_body 4 body)
+command_in kind.Inspect body = option_map (λ pid. Inspect pid) (number_in_body 4 body)
+command_in kind.Versions body = option_map (λ name. Node (event.Versions name)) (atom_in_body body)
 command_in kind.AtomicLoad body = atomic_load_in body
 
 -- the command that a kind and a body spell
@@ -235,36 +235,36 @@ number_of_fault BadKind = 2
 number_of_fault BadCommand = 3
 
 -- the front of bytes: no whole frame; a command, and the bytes after its frame; or a fault
-pub data Found : Type 0 where
-  none : Found
-  one : Command → List ℕ → Found
-  fault : FrameFault → Found
+pub data FirstFrame : Type 0 where
+  no_frame : FirstFrame
+  one_frame : Command → List ℕ → FirstFrame
+  bad_frame : FrameFault → FirstFrame
 
 -- the greatest length of a kind and its body
 abbrev pub longest_frame : ℕ
 longest_frame = 8388608
 
-abbrev pub spelled : Option Command → List ℕ → Found
-spelled (Some c) rest = one c rest
-spelled None rest = fault BadCommand
+abbrev pub command_or_fault : Option Command → List ℕ → FirstFrame
+command_or_fault (Some c) rest = one_frame c rest
+command_or_fault None rest = bad_frame BadCommand
 
-abbrev pub of_kind : Option CommandKind → List ℕ → List ℕ → Found
-of_kind (Some k) body rest = spelled (command_in k body) rest
-of_kind None body rest = fault BadKind
+abbrev pub of_kind : Option CommandKind → List ℕ → List ℕ → FirstFrame
+of_kind (Some k) body rest = command_or_fault (command_in k body) rest
+of_kind None body rest = bad_frame BadKind
 
 -- the frame of these bytes, and the bytes after it; a frame of no bytes has no kind
-abbrev pub framed : List ℕ → List ℕ → Found
-framed [] rest = fault BadKind
-framed (n ∷ body) rest = of_kind (kind_of n) body rest
+abbrev pub frame_content : List ℕ → List ℕ → FirstFrame
+frame_content [] rest = bad_frame BadKind
+frame_content (n ∷ body) rest = of_kind (kind_of n) body rest
 
 -- the frame of a length and the bytes after it: a length of 0, or above the limit, is a fault before its frame is whole
-unfoldable pub after_length : ℕ → List ℕ → Found
+unfoldable pub after_length : ℕ → List ℕ → FirstFrame
 after_length n rest =
-    if nat_lt longest_frame n then fault TooLong
-    else (if nat_lt (length rest) n then none else framed (take n rest) (drop n rest))
+    if nat_lt longest_frame n then bad_frame TooLong
+    else (if nat_lt (length rest) n then no_frame else frame_content (take n rest) (drop n rest))
 
-unfoldable pub frame_in : List ℕ → Found
-frame_in bytes = if nat_lt (length bytes) 4 then none else after_length (big_number 4 bytes) (drop 4 bytes)
+unfoldable pub frame_in : List ℕ → FirstFrame
+frame_in bytes = if nat_lt (length bytes) 4 then no_frame else after_length (big_number 4 bytes) (drop 4 bytes)
 
 -- how a stream ends
 pub data StreamEnd : Type 0 where
@@ -277,25 +277,25 @@ pub record Stream : Type 0 where
   pub commands : List Command
   pub end : StreamEnd
 
-abbrev pub end_of : List ℕ → StreamEnd
-end_of [] = between_frames
-end_of (byte ∷ rest) = inside_frame
+abbrev pub stream_end : List ℕ → StreamEnd
+stream_end [] = between_frames
+stream_end (byte ∷ rest) = inside_frame
 
-abbrev pub ended : StreamEnd → Stream
-ended end = record { commands = []; end = end }
+abbrev pub empty_stream : StreamEnd → Stream
+empty_stream end = record { commands = []; end = end }
 
 abbrev pub with_command : Command → Stream → Stream
 with_command c stream = record stream { commands = c ∷ stream.commands }
 
-abbrev pub goes_on : (List ℕ → Stream) → List ℕ → Found → Stream
-goes_on stream bytes none = ended (end_of bytes)
-goes_on stream bytes (one c rest) = with_command c (stream rest)
-goes_on stream bytes (fault f) = ended (at_fault f)
+abbrev pub stream_by : (List ℕ → Stream) → List ℕ → FirstFrame → Stream
+stream_by stream bytes no_frame = empty_stream (stream_end bytes)
+stream_by stream bytes (one_frame c rest) = with_command c (stream rest)
+stream_by stream bytes (bad_frame f) = empty_stream (at_fault f)
 
 -- the first n frames
 unfoldable pub stream_within : ℕ → List ℕ → Stream
-stream_within zero bytes = ended (end_of bytes)
-stream_within (suc n) bytes = goes_on (stream_within n) bytes (frame_in bytes)
+stream_within zero bytes = empty_stream (stream_end bytes)
+stream_within (suc n) bytes = stream_by (stream_within n) bytes (frame_in bytes)
 
 -- all frames: each takes five bytes or more, so there are fewer than bytes
 abbrev pub stream_of : List ℕ → Stream
@@ -334,7 +334,7 @@ response_of (Err refusal) = response.Refused refusal
 abbrev pub then_bytes : Then → List ℕ
 then_bytes then.GoesOn = 0 ∷ []
 then_bytes then.Waits = 1 ∷ []
-then_bytes (then.Ended reason value) = (3 ∷ written reason) ++ written value
+then_bytes (then.Ended reason value) = (3 ∷ external_bytes reason) ++ external_bytes value
 
 abbrev pub flag : Bool → ℕ
 flag true = 1
@@ -358,7 +358,7 @@ reply_body (response.Held count) = (3 ∷ big_bytes 4 count) ++ (2 ∷ [])
 reply_body (response.Viewed text) = 4 ∷ text
 reply_body (response.Node (reply.Versions current old)) = (5 ∷ big_bytes 4 (instance_number current)) ++ big_bytes 4 (instance_number old)
 reply_body (response.Node (reply.Upgraded numbers)) = (8 ∷ big_bytes 4 (length numbers)) ++ flat_map numbers_bytes numbers
-reply_body (response.Refused refusal) = 6 ∷ number_of refusal ∷ []
+reply_body (response.Refused refusal) = 6 ∷ number_of_refusal refusal ∷ []
 reply_body response.Busy = 6 ∷ 6 ∷ []
 reply_body response.JournalFull = 6 ∷ 10 ∷ []
 reply_body (response.BadFile layer number) = 6 ∷ 12 ∷ layer ∷ number ∷ []

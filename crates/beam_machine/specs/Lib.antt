@@ -7,7 +7,7 @@ pub mod Debug
 pub mod DebugRun
 pub mod Frames
 pub mod Journal
-pub mod Kept
+pub mod MaybeOwned
 pub mod Next
 pub mod NodeNative
 pub mod Private

@@ -200,8 +200,8 @@ next_send s None message = refused s NoProcess
 
 -- ---- changes of code
 
-abbrev pub versions : Code → List ℕ → Reply
-versions code name = Versions (current_of code name) (old_of code name)
+abbrev pub versions_reply : Code → List ℕ → Reply
+versions_reply code name = Versions (current_of code name) (old_of code name)
 
 -- the processes that linger in a module's old code end
 abbrev pub end_old : State → List ℕ → State
@@ -215,22 +215,22 @@ purge_old s name = record s { code = purged s.code name; processes = killing (li
 abbrev pub load_new : State → Listing → Next
 load_new s l =
     let code = loaded s.code (s.instances + 1) l in
-    replied (record s { code = code; instances = s.instances + 1 }) (versions code l.name)
+    replied (record s { code = code; instances = s.instances + 1 }) (versions_reply code l.name)
 
-abbrev pub has_room : State → Bool
-has_room s = nat_lt s.instances (2 ^ 32 - 1)
+abbrev pub has_instances_left : State → Bool
+has_instances_left s = nat_lt s.instances (2 ^ 32 - 1)
 
 abbrev pub next_load : State → Listing → Next
 next_load s l =
     if is_erlang l.name then refused s Sticky
-    else if has_room s then load_new (end_old s l.name) l
+    else if has_instances_left s then load_new (end_old s l.name) l
     else refused s TooMany
 
 abbrev pub next_load_strict : State → Listing → Next
 next_load_strict s l =
     if is_erlang l.name then refused s Sticky
     else if is_some (old_of s.code l.name) then refused s NotPurged
-    else if has_room s then load_new s l
+    else if has_instances_left s then load_new s l
     else refused s TooMany
 
 -- delete: only where there is current code and no old code
@@ -299,7 +299,7 @@ next s (event.AtomicLoad mode ls) = next_atomic s mode ls
 next s (event.Delete name) = next_delete s name
 next s (event.SoftPurge name) = next_soft_purge s name
 next s (event.Purge name) = next_purge s name
-next s (event.Versions name) = replied s (versions s.code name)
+next s (event.Versions name) = replied s (versions_reply s.code name)
 next s (event.Spawn «module» function arguments) = next_spawn s «module» function arguments
 next s (event.Send to message) = next_send s (receiver_of s.processes to) message
 next s (event.Steps pid n) = next_steps s pid n (live_process s.processes pid)

@@ -77,9 +77,9 @@ is_alive ps (Some pid) = is_some (live_process ps pid)
 is_alive ps None = false
 
 -- a pid that names no process of this node gets nothing
-abbrev pub signalled : List Process → Option ℕ → Signal → List Process
-signalled ps (Some pid) signal = posted ps pid signal
-signalled ps None signal = ps
+abbrev pub posted_if_own : List Process → Option ℕ → Signal → List Process
+posted_if_own ps (Some pid) signal = posted ps pid signal
+posted_if_own ps None signal = ps
 
 -- a message to the process of a name
 abbrev pub sends_named : List Process → Option ℕ → TermValue → Answered
@@ -103,15 +103,15 @@ abbrev pub or_noproc : List Process → ℕ → ℕ → TermValue → List Proce
 or_noproc ps caller n pid = if is_alive ps (own_number pid) then ps else posted ps caller (Down n (atom_term (codes "noproc")))
 
 -- the caller keeps one monitor more
-abbrev pub watching : List Process → ℕ → ℕ → TermValue → Option Process → List Process
-watching ps caller n pid (Some p) = with_process ps caller (record p { monitors = p.monitors ++ record { reference = n; pid = pid } ∷ [] })
-watching ps caller n pid None = ps
+abbrev pub put_monitor : List Process → ℕ → ℕ → TermValue → Option Process → List Process
+put_monitor ps caller n pid (Some p) = with_process ps caller (record p { monitors = p.monitors ++ record { reference = n; pid = pid } ∷ [] })
+put_monitor ps caller n pid None = ps
 
-abbrev pub keeping : List Process → ℕ → ℕ → TermValue → List Process
-keeping ps caller n pid = watching ps caller n pid (live_process ps caller)
+abbrev pub with_new_monitor : List Process → ℕ → ℕ → TermValue → List Process
+with_new_monitor ps caller n pid = put_monitor ps caller n pid (live_process ps caller)
 
 abbrev pub monitored : List Process → ℕ → TermValue → ℕ → List Process
-monitored ps caller pid n = keeping (or_noproc ps caller n pid) caller n pid
+monitored ps caller pid n = with_new_monitor (or_noproc ps caller n pid) caller n pid
 
 -- only processes are monitored, by their pids
 abbrev pub monitors_by : ℕ → List Process → ℕ → List ℕ → TermValue → Answered
@@ -129,9 +129,9 @@ answer_of references ps caller Whereis (atom_term name ∷ []) = answer ps (pid_
 answer_of references ps caller IsProcessAlive (pid_term host id serial creation ∷ []) =
     answer ps (truth (is_alive ps (own_number (pid_term host id serial creation))))
 answer_of references ps caller Exit (pid_term host id serial creation ∷ reason ∷ []) =
-    answer (signalled ps (own_number (pid_term host id serial creation)) (ExitSignal caller reason)) (truth true)
+    answer (posted_if_own ps (own_number (pid_term host id serial creation)) (ExitSignal caller reason)) (truth true)
 answer_of references ps caller Send (pid_term host id serial creation ∷ message ∷ []) =
-    answer (signalled ps (own_number (pid_term host id serial creation)) (Message message)) message
+    answer (posted_if_own ps (own_number (pid_term host id serial creation)) (Message message)) message
 answer_of references ps caller Send (atom_term name ∷ message ∷ []) = sends_named ps (registered ps name) message
 answer_of references ps caller MakeRef [] = makes_reference references ps (λ n. ps)
 answer_of references ps caller Monitor (atom_term kind ∷ pid_term host id serial creation ∷ []) =

@@ -23,14 +23,14 @@ run s (event ∷ events) =
     record { answers = first.answer ∷ rest.answers; state = rest.state }
 
 -- how many of n rows count: only the rows that were done, where memory was refused in the middle
-abbrev pub granted : ℕ → ℕ → Then → ℕ
-granted n count GoesOn = if nat_lt 0 count && nat_lt count n then count else n
-granted n count Waits = n
-granted n count (Ended reason value) = n
+abbrev pub effective_rows : ℕ → ℕ → Then → ℕ
+effective_rows n count GoesOn = if nat_lt 0 count && nat_lt count n then count else n
+effective_rows n count Waits = n
+effective_rows n count (Ended reason value) = n
 
 -- the event that took place where memory was refused in the middle of it: fewer rows
 abbrev pub cut_event : Event Listing → Answer → Event Listing
-cut_event (Steps pid n) (Ok (Ran count after)) = Steps pid (granted n count after)
+cut_event (Steps pid n) (Ok (Ran count after)) = Steps pid (effective_rows n count after)
 cut_event event answer = event
 
 -- a possible answer to an event: that of Next, for the event or for its rows that were done; or NoMemory, and nothing changed
@@ -44,21 +44,21 @@ after s event (Err NoMemory) = s
 after s event answer = (next s (cut_event event answer)).state
 
 -- an event that was refused for memory doesn't stand in the list
-abbrev pub listed : Event Listing → Answer → List (Event Listing)
-listed event (Err NoMemory) = []
-listed event answer = cut_event event answer ∷ []
+abbrev pub effective_event : Event Listing → Answer → List (Event Listing)
+effective_event event (Err NoMemory) = []
+effective_event event answer = cut_event event answer ∷ []
 
-abbrev pub said : Answer → List Answer
-said (Err NoMemory) = []
-said answer = answer ∷ []
+abbrev pub effective_answer : Answer → List Answer
+effective_answer (Err NoMemory) = []
+effective_answer answer = answer ∷ []
 
 -- the events that took place: without those that were refused for memory, and each with as many rows as its answer has
-abbrev pub cut : List (Event Listing) → List Answer → List (Event Listing)
-cut (event ∷ events) (answer ∷ answers) = listed event answer ++ cut events answers
-cut [] answers = []
-cut events [] = []
+abbrev pub effective_events : List (Event Listing) → List Answer → List (Event Listing)
+effective_events (event ∷ events) (answer ∷ answers) = effective_event event answer ++ effective_events events answers
+effective_events [] answers = []
+effective_events events [] = []
 
 -- the answers without those for want of memory
-abbrev pub told : List Answer → List Answer
-told [] = []
-told (answer ∷ answers) = said answer ++ told answers
+abbrev pub effective_answers : List Answer → List Answer
+effective_answers [] = []
+effective_answers (answer ∷ answers) = effective_answer answer ++ effective_answers answers

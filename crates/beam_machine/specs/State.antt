@@ -7,7 +7,7 @@ use Rattle.beam_machine.specs.declared.process.Signal.{Signal}
 use Rattle.beam_machine.specs.declared.process.Signal.TheVariants.{Down}
 use Rattle.beam_machine.specs.declared.process.Status.{Status}
 use Rattle.beam_machine.specs.declared.process.Status.TheVariants.{Ended}
-use Rattle.beam_model.specs.Listing.{is_number}
+use Rattle.beam_model.specs.Listing.{is_this_number}
 use Rattle.beam_model.specs.SameText.{same_text}
 use Rattle.beam_machine.specs.Code.{Code}
 use Rattle.beam_machine.specs.Process.{Process, is_ended}
@@ -72,12 +72,12 @@ with_signals signals p = if is_ended p.status then p else record p { transit = p
 -- ---- ends of processes that are watched
 
 -- whether a monitor watches the process of that number
-abbrev pub watches : ℕ → Monitor → Bool
-watches pid m = is_number pid (own_number m.pid)
+abbrev pub monitors_process : ℕ → Monitor → Bool
+monitors_process pid m = is_this_number pid (own_number m.pid)
 
 -- a DOWN for each monitor of a process that has ended, in the order of the references
 abbrev pub downs : ℕ → TermValue → List Monitor → List Signal
-downs pid reason ms = map (λ m. Down m.reference reason) (filter (watches pid) ms)
+downs pid reason ms = map (λ m. Down m.reference reason) (filter (monitors_process pid) ms)
 
 -- the processes after the end of one: each gets a DOWN for each monitor that it has of that one
 abbrev pub hearing : ℕ → TermValue → List Process → List Process

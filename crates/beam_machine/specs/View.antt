@@ -26,28 +26,28 @@ use Rattle.beam_machine.specs.Process.{Process}
 -- ---- parts
 
 -- where a row stands: the function, the last label before it, and how many rows stand between
-pub record Standing : Type 0 where
+pub record Location : Type 0 where
   pub function : Option Import
   pub label : ℕ
   pub rows : ℕ
   pub instance : ℕ
 
 -- the next action of a process: a row with its instruction, its first entry, or nothing
-pub data Next : Type 0 where
-  row : Standing → Instruction → Next
-  entry : Import → Next
-  none : Next
+pub data NextView : Type 0 where
+  at_row : Location → Instruction → NextView
+  entry : Import → NextView
+  nowhere : NextView
 
 -- where a frame returns, which the first frame doesn't, and its y registers
 pub record FrameView : Type 0 where
-  pub back : Option Standing
+  pub back : Option Location
   pub y : List Slot
 
 pub record LiveView : Type 0 where
   pub pid : ℕ
   pub status : Status
   pub held : Bool
-  pub next : Next
+  pub next : NextView
   pub x : List TermValue
   pub frames : List FrameView
   pub messages : ℕ
@@ -82,31 +82,31 @@ last_function found [] = found
 last_function found (i ∷ rest) = last_function (later (function_of i) found) rest
 
 -- a label, and how many rows stand after it
-pub record Passed : Type 0 where
+pub record LastLabel : Type 0 where
   pub label : ℕ
   pub rows : ℕ
 
-abbrev pub past_label : Option ℕ → Instruction → Passed → Passed
-past_label (Some n) i passed = record { label = n; rows = 0 }
-past_label None i passed = if is_row i then record passed { rows = passed.rows + 1 } else passed
+abbrev pub label_or_row : Option ℕ → Instruction → LastLabel → LastLabel
+label_or_row (Some n) i last_label = record { label = n; rows = 0 }
+label_or_row None i last_label = if is_row i then record last_label { rows = last_label.rows + 1 } else last_label
 
 -- the last label among these instructions, and how many rows stand after it
-abbrev pub passed : Passed → List Instruction → Passed
-passed found [] = found
-passed found (i ∷ rest) = passed (past_label (label_of i) i found) rest
+abbrev pub last_label : LastLabel → List Instruction → LastLabel
+last_label found [] = found
+last_label found (i ∷ rest) = last_label (label_or_row (label_of i) i found) rest
 
 -- the function of a row is the one whose head stands last, at the row or before it
-abbrev pub standing_in : Place → List Instruction → Standing
-standing_in place code =
-    let found = passed (record { label = 0; rows = 0 }) (take place.at code) in
+abbrev pub location_in : Place → List Instruction → Location
+location_in place code =
+    let found = last_label (record { label = 0; rows = 0 }) (take place.at code) in
     record { function = last_function None (take (place.at + 1) code); label = found.label; rows = found.rows; instance = place.instance }
 
 abbrev pub instructions_of : Option Listing → List Instruction
 instructions_of (Some l) = l.instructions
 instructions_of None = []
 
-abbrev pub standing : Code → Place → Standing
-standing code place = standing_in place (instructions_of (listing_of code place.instance))
+abbrev pub location : Code → Place → Location
+location code place = location_in place (instructions_of (listing_of code place.instance))
 
 -- the instruction of a row, and int_code_end after the last
 abbrev pub instruction_in : Option Listing → ℕ → Instruction
@@ -115,17 +115,17 @@ instruction_in None at = end_of_code
 
 -- ---- the view of a process
 
-abbrev pub next_of : Code → Goes → Next
-next_of code (At place) = row (standing code place) (instruction_in (listing_of code place.instance) place.at)
+abbrev pub next_of : Code → Goes → NextView
+next_of code (At place) = at_row (location code place) (instruction_in (listing_of code place.instance) place.at)
 next_of code (Enter «module» function arity) = entry (record { «module» = «module»; function = function; arity = arity })
-next_of code Nowhere = none
+next_of code Nowhere = nowhere
 
 abbrev pub slots_of : Option (List Slot) → List Slot
 slots_of (Some y) = y
 slots_of None = []
 
 abbrev pub frame_view : Code → Frame → FrameView
-frame_view code frame = record { back = option_map (standing code) frame.back; y = slots_of frame.y }
+frame_view code frame = record { back = option_map (location code) frame.back; y = slots_of frame.y }
 
 abbrev pub view_by : Code → Bool → Process → Status → View
 view_by code held p (Ended reason value) = over p.pid reason
@@ -153,14 +153,14 @@ abbrev pub function_text_if : Option Import → List ℕ
 function_text_if (Some f) = function_text f
 function_text_if None = []
 
-abbrev pub standing_text : Standing → List ℕ
-standing_text s =
+abbrev pub location_text : Location → List ℕ
+location_text s =
     function_text_if s.function ++ codes " label " ++ decimal s.label ++ codes " + " ++ decimal s.rows ++ codes " instance " ++ decimal s.instance
 
-abbrev pub next_text : Next → List ℕ
-next_text (row s i) = codes "at " ++ standing_text s ++ codes "\nnext " ++ instruction_text i ++ codes "\n"
+abbrev pub next_text : NextView → List ℕ
+next_text (at_row s i) = codes "at " ++ location_text s ++ codes "\nnext " ++ instruction_text i ++ codes "\n"
 next_text (entry f) = codes "at entry " ++ function_text f ++ codes "\n"
-next_text none = []
+next_text nowhere = []
 
 -- the status of a process: held, or else waiting or running
 abbrev pub status_text : Bool → Status → List ℕ
@@ -190,8 +190,8 @@ abbrev pub ys_text : ℕ → List Slot → List ℕ
 ys_text n [] = []
 ys_text n (slot ∷ rest) = codes "y" ++ register_text n (slot_text slot) ++ ys_text (n + 1) rest
 
-abbrev pub back_text : Option Standing → List ℕ
-back_text (Some s) = standing_text s
+abbrev pub back_text : Option Location → List ℕ
+back_text (Some s) = location_text s
 back_text None = codes "end"
 
 abbrev pub frames_text : List FrameView → List ℕ

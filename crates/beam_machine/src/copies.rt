@@ -1,7 +1,7 @@
 //! Copies of events and replies.
 ghost use Rattle.std.specs.Prelude.{◌≡◌, ◌≤◌, IfOk, length, vec_len};
 
-use crate::event::{Event, Images, NumberList, Reply, Terms, Then};
+use crate::event::{Event, Images, NumberList, Reply, SpawnArguments, Then};
 use beam_term::Term;
 use std::alloc::{AllocError, Global};
 
@@ -27,10 +27,10 @@ fn copy_terms(alloc: Global, terms: &[Term]) -> Result<Vec<Term>, AllocError>
     Ok(copies)
 }
 
-impl TryCopy for Terms {
-    fn try_copy(&self, alloc: Global) -> Result<Terms, AllocError> {
+impl TryCopy for SpawnArguments {
+    fn try_copy(&self, alloc: Global) -> Result<SpawnArguments, AllocError> {
         let items = copy_terms(alloc, self.as_slice())?;
-        match Terms::new(items) {
+        match SpawnArguments::new(items) {
             Some(terms) => Ok(terms),
             None => unreachable!(),
         }

@@ -7,11 +7,11 @@ use thiserror::Error;
 
 /// The arguments that a process starts with, at most 255.
 #[derive(Debug, Drop)]
-pub struct Terms {
+pub struct SpawnArguments {
     items: Vec<Term>,
 }
 
-impl Model for Terms {
+impl Model for SpawnArguments {
     ghost use Rattle.std.specs.Prelude.{List, ◌≤◌, length};
     ghost use Rattle.std.specs.Coded.{coded_list};
     ghost use Rattle.beam_term.specs.Coding.{term_code};
@@ -26,17 +26,17 @@ impl Model for Terms {
     ghost invariant = { λ t. length t.items.items ≤ 255 };
 }
 
-impl Terms {
+impl SpawnArguments {
     ghost use Rattle.std.specs.Prelude.{◌≡◌, ◌<◌, ◌≤◌, length, MatchOption};
 
     /// These arguments; none where there are more than 255.
-    pub fn new(items: Vec<Term>) -> Option<Terms>
+    pub fn new(items: Vec<Term>) -> Option<SpawnArguments>
         ensures { MatchOption result (255 < length items.items) (λ t. t ≡ items.items) }
     {
         if items.len() > 255 {
             return None;
         }
-        Some(Terms { items })
+        Some(SpawnArguments { items })
     }
 
     /// The arguments, in their order.
@@ -118,7 +118,7 @@ pub enum Event<I> {
     Spawn {
         module: Atom,
         function: Atom,
-        arguments: Terms,
+        arguments: SpawnArguments,
     },
     /// A message is sent to a process, by its pid or its name.
     Send {
@@ -251,11 +251,11 @@ pub enum Refused {
 
 impl Refused {
     ghost use Rattle.std.specs.Prelude.{◌≡◌};
-    ghost use Rattle.beam_machine.specs.Refusal.{number_of};
+    ghost use Rattle.beam_machine.specs.Refusal.{number_of_refusal};
 
     /// Its number. Those that are missing are refusals of a node on several threads, of a journal, and of files.
     pub fn number(&self) -> u8
-        ensures { result ≡ number_of self.now }
+        ensures { result ≡ number_of_refusal self.now }
     {
         match self {
             Refused::NoMemory => 1,

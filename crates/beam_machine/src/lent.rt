@@ -35,7 +35,7 @@ impl<'a, T: Drop + 'a> Lent<'a, T> {
 
 /// Where the term of a constant is.
 #[derive(Drop)]
-pub enum Kept<'a> {
+pub enum MaybeOwned<'a> {
     /// In the constant itself.
     Here(Term),
     /// In the code.
@@ -45,20 +45,20 @@ pub enum Kept<'a> {
 /// A term that a row names. Contracts see the term.
 #[derive(Drop)]
 pub struct Constant<'a> {
-    kept: Kept<'a>,
+    inner: MaybeOwned<'a>,
 }
 
 impl<'a> Model for Constant<'a> {
     ghost use Rattle.std.specs.Coded.{codes};
     ghost use Rattle.beam_term.specs.Coding.{term_code};
     ghost use Rattle.beam_term.specs.TermValue.{TermValue};
-    ghost use Rattle.beam_machine.specs.Kept.{term_of};
+    ghost use Rattle.beam_machine.specs.MaybeOwned.{term_of_constant};
 
     ghost Value = { TermValue };
 
     ghost coded = { Prim.hlevel (codes, term_code) };
 
-    ghost view = { λ c. term_of c.kept };
+    ghost view = { λ c. term_of_constant c.inner };
 }
 
 impl<'a> Constant<'a> {
@@ -68,7 +68,7 @@ impl<'a> Constant<'a> {
         ensures { result ≡ term }
     {
         Constant {
-            kept: Kept::Here(term),
+            inner: MaybeOwned::Here(term),
         }
     }
 
@@ -78,7 +78,7 @@ impl<'a> Constant<'a> {
         ensures { result ≡ term.now }
     {
         Constant {
-            kept: Kept::Lent(term),
+            inner: MaybeOwned::Lent(term),
         }
     }
 
@@ -87,9 +87,9 @@ impl<'a> Constant<'a> {
     pub fn term(&self) -> &Term
         ensures { result.now ≡ self.now }
     {
-        match &self.kept {
-            Kept::Here(term) => term,
-            Kept::Lent(term) => term,
+        match &self.inner {
+            MaybeOwned::Here(term) => term,
+            MaybeOwned::Lent(term) => term,
         }
     }
 }

@@ -20,7 +20,7 @@ use Rattle.beam_model.specs.Listing.{Listing}
 use Rattle.beam_model.specs.SameText.{same_text}
 use Rattle.beam_model.specs.Opcodes.{number_of}
 use Rattle.beam_model.specs.Compact.{spelling}
-use Rattle.beam_model.specs.CodeChunk.{CodeParts, listed}
+use Rattle.beam_model.specs.CodeChunk.{CodeParts, listed_operands}
 use Rattle.beam_model.specs.Tables.{Tables, tables_bytes, form_with}
 use Rattle.beam_model.specs.Form.{form_bytes}
 
@@ -131,7 +131,7 @@ operands_bytes n (o ∷ os) = both (operand_bytes n o) (operands_bytes n os)
 
 -- the opcode's number and the operands; a line is written with the number 0
 unfoldable pub instruction_bytes : Numbering → Instruction → Option (List ℕ)
-instruction_bytes n i = both (Some (number_of i.opcode ∷ [])) (operands_bytes n (listed i.opcode i.operands))
+instruction_bytes n i = both (Some (number_of i.opcode ∷ [])) (operands_bytes n (listed_operands i.opcode i.operands))
 
 unfoldable pub instructions_bytes : Numbering → List Instruction → Option (List ℕ)
 instructions_bytes n [] = Some []
@@ -184,8 +184,8 @@ HasFile l bytes = (file_of l ≡ Some bytes) × (length bytes ≤ 8388608)
 -- ---- the listing that the file spells
 
 -- an instruction without the number of a line, which isn't written
-abbrev pub spelled_instruction : Instruction → Instruction
-spelled_instruction i = record i { operands = listed i.opcode i.operands }
+abbrev pub without_line_number : Instruction → Instruction
+without_line_number i = record i { operands = listed_operands i.opcode i.operands }
 
-abbrev pub spelled : Listing → Listing
-spelled l = record l { instructions = map spelled_instruction l.instructions }
+abbrev pub without_line_numbers : Listing → Listing
+without_line_numbers l = record l { instructions = map without_line_number l.instructions }

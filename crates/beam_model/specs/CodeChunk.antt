@@ -37,30 +37,30 @@ pub data CodeFault : Type 0 where
 -- ---- operands, by the letter that the opcode table gives them
 
 -- the atom of an index, counted from 1
-abbrev pub atom_of : List (List ℕ) → ℕ → Option Argument
-atom_of atoms zero = None
-atom_of atoms (suc n) = option_map (λ text. argument.Term (atom_term text)) (slice_get atoms n)
+abbrev pub argument_of_atom : List (List ℕ) → ℕ → Option Argument
+argument_of_atom atoms zero = None
+argument_of_atom atoms (suc n) = option_map (λ text. argument.Term (atom_term text)) (slice_get atoms n)
 
 -- the literal of an index, counted from 0
-abbrev pub literal_of : List TermValue → ℕ → Option Argument
-literal_of literals n = option_map (λ t. argument.Term t) (slice_get literals n)
+abbrev pub argument_of_literal : List TermValue → ℕ → Option Argument
+argument_of_literal literals n = option_map (λ t. argument.Term t) (slice_get literals n)
 
 -- S: a register, or a term
-abbrev pub source_of : List (List ℕ) → List TermValue → Compact → Option Argument
-source_of atoms literals (compact.X n) = Some (argument.X n)
-source_of atoms literals (compact.Y n) = Some (argument.Y n)
-source_of atoms literals (compact.Integer z) = Some (argument.Term (int_term z))
-source_of atoms literals compact.Nil = Some (argument.Term nil_term)
-source_of atoms literals (compact.Atom n) = atom_of atoms n
-source_of atoms literals (compact.Literal n) = literal_of literals n
-source_of atoms literals (compact.Number n) = None
-source_of atoms literals (compact.Label n) = None
+abbrev pub argument_of_source : List (List ℕ) → List TermValue → Compact → Option Argument
+argument_of_source atoms literals (compact.X n) = Some (argument.X n)
+argument_of_source atoms literals (compact.Y n) = Some (argument.Y n)
+argument_of_source atoms literals (compact.Integer z) = Some (argument.Term (int_term z))
+argument_of_source atoms literals compact.Nil = Some (argument.Term nil_term)
+argument_of_source atoms literals (compact.Atom n) = argument_of_atom atoms n
+argument_of_source atoms literals (compact.Literal n) = argument_of_literal literals n
+argument_of_source atoms literals (compact.Number n) = None
+argument_of_source atoms literals (compact.Label n) = None
 
 -- a member of L: a source, a number or a label
-abbrev pub member_of : List (List ℕ) → List TermValue → Compact → Option Argument
-member_of atoms literals (compact.Number n) = Some (argument.Number n)
-member_of atoms literals (compact.Label n) = Some (argument.Label n)
-member_of atoms literals x = source_of atoms literals x
+abbrev pub argument_of_member : List (List ℕ) → List TermValue → Compact → Option Argument
+argument_of_member atoms literals (compact.Number n) = Some (argument.Number n)
+argument_of_member atoms literals (compact.Label n) = Some (argument.Label n)
+argument_of_member atoms literals x = argument_of_source atoms literals x
 
 -- what an operand that is no list means under a letter: U, F, A, S, D
 abbrev pub argument_of : Kind → List (List ℕ) → List TermValue → Compact → Option Argument
@@ -69,16 +69,16 @@ argument_of kind.Arity atoms literals (compact.Number n) = Some (argument.Number
 argument_of kind.FrameSize atoms literals (compact.Number n) = Some (argument.Number n)
 argument_of kind.Label atoms literals (compact.Label n) = Some (argument.Label n)
 argument_of kind.FailLabel atoms literals (compact.Label n) = Some (argument.Label n)
-argument_of kind.Atom atoms literals (compact.Atom n) = atom_of atoms n
-argument_of kind.Source atoms literals x = source_of atoms literals x
+argument_of kind.Atom atoms literals (compact.Atom n) = argument_of_atom atoms n
+argument_of kind.Source atoms literals x = argument_of_source atoms literals x
 argument_of kind.Register atoms literals (compact.X n) = Some (argument.X n)
 argument_of kind.Register atoms literals (compact.Y n) = Some (argument.Y n)
 argument_of _ atoms literals x = None
 
 -- E: an index, counted from 0
-abbrev pub import_of : List Import → Compact → Option Import
-import_of imports (compact.Number n) = slice_get imports n
-import_of imports _ = None
+abbrev pub import_of_index : List Import → Compact → Option Import
+import_of_index imports (compact.Number n) = slice_get imports n
+import_of_index imports _ = None
 
 -- all members, or none where one has no meaning
 abbrev pub in_front : Option Argument → Option (List Argument) → Option (List Argument)
@@ -87,40 +87,40 @@ in_front _ _ = None
 
 unfoldable pub members_of : List (List ℕ) → List TermValue → List Compact → Option (List Argument)
 members_of atoms literals [] = Some []
-members_of atoms literals (x ∷ xs) = in_front (member_of atoms literals x) (members_of atoms literals xs)
+members_of atoms literals (x ∷ xs) = in_front (argument_of_member atoms literals x) (members_of atoms literals xs)
 
 -- what an operand means under its letter, with these atoms, imports and literals
 unfoldable pub meaning_of : Kind → List (List ℕ) → List Import → List TermValue → CompactOperand → Option Operand
-meaning_of kind.Import atoms imports literals (compact_operand.One x) = option_map (λ i. operand.Import i) (import_of imports x)
-meaning_of (kind.Native arity) atoms imports literals (compact_operand.One x) = option_map (λ i. operand.Import i) (import_of imports x)
+meaning_of kind.Import atoms imports literals (compact_operand.One x) = option_map (λ i. operand.Import i) (import_of_index imports x)
+meaning_of (kind.Native arity) atoms imports literals (compact_operand.One x) = option_map (λ i. operand.Import i) (import_of_index imports x)
 meaning_of kind.List atoms imports literals (compact_operand.List xs) = option_map (λ xs. operand.List xs) (members_of atoms literals xs)
 meaning_of letter atoms imports literals (compact_operand.One x) = option_map (λ x. operand.One x) (argument_of letter atoms literals x)
 meaning_of letter atoms imports literals (compact_operand.List xs) = None
 
 -- ---- reading, from a position to the next
 
-abbrev pub fault_at : ℕ → OperandFault → CodeFault
-fault_at at operand_faults.truncated = truncated
-fault_at at _ = bad_operand at
+abbrev pub operand_fault_at : ℕ → OperandFault → CodeFault
+operand_fault_at at operand_faults.truncated = truncated
+operand_fault_at at _ = bad_operand at
 
 -- an operand as it is spelled, and the position after it
-abbrev pub behind : List ℕ → ℕ → Result (CompactOperand × List ℕ) OperandFault → Result (CompactOperand × ℕ) CodeFault
-behind code at (Ok x) = Ok (x.0, length code - length x.1)
-behind code at (Err e) = Err (fault_at at e)
+abbrev pub position_after : List ℕ → ℕ → Result (CompactOperand × List ℕ) OperandFault → Result (CompactOperand × ℕ) CodeFault
+position_after code at (Ok x) = Ok (x.0, length code - length x.1)
+position_after code at (Err e) = Err (operand_fault_at at e)
 
 unfoldable pub spelled_at : List ℕ → ℕ → Result (CompactOperand × ℕ) CodeFault
-spelled_at code at = behind code at (operand_at (drop at code))
+spelled_at code at = position_after code at (operand_at (drop at code))
 
 -- the value, if there is one, or a bad operand at this position
-abbrev pub wanted : {A : Type 0} → ℕ → Option A → Result A CodeFault
-wanted at None = Err (bad_operand at)
-wanted at (Some x) = Ok x
+abbrev pub or_bad_operand : {A : Type 0} → ℕ → Option A → Result A CodeFault
+or_bad_operand at None = Err (bad_operand at)
+or_bad_operand at (Some x) = Ok x
 
 -- one operand
 unfoldable pub meant_at : List (List ℕ) → List Import → List TermValue → List ℕ → Kind → ℕ → Result (Operand × ℕ) CodeFault
 meant_at atoms imports literals code letter at = do
   spelled ← spelled_at code at
-  meant ← wanted at (meaning_of letter atoms imports literals spelled.0)
+  meant ← or_bad_operand at (meaning_of letter atoms imports literals spelled.0)
   Ok (meant, spelled.1)
 
 -- the operands of these letters
@@ -131,13 +131,13 @@ operands_at atoms imports literals code (letter ∷ letters) at = do
   others ← operands_at atoms imports literals code letters first.1
   Ok (first.0 ∷ others.0, others.1)
 
-abbrev pub known : ℕ → ℕ → Option Opcode → Result Opcode CodeFault
-known at n None = Err (unsupported_opcode n at)
-known at n (Some opcode) = Ok opcode
+abbrev pub or_unsupported_opcode : ℕ → ℕ → Option Opcode → Result Opcode CodeFault
+or_unsupported_opcode at n None = Err (unsupported_opcode n at)
+or_unsupported_opcode at n (Some opcode) = Ok opcode
 
 abbrev pub opcode_in : ℕ → Option ℕ → Result Opcode CodeFault
 opcode_in at None = Err truncated
-opcode_in at (Some n) = known at n (opcode_of n)
+opcode_in at (Some n) = or_unsupported_opcode at n (opcode_of n)
 
 -- the opcode at a position
 unfoldable pub opcode_at : List ℕ → ℕ → Result Opcode CodeFault
@@ -148,15 +148,15 @@ is_end op.IntCodeEnd = true
 is_end _ = false
 
 -- a line's operand is no part of a listing, in which it stands as 0
-abbrev pub listed : Opcode → List Operand → List Operand
-listed op.Line operands = operand.One (argument.Number 0) ∷ []
-listed _ operands = operands
+abbrev pub listed_operands : Opcode → List Operand → List Operand
+listed_operands op.Line operands = operand.One (argument.Number 0) ∷ []
+listed_operands _ operands = operands
 
 -- an instruction after its opcode
-unfoldable pub instruction_at : List (List ℕ) → List Import → List TermValue → List ℕ → Opcode → ℕ → Result (Instruction × ℕ) CodeFault
-instruction_at atoms imports literals code opcode at = do
+unfoldable pub instruction_after_opcode : List (List ℕ) → List Import → List TermValue → List ℕ → Opcode → ℕ → Result (Instruction × ℕ) CodeFault
+instruction_after_opcode atoms imports literals code opcode at = do
   operands ← operands_at atoms imports literals code (kinds_of opcode) at
-  Ok (record { opcode = opcode; operands = listed opcode operands.0 }, operands.1)
+  Ok (record { opcode = opcode; operands = listed_operands opcode operands.0 }, operands.1)
 
 -- The instructions from a position up to int_code_end, n at most: a chunk of n bytes has fewer than n.
 unfoldable pub instructions_at : List (List ℕ) → List Import → List TermValue → List ℕ → ℕ → ℕ → Result (List Instruction) CodeFault
@@ -164,7 +164,7 @@ instructions_at atoms imports literals code zero at = Err truncated
 instructions_at atoms imports literals code (suc n) at = do
   opcode ← opcode_at code at
   if is_end opcode then Ok [] else (do
-    first ← instruction_at atoms imports literals code opcode (at + 1)
+    first ← instruction_after_opcode atoms imports literals code opcode (at + 1)
     others ← instructions_at atoms imports literals code n first.1
     Ok (first.0 ∷ others))
 

@@ -7,7 +7,7 @@ use Rattle.beam_model.specs.declared.opcode.Opcode.TheVariants as op
 use Rattle.beam_model.specs.declared.opcode.Kind.{Kind}
 use Rattle.beam_model.specs.Opcodes.{number_of, kinds_of}
 use Rattle.beam_model.specs.CompactForm.{IsSpelling}
-use Rattle.beam_model.specs.CodeChunk.{CodeParts, meaning_of, listed}
+use Rattle.beam_model.specs.CodeChunk.{CodeParts, meaning_of, listed_operands}
 use Rattle.beam_model.specs.Tables.{Tables}
 use Rattle.beam_model.specs.ChunkForm.{IsWord}
 use Rattle.beam_model.specs.Sequence.{InSequence}
@@ -33,7 +33,7 @@ pub record IsInstruction (t : Tables) (i : Instruction) (bytes : List ℕ) : Typ
   pub goes_on : i.opcode ≢ op.IntCodeEnd
   pub operands : List Operand
   pub are_operands : AreOperands t (kinds_of i.opcode) operands rest
-  pub in_listing : i.operands ≡ listed i.opcode operands
+  pub in_listing : i.operands ≡ listed_operands i.opcode operands
 
 -- the head's size, 16, the format, 0, the greatest opcode, whose value is ignored, how many labels and functions there are, the
 -- instructions, one after the other, and int_code_end; what stands after it is ignored

@@ -20,8 +20,8 @@ pub data OperandFault : Type 0 where
   bad_sign : OperandFault
 
 -- the tag in the low three bits of a first byte: u, i, a, x, y, f, h, z
-abbrev pub tag_of : ℕ → CompactTag
-tag_of first =
+abbrev pub compact_tag : ℕ → CompactTag
+compact_tag first =
     if first % 8 == 0 then tag.Number
     else (if first % 8 == 1 then tag.Integer
     else (if first % 8 == 2 then tag.Atom
@@ -63,8 +63,8 @@ natural_at first bytes = do
   v ← value_at first bytes
   natural v.0 v.1
 
-unfoldable pub integer_at : ℕ → List ℕ → Result (ℤ × List ℕ) OperandFault
-integer_at first bytes = do
+unfoldable pub compact_integer_at : ℕ → List ℕ → Result (ℤ × List ℕ) OperandFault
+compact_integer_at first bytes = do
   v ← value_at first bytes
   if is_small v.0 then Ok v else Err integer_too_large
 
@@ -74,23 +74,23 @@ number_at [] = Err truncated
 number_at (first ∷ bytes) = if first % 8 == 0 then natural_at first bytes else Err unsupported_operand
 
 -- the atom of an index; index 0 is nil
-abbrev pub atom_of : ℕ → Compact
-atom_of zero = Nil
-atom_of (suc n) = Atom (suc n)
+abbrev pub atom_or_nil : ℕ → Compact
+atom_or_nil zero = Nil
+atom_or_nil (suc n) = Atom (suc n)
 
 -- a register after its first byte
-unfoldable pub register_of : CompactTag → ℕ → List ℕ → Result (Compact × List ℕ) OperandFault
-register_of tag.X first bytes = do
+unfoldable pub register_of_tag : CompactTag → ℕ → List ℕ → Result (Compact × List ℕ) OperandFault
+register_of_tag tag.X first bytes = do
   n ← natural_at first bytes
   Ok (X n.0, n.1)
-register_of tag.Y first bytes = do
+register_of_tag tag.Y first bytes = do
   n ← natural_at first bytes
   Ok (Y n.0, n.1)
-register_of _ first bytes = Err unsupported_operand
+register_of_tag _ first bytes = Err unsupported_operand
 
 abbrev pub register_at : List ℕ → Result (Compact × List ℕ) OperandFault
 register_at [] = Err truncated
-register_at (first ∷ bytes) = register_of (tag_of first) first bytes
+register_at (first ∷ bytes) = register_of_tag (compact_tag first) first bytes
 
 -- under z: 4 a literal, then its index; 5 a typed register, a register and then the index of a type
 unfoldable pub extended_of : ℤ → List ℕ → Result (Compact × List ℕ) OperandFault
@@ -106,29 +106,29 @@ extended_of (pos n) bytes =
 extended_of (negsuc n) bytes = Err unsupported_operand
 
 -- an operand that is no list, after its first byte
-unfoldable pub single_of : CompactTag → ℕ → List ℕ → Result (Compact × List ℕ) OperandFault
-single_of tag.Number first bytes = do
+unfoldable pub single_of_tag : CompactTag → ℕ → List ℕ → Result (Compact × List ℕ) OperandFault
+single_of_tag tag.Number first bytes = do
   n ← natural_at first bytes
   Ok (Number n.0, n.1)
-single_of tag.Integer first bytes = do
-  z ← integer_at first bytes
+single_of_tag tag.Integer first bytes = do
+  z ← compact_integer_at first bytes
   Ok (Integer z.0, z.1)
-single_of tag.Atom first bytes = do
+single_of_tag tag.Atom first bytes = do
   n ← natural_at first bytes
-  Ok (atom_of n.0, n.1)
-single_of tag.X first bytes = register_of tag.X first bytes
-single_of tag.Y first bytes = register_of tag.Y first bytes
-single_of tag.Label first bytes = do
+  Ok (atom_or_nil n.0, n.1)
+single_of_tag tag.X first bytes = register_of_tag tag.X first bytes
+single_of_tag tag.Y first bytes = register_of_tag tag.Y first bytes
+single_of_tag tag.Label first bytes = do
   n ← natural_at first bytes
   Ok (Label n.0, n.1)
-single_of tag.Character first bytes = Err unsupported_operand
-single_of tag.Extended first bytes = do
+single_of_tag tag.Character first bytes = Err unsupported_operand
+single_of_tag tag.Extended first bytes = do
   v ← value_at first bytes
   extended_of v.0 v.1
 
 abbrev pub single_at : List ℕ → Result (Compact × List ℕ) OperandFault
 single_at [] = Err truncated
-single_at (first ∷ bytes) = single_of (tag_of first) first bytes
+single_at (first ∷ bytes) = single_of_tag (compact_tag first) first bytes
 
 -- n members of a list, none of them a list
 unfoldable pub members_at : ℕ → List ℕ → Result (List Compact × List ℕ) OperandFault
@@ -139,15 +139,15 @@ members_at (suc n) bytes = do
   Ok (member.0 ∷ others.0, others.1)
 
 -- a list after its first byte: a count, and as many members
-unfoldable pub list_at : List ℕ → Result (CompactOperand × List ℕ) OperandFault
-list_at bytes = do
+unfoldable pub compact_list_at : List ℕ → Result (CompactOperand × List ℕ) OperandFault
+compact_list_at bytes = do
   count ← number_at bytes
   members ← members_at count.0 count.1
   Ok (operand.List members.0, members.1)
 
 -- an operand that is no list, as one that may be a list
-abbrev pub one : Result (Compact × List ℕ) OperandFault → Result (CompactOperand × List ℕ) OperandFault
-one read = do
+abbrev pub as_operand : Result (Compact × List ℕ) OperandFault → Result (CompactOperand × List ℕ) OperandFault
+as_operand read = do
   x ← read
   Ok (operand.One x.0, x.1)
 
@@ -156,20 +156,20 @@ abbrev pub is_one : ℤ → Bool
 is_one (pos n) = n == 1
 is_one (negsuc n) = false
 
-unfoldable pub operand_of : CompactTag → ℕ → List ℕ → Result (CompactOperand × List ℕ) OperandFault
-operand_of tag.Extended first bytes = do
+unfoldable pub operand_of_tag : CompactTag → ℕ → List ℕ → Result (CompactOperand × List ℕ) OperandFault
+operand_of_tag tag.Extended first bytes = do
   v ← value_at first bytes
-  if is_one v.0 then list_at v.1 else one (extended_of v.0 v.1)
-operand_of kind first bytes = one (single_of kind first bytes)
+  if is_one v.0 then compact_list_at v.1 else as_operand (extended_of v.0 v.1)
+operand_of_tag kind first bytes = as_operand (single_of_tag kind first bytes)
 
 -- the operand at the front of the bytes, and the bytes after it
 abbrev pub operand_at : List ℕ → Result (CompactOperand × List ℕ) OperandFault
 operand_at [] = Err truncated
-operand_at (first ∷ bytes) = operand_of (tag_of first) first bytes
+operand_at (first ∷ bytes) = operand_of_tag (compact_tag first) first bytes
 
 -- these bytes, all of them, spell the operand
-abbrev pub Spells : List ℕ → CompactOperand → Type 0
-Spells bytes operand = operand_at bytes ≡ Ok (operand, [])
+abbrev pub SpellsOperand : List ℕ → CompactOperand → Type 0
+SpellsOperand bytes operand = operand_at bytes ≡ Ok (operand, [])
 
 -- the number of a tag
 abbrev pub tag_number : CompactTag → ℕ
@@ -254,9 +254,9 @@ HaveNumbers [] = Unit {0}
 HaveNumbers (x ∷ xs) = HasNumbers x × HaveNumbers xs
 
 -- an operand of u32 numbers
-abbrev pub IsOperand : CompactOperand → Type 0
-IsOperand (operand.One x) = HasNumbers x
-IsOperand (operand.List xs) = HaveNumbers xs
+abbrev pub HasOperandNumbers : CompactOperand → Type 0
+HasOperandNumbers (operand.One x) = HasNumbers x
+HasOperandNumbers (operand.List xs) = HaveNumbers xs
 
 -- an integer is in the range of terms
 abbrev pub HasSmall : Compact → Type 0

@@ -39,24 +39,24 @@ IsField tag z [] = ⊥
 IsField tag z (first ∷ rest) = (first % 8 ≡ tag) × IsValue first z rest
 
 -- a value from 0 to 4,294,967,295 under a tag
-abbrev pub IsNumber : ℕ → ℕ → List ℕ → Type 0
-IsNumber tag n bytes = IsField tag (pos n) bytes × (n < 2 ^ 32)
+abbrev pub IsTaggedNumber : ℕ → ℕ → List ℕ → Type 0
+IsTaggedNumber tag n bytes = IsField tag (pos n) bytes × (n < 2 ^ 32)
 
 -- ---- operands
 
 -- a register, under x or y
 abbrev pub IsRegister : Compact → List ℕ → Type 0
-IsRegister (X n) bytes = IsNumber 3 n bytes
-IsRegister (Y n) bytes = IsNumber 4 n bytes
+IsRegister (X n) bytes = IsTaggedNumber 3 n bytes
+IsRegister (Y n) bytes = IsTaggedNumber 4 n bytes
 IsRegister _ bytes = ⊥
 
 -- 4 under z, and the literal's index
-pub record IsLiteral (n : ℕ) (bytes : List ℕ) : Type 0 where
+pub record IsLiteralOperand (n : ℕ) (bytes : List ℕ) : Type 0 where
   pub mark : List ℕ
   pub index : List ℕ
   pub parts : bytes ≡ mark ++ index
   pub is_mark : IsField 7 (pos 4) mark
-  pub is_index : IsNumber 0 n index
+  pub is_index : IsTaggedNumber 0 n index
 
 -- 5 under z, a register, and the index of its type
 pub record IsTyped (r : Compact) (bytes : List ℕ) : Type 0 where
@@ -67,18 +67,18 @@ pub record IsTyped (r : Compact) (bytes : List ℕ) : Type 0 where
   pub is_mark : IsField 7 (pos 5) mark
   pub is_register : IsRegister r register
   pub n : ℕ
-  pub is_index : IsNumber 0 n type_index
+  pub is_index : IsTaggedNumber 0 n type_index
 
 -- an operand that is no list: under u, i, a, x, y and f by the tag's number, a literal, or a typed register; 0 under a is nil
 abbrev pub IsSingle : Compact → List ℕ → Type 0
-IsSingle (Number n) bytes = IsNumber 0 n bytes
+IsSingle (Number n) bytes = IsTaggedNumber 0 n bytes
 IsSingle (Integer z) bytes = IsField 1 z bytes × IsSmall z
-IsSingle Nil bytes = IsNumber 2 0 bytes
-IsSingle (Atom n) bytes = IsNumber 2 n bytes × (n ≢ 0)
-IsSingle (X n) bytes = IsNumber 3 n bytes ⊎ IsTyped (X n) bytes
-IsSingle (Y n) bytes = IsNumber 4 n bytes ⊎ IsTyped (Y n) bytes
-IsSingle (Label n) bytes = IsNumber 5 n bytes
-IsSingle (Literal n) bytes = IsLiteral n bytes
+IsSingle Nil bytes = IsTaggedNumber 2 0 bytes
+IsSingle (Atom n) bytes = IsTaggedNumber 2 n bytes × (n ≢ 0)
+IsSingle (X n) bytes = IsTaggedNumber 3 n bytes ⊎ IsTyped (X n) bytes
+IsSingle (Y n) bytes = IsTaggedNumber 4 n bytes ⊎ IsTyped (Y n) bytes
+IsSingle (Label n) bytes = IsTaggedNumber 5 n bytes
+IsSingle (Literal n) bytes = IsLiteralOperand n bytes
 
 -- members, one after the other
 abbrev pub AreMembers : List Compact → List ℕ → Type 0
@@ -92,7 +92,7 @@ pub record IsListed (xs : List Compact) (bytes : List ℕ) : Type 0 where
   pub members : List ℕ
   pub parts : bytes ≡ mark ++ (count ++ members)
   pub is_mark : IsField 7 (pos 1) mark
-  pub is_count : IsNumber 0 (length xs) count
+  pub is_count : IsTaggedNumber 0 (length xs) count
   pub are_members : AreMembers xs members
 
 -- these bytes, all of them, spell the operand

@@ -62,13 +62,13 @@ abbrev pub clause_exception : ClauseFault → TermValue → Exception
 clause_exception fault value = exception.Raised class.Error (around (pair_of (atom_term (clause_text fault))) value)
 
 -- the reason of an end by an exception that nothing caught; the trace is empty
-abbrev pub end_by : Class → TermValue → TermValue
-end_by class.Error value = around (λ v. pair_of v nil_term) value
-end_by class.Throw value = around (λ v. pair_of (pair_of (atom_term (codes "nocatch")) v) nil_term) value
-end_by class.Exit value = value
+abbrev pub exit_reason_by : Class → TermValue → TermValue
+exit_reason_by class.Error value = around (λ v. pair_of v nil_term) value
+exit_reason_by class.Throw value = around (λ v. pair_of (pair_of (atom_term (codes "nocatch")) v) nil_term) value
+exit_reason_by class.Exit value = value
 
-abbrev pub end_of : Exception → TermValue
-end_of e = end_by (class_of e) (value_of e)
+abbrev pub exit_reason : Exception → TermValue
+exit_reason e = exit_reason_by (class_of e) (value_of e)
 
 -- what catch makes of an exception
 abbrev pub caught_by : Class → TermValue → TermValue

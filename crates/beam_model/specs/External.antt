@@ -40,49 +40,49 @@ pub data AreWords : List ℕ → List ℕ → Type 0 where
 
 mutual
   -- the bytes after the version byte spell the term
-  pub data Spells : List ℕ → TermValue → Type 0 where
+  pub data SpellsTerm : List ℕ → TermValue → Type 0 where
     -- SMALL_INTEGER_EXT
-    small_integer_ext : (n : ℕ) → Spells (97 ∷ n ∷ []) (int_term (pos n))
+    small_integer_ext : (n : ℕ) → SpellsTerm (97 ∷ n ∷ []) (int_term (pos n))
     -- INTEGER_EXT: a two's complement
-    integer_ext : (field : List ℕ) (n : ℕ) → IsWord field n → Spells (98 ∷ field) (int_term (cast_signed w32 n))
+    integer_ext : (field : List ℕ) (n : ℕ) → IsWord field n → SpellsTerm (98 ∷ field) (int_term (cast_signed w32 n))
     -- SMALL_BIG_EXT
-    small_big_ext : (sign : ℕ) (digits : List ℕ) (z : ℤ) → IsSigned sign (little digits) z → IsSmall z → Spells (110 ∷ length digits ∷ sign ∷ digits) (int_term z)
+    small_big_ext : (sign : ℕ) (digits : List ℕ) (z : ℤ) → IsSigned sign (little digits) z → IsSmall z → SpellsTerm (110 ∷ length digits ∷ sign ∷ digits) (int_term z)
     -- NIL_EXT
-    nil_ext : Spells (106 ∷ []) nil_term
-    utf8_atom : (bytes text : List ℕ) → SpellsAtom bytes text → Spells bytes (atom_term text)
+    nil_ext : SpellsTerm (106 ∷ []) nil_term
+    utf8_atom : (bytes text : List ℕ) → SpellsAtom bytes text → SpellsTerm bytes (atom_term text)
     -- NEW_PID_EXT
     new_pid_ext : (name node id serial creation : List ℕ) (i s c : ℕ) → SpellsAtom name node → IsWord id i → IsWord serial s → IsWord creation c
-        → Spells (88 ∷ (name ++ id ++ serial ++ creation)) (pid_term node i s c)
+        → SpellsTerm (88 ∷ (name ++ id ++ serial ++ creation)) (pid_term node i s c)
     -- NEWER_REFERENCE_EXT, of one to five words
     newer_reference_ext : (count name node creation body words : List ℕ) (c : ℕ) → IsHalf count (length words) → 1 ≤ length words → length words ≤ 5
         → SpellsAtom name node → IsWord creation c → AreWords body words
-        → Spells (90 ∷ (count ++ name ++ creation ++ body)) (reference_term node c words)
+        → SpellsTerm (90 ∷ (count ++ name ++ creation ++ body)) (reference_term node c words)
     -- SMALL_TUPLE_EXT
-    small_tuple_ext : (body : List ℕ) (xs : Terms) → SpellsAll body xs → Spells (104 ∷ count_of xs ∷ body) (tuple_term xs)
+    small_tuple_ext : (body : List ℕ) (xs : Terms) → SpellsAll body xs → SpellsTerm (104 ∷ count_of xs ∷ body) (tuple_term xs)
     -- LARGE_TUPLE_EXT
-    large_tuple_ext : (field body : List ℕ) (xs : Terms) → IsWord field (count_of xs) → SpellsAll body xs → Spells (105 ∷ (field ++ body)) (tuple_term xs)
+    large_tuple_ext : (field body : List ℕ) (xs : Terms) → IsWord field (count_of xs) → SpellsAll body xs → SpellsTerm (105 ∷ (field ++ body)) (tuple_term xs)
     -- STRING_EXT: the list of these bytes
-    string_ext : (field text : List ℕ) → IsHalf field (length text) → Spells (107 ∷ (field ++ text)) (list_of (map (λ byte. int_term (pos byte)) text))
+    string_ext : (field text : List ℕ) → IsHalf field (length text) → SpellsTerm (107 ∷ (field ++ text)) (list_of (map (λ byte. int_term (pos byte)) text))
     -- LIST_EXT
-    list_ext : (field body : List ℕ) (n : ℕ) (t : TermValue) → IsWord field (suc n) → SpellsList (suc n) body t → Spells (108 ∷ (field ++ body)) t
+    list_ext : (field body : List ℕ) (n : ℕ) (t : TermValue) → IsWord field (suc n) → SpellsList (suc n) body t → SpellsTerm (108 ∷ (field ++ body)) t
     -- LIST_EXT with no elements: its tail
-    empty_list_ext : (body : List ℕ) (t : TermValue) → Spells body t → Spells (108 ∷ 0 ∷ 0 ∷ 0 ∷ 0 ∷ body) t
+    empty_list_ext : (body : List ℕ) (t : TermValue) → SpellsTerm body t → SpellsTerm (108 ∷ 0 ∷ 0 ∷ 0 ∷ 0 ∷ body) t
 
   -- the elements of a tuple, one after the other
   pub data SpellsAll : List ℕ → Terms → Type 0 where
     no_elements : SpellsAll [] no_terms
-    one_element : (first others : List ℕ) (x : TermValue) (xs : Terms) → Spells first x → SpellsAll others xs → SpellsAll (first ++ others) (more_terms x xs)
+    one_element : (first others : List ℕ) (x : TermValue) (xs : Terms) → SpellsTerm first x → SpellsAll others xs → SpellsAll (first ++ others) (more_terms x xs)
 
   -- n elements of a list, and then its tail
   pub data SpellsList : ℕ → List ℕ → TermValue → Type 0 where
-    only_tail : (bytes : List ℕ) (t : TermValue) → Spells bytes t → SpellsList 0 bytes t
-    head_before : (n : ℕ) (first others : List ℕ) (head t : TermValue) → Spells first head → SpellsList n others t → SpellsList (suc n) (first ++ others) (pair_term head t)
+    only_tail : (bytes : List ℕ) (t : TermValue) → SpellsTerm bytes t → SpellsList 0 bytes t
+    head_before : (n : ℕ) (first others : List ℕ) (head t : TermValue) → SpellsTerm first head → SpellsList n others t → SpellsList (suc n) (first ++ others) (pair_term head t)
 
 -- a whole term: the version byte, and a term whose pairs and tuples nest at most 4,096 deep
 pub record IsExternal (bytes : List ℕ) (t : TermValue) : Type 0 where
   pub body : List ℕ
   pub versioned : bytes ≡ 131 ∷ body
-  pub spelled : Spells body t
+  pub spelled : SpellsTerm body t
   pub shallow : depth_of t ≤ 4096
 
 -- ---- the one spelling that is written
@@ -137,15 +137,15 @@ byte_of (int_term (pos n)) = n
 byte_of _ = 0
 
 -- whether the term is a proper list of integers from 0 to 255
-abbrev pub is_text : TermValue → Bool
-is_text nil_term = true
-is_text (pair_term head tail) = is_byte head && is_text tail
-is_text _ = false
+abbrev pub is_byte_list : TermValue → Bool
+is_byte_list nil_term = true
+is_byte_list (pair_term head tail) = is_byte head && is_byte_list tail
+is_byte_list _ = false
 
 -- the elements of a list of integers from 0 to 255
-abbrev pub text_of : TermValue → List ℕ
-text_of (pair_term head tail) = byte_of head ∷ text_of tail
-text_of _ = []
+abbrev pub bytes_of_list : TermValue → List ℕ
+bytes_of_list (pair_term head tail) = byte_of head ∷ bytes_of_list tail
+bytes_of_list _ = []
 
 -- how many elements stand before a list's tail
 abbrev pub pair_count : TermValue → ℕ
@@ -155,7 +155,7 @@ pair_count _ = 0
 -- a list: STRING_EXT where it is a text of up to 65,535 bytes, else LIST_EXT with its elements and tail
 unfoldable pub written_list : TermValue → List ℕ → List ℕ
 written_list list elements =
-    if is_text list && nat_lt (pair_count list) 65536 then 107 ∷ (to_be_bytes w16 (pair_count list) ++ text_of list)
+    if is_byte_list list && nat_lt (pair_count list) 65536 then 107 ∷ (to_be_bytes w16 (pair_count list) ++ bytes_of_list list)
     else 108 ∷ (to_be_bytes w32 (pair_count list) ++ elements)
 
 abbrev mutual
@@ -175,5 +175,5 @@ abbrev mutual
   all_written (more_terms x xs) = written_part false x ++ all_written xs
 
 -- the bytes that are written for a term
-abbrev pub written : TermValue → List ℕ
-written t = 131 ∷ written_part false t
+abbrev pub external_bytes : TermValue → List ℕ
+external_bytes t = 131 ∷ written_part false t

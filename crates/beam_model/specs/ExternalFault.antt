@@ -2,7 +2,7 @@
 use Rattle.std.specs.Prelude.{◌≡◌, ◌≢◌, ◌⊎◌, ◌+◌, ◌*◌, ℕ, suc, ◌<◌, ℤ, Bool, true, false, ◌==◌, ◌&&◌, ◌||◌, nat_lt, List, [], ◌∷◌, ◌++◌, length}
 use Rattle.std.specs.Str.{chars, IsUtf8}
 use Rattle.beam_term.specs.TermValue.{TermValue, IsSmall}
-use Rattle.beam_model.specs.External.{IsHalf, IsWord, little, IsSigned, SpellsAtom, Spells}
+use Rattle.beam_model.specs.External.{IsHalf, IsWord, little, IsSigned, SpellsAtom, SpellsTerm}
 
 pub data ExternalFault : Type 0 where
   truncated : ExternalFault
@@ -71,45 +71,45 @@ pub data NodeFault : List ℕ → ExternalFault → Type 0 where
 mutual
   -- a fault stands in a term at the front, which has room for n levels of pairs and tuples
   pub data HasFault : ℕ → List ℕ → ExternalFault → Type 0 where
-    tag_missing : (room : ℕ) → HasFault room [] truncated
-    tag_unknown : (room tag : ℕ) (rest : List ℕ) → IsUnknown tag → HasFault room (tag ∷ rest) bad_tag
-    tag_left_out : (room tag : ℕ) (rest : List ℕ) → is_left_out tag ≡ true → HasFault room (tag ∷ rest) out_of_profile
-    field_cut : (room tag n : ℕ) (rest : List ℕ) → WantsField tag n → length rest < n → HasFault room (tag ∷ rest) truncated
-    sign_bad : (room count sign : ℕ) (rest : List ℕ) → 1 < sign → HasFault room (110 ∷ count ∷ sign ∷ rest) bad_tag
-    digits_cut : (room count sign : ℕ) (rest : List ℕ) → length rest < count → HasFault room (110 ∷ count ∷ sign ∷ rest) truncated
-    integer_large : (room sign : ℕ) (digits rest : List ℕ) (z : ℤ) → IsSigned sign (little digits) z → ¬ (IsSmall z)
-        → HasFault room (110 ∷ length digits ∷ sign ∷ (digits ++ rest)) integer_too_large
-    atom_fault : (room : ℕ) (bytes : List ℕ) (f : ExternalFault) → AtomFault bytes f → HasFault room bytes f
-    node_fault : (room : ℕ) (bytes : List ℕ) (f : ExternalFault) → NodeFault bytes f → HasFault room (88 ∷ bytes) f
-    pid_cut : (room : ℕ) (name node rest : List ℕ) → SpellsAtom name node → length rest < 12 → HasFault room (88 ∷ (name ++ rest)) truncated
-    reference_left_out : (room n : ℕ) (field rest : List ℕ) → IsHalf field n → (n ≡ 0) ⊎ (5 < n) → HasFault room (90 ∷ (field ++ rest)) out_of_profile
-    reference_node : (room n : ℕ) (field rest : List ℕ) (f : ExternalFault) → IsHalf field n → 0 < n → n < 6 → NodeFault rest f
-        → HasFault room (90 ∷ (field ++ rest)) f
-    reference_cut : (room n : ℕ) (field name node rest : List ℕ) → IsHalf field n → 0 < n → n < 6 → SpellsAtom name node → length rest < 4 + 4 * n
-        → HasFault room (90 ∷ (field ++ name ++ rest)) truncated
-    string_deep : (room n : ℕ) (field rest : List ℕ) → IsHalf field n → room < n → HasFault room (107 ∷ (field ++ rest)) too_deep
-    string_cut : (room n : ℕ) (field rest : List ℕ) → IsHalf field n → length rest < n → HasFault room (107 ∷ (field ++ rest)) truncated
-    list_deep : (room n : ℕ) (field rest : List ℕ) → IsWord field n → room < n → HasFault room (108 ∷ (field ++ rest)) too_deep
-    list_fault : (room n : ℕ) (field rest : List ℕ) (f : ExternalFault) → IsWord field n → ListFault room n rest f → HasFault room (108 ∷ (field ++ rest)) f
+    tag_missing : (depth_left : ℕ) → HasFault depth_left [] truncated
+    tag_unknown : (depth_left tag : ℕ) (rest : List ℕ) → IsUnknown tag → HasFault depth_left (tag ∷ rest) bad_tag
+    tag_left_out : (depth_left tag : ℕ) (rest : List ℕ) → is_left_out tag ≡ true → HasFault depth_left (tag ∷ rest) out_of_profile
+    field_cut : (depth_left tag n : ℕ) (rest : List ℕ) → WantsField tag n → length rest < n → HasFault depth_left (tag ∷ rest) truncated
+    sign_bad : (depth_left count sign : ℕ) (rest : List ℕ) → 1 < sign → HasFault depth_left (110 ∷ count ∷ sign ∷ rest) bad_tag
+    digits_cut : (depth_left count sign : ℕ) (rest : List ℕ) → length rest < count → HasFault depth_left (110 ∷ count ∷ sign ∷ rest) truncated
+    integer_large : (depth_left sign : ℕ) (digits rest : List ℕ) (z : ℤ) → IsSigned sign (little digits) z → ¬ (IsSmall z)
+        → HasFault depth_left (110 ∷ length digits ∷ sign ∷ (digits ++ rest)) integer_too_large
+    atom_fault : (depth_left : ℕ) (bytes : List ℕ) (f : ExternalFault) → AtomFault bytes f → HasFault depth_left bytes f
+    node_fault : (depth_left : ℕ) (bytes : List ℕ) (f : ExternalFault) → NodeFault bytes f → HasFault depth_left (88 ∷ bytes) f
+    pid_cut : (depth_left : ℕ) (name node rest : List ℕ) → SpellsAtom name node → length rest < 12 → HasFault depth_left (88 ∷ (name ++ rest)) truncated
+    reference_left_out : (depth_left n : ℕ) (field rest : List ℕ) → IsHalf field n → (n ≡ 0) ⊎ (5 < n) → HasFault depth_left (90 ∷ (field ++ rest)) out_of_profile
+    reference_node : (depth_left n : ℕ) (field rest : List ℕ) (f : ExternalFault) → IsHalf field n → 0 < n → n < 6 → NodeFault rest f
+        → HasFault depth_left (90 ∷ (field ++ rest)) f
+    reference_cut : (depth_left n : ℕ) (field name node rest : List ℕ) → IsHalf field n → 0 < n → n < 6 → SpellsAtom name node → length rest < 4 + 4 * n
+        → HasFault depth_left (90 ∷ (field ++ name ++ rest)) truncated
+    string_deep : (depth_left n : ℕ) (field rest : List ℕ) → IsHalf field n → depth_left < n → HasFault depth_left (107 ∷ (field ++ rest)) too_deep
+    string_cut : (depth_left n : ℕ) (field rest : List ℕ) → IsHalf field n → length rest < n → HasFault depth_left (107 ∷ (field ++ rest)) truncated
+    list_deep : (depth_left n : ℕ) (field rest : List ℕ) → IsWord field n → depth_left < n → HasFault depth_left (108 ∷ (field ++ rest)) too_deep
+    list_fault : (depth_left n : ℕ) (field rest : List ℕ) (f : ExternalFault) → IsWord field n → ListFault depth_left n rest f → HasFault depth_left (108 ∷ (field ++ rest)) f
     small_tuple_deep : (n : ℕ) (rest : List ℕ) → HasFault 0 (104 ∷ n ∷ rest) too_deep
     large_tuple_deep : (n : ℕ) (field rest : List ℕ) → IsWord field n → HasFault 0 (105 ∷ (field ++ rest)) too_deep
-    small_tuple_fault : (room n : ℕ) (rest : List ℕ) (f : ExternalFault) → ItemsFault room n rest f → HasFault (suc room) (104 ∷ n ∷ rest) f
-    large_tuple_fault : (room n : ℕ) (field rest : List ℕ) (f : ExternalFault) → IsWord field n → ItemsFault room n rest f → HasFault (suc room) (105 ∷ (field ++ rest)) f
+    small_tuple_fault : (depth_left n : ℕ) (rest : List ℕ) (f : ExternalFault) → ItemsFault depth_left n rest f → HasFault (suc depth_left) (104 ∷ n ∷ rest) f
+    large_tuple_fault : (depth_left n : ℕ) (field rest : List ℕ) (f : ExternalFault) → IsWord field n → ItemsFault depth_left n rest f → HasFault (suc depth_left) (105 ∷ (field ++ rest)) f
 
   -- a fault stands in one of n terms, after terms that are spelled
   pub data ItemsFault : ℕ → ℕ → List ℕ → ExternalFault → Type 0 where
-    this_item : (room n : ℕ) (bytes : List ℕ) (f : ExternalFault) → HasFault room bytes f → ItemsFault room (suc n) bytes f
-    later_item : (room n : ℕ) (first rest : List ℕ) (x : TermValue) (f : ExternalFault) → Spells first x → ItemsFault room n rest f → ItemsFault room (suc n) (first ++ rest) f
+    this_item : (depth_left n : ℕ) (bytes : List ℕ) (f : ExternalFault) → HasFault depth_left bytes f → ItemsFault depth_left (suc n) bytes f
+    later_item : (depth_left n : ℕ) (first rest : List ℕ) (x : TermValue) (f : ExternalFault) → SpellsTerm first x → ItemsFault depth_left n rest f → ItemsFault depth_left (suc n) (first ++ rest) f
 
   -- a fault stands in one of n elements of a list or in its tail, each with one level of room less
   pub data ListFault : ℕ → ℕ → List ℕ → ExternalFault → Type 0 where
-    this_element : (room n : ℕ) (bytes : List ℕ) (f : ExternalFault) → HasFault room bytes f → ListFault (suc room) (suc n) bytes f
-    later_element : (room n : ℕ) (first rest : List ℕ) (x : TermValue) (f : ExternalFault) → Spells first x → ListFault room n rest f → ListFault (suc room) (suc n) (first ++ rest) f
-    no_room : (n : ℕ) (bytes : List ℕ) → ListFault 0 (suc n) bytes too_deep
-    in_tail : (room : ℕ) (bytes : List ℕ) (f : ExternalFault) → HasFault room bytes f → ListFault room 0 bytes f
+    this_element : (depth_left n : ℕ) (bytes : List ℕ) (f : ExternalFault) → HasFault depth_left bytes f → ListFault (suc depth_left) (suc n) bytes f
+    later_element : (depth_left n : ℕ) (first rest : List ℕ) (x : TermValue) (f : ExternalFault) → SpellsTerm first x → ListFault depth_left n rest f → ListFault (suc depth_left) (suc n) (first ++ rest) f
+    no_depth_left : (n : ℕ) (bytes : List ℕ) → ListFault 0 (suc n) bytes too_deep
+    in_tail : (depth_left : ℕ) (bytes : List ℕ) (f : ExternalFault) → HasFault depth_left bytes f → ListFault depth_left 0 bytes f
 
 -- a fault stands in a whole term: in the version byte, or after it
 pub data HasExternalFault : List ℕ → ExternalFault → Type 0 where
   version_missing : HasExternalFault [] truncated
   version_bad : (version : ℕ) (rest : List ℕ) → version ≢ 131 → HasExternalFault (version ∷ rest) bad_tag
-  behind_version : (rest : List ℕ) (f : ExternalFault) → HasFault 4096 rest f → HasExternalFault (131 ∷ rest) f
+  after_version : (rest : List ℕ) (f : ExternalFault) → HasFault 4096 rest f → HasExternalFault (131 ∷ rest) f

@@ -18,8 +18,8 @@ unfoldable pub bytes_at : ℕ → List ℕ → Result (List ℕ × List ℕ) Ext
 bytes_at n bytes = if nat_lt (length bytes) n then Err truncated else Ok (take n bytes, drop n bytes)
 
 -- a number, the highest byte first
-unfoldable pub number_at : Width → List ℕ → Result (ℕ × List ℕ) ExternalFault
-number_at w bytes = do
+unfoldable pub big_endian_at : Width → List ℕ → Result (ℕ × List ℕ) ExternalFault
+big_endian_at w bytes = do
   field ← bytes_at (byte_len w) bytes
   Ok (from_be_bytes w field.0, field.1)
 
@@ -60,43 +60,43 @@ small_atom_at bytes = do
 
 unfoldable pub long_atom_at : List ℕ → Result (List ℕ × List ℕ) ExternalFault
 long_atom_at bytes = do
-  count ← number_at w16 bytes
+  count ← big_endian_at w16 bytes
   text_at count.0 count.1
 
 -- an atom in the place where one is wanted, by its form
-unfoldable pub atom_of : Form → List ℕ → Result (List ℕ × List ℕ) ExternalFault
-atom_of forms.SmallAtom bytes = small_atom_at bytes
-atom_of forms.LongAtom bytes = long_atom_at bytes
-atom_of forms.LeftOut bytes = Err out_of_profile
-atom_of _ bytes = Err bad_tag
+unfoldable pub atom_of_form : Form → List ℕ → Result (List ℕ × List ℕ) ExternalFault
+atom_of_form forms.SmallAtom bytes = small_atom_at bytes
+atom_of_form forms.LongAtom bytes = long_atom_at bytes
+atom_of_form forms.LeftOut bytes = Err out_of_profile
+atom_of_form _ bytes = Err bad_tag
 
-unfoldable pub atom_at : List ℕ → Result (List ℕ × List ℕ) ExternalFault
-atom_at bytes = do
+unfoldable pub external_atom_at : List ℕ → Result (List ℕ × List ℕ) ExternalFault
+external_atom_at bytes = do
   tag ← byte_at bytes
-  atom_of (form_of tag.0) tag.1
+  atom_of_form (form_of tag.0) tag.1
 
 unfoldable pub pid_at : List ℕ → Result (TermValue × List ℕ) ExternalFault
 pid_at bytes = do
-  node ← atom_at bytes
-  id ← number_at w32 node.1
-  serial ← number_at w32 id.1
-  creation ← number_at w32 serial.1
+  node ← external_atom_at bytes
+  id ← big_endian_at w32 node.1
+  serial ← big_endian_at w32 id.1
+  creation ← big_endian_at w32 serial.1
   Ok (pid_term node.0 id.0 serial.0 creation.0, creation.1)
 
 -- n words
 unfoldable pub words_at : ℕ → List ℕ → Result (List ℕ × List ℕ) ExternalFault
 words_at zero bytes = Ok ([], bytes)
 words_at (suc n) bytes = do
-  word ← number_at w32 bytes
+  word ← big_endian_at w32 bytes
   others ← words_at n word.1
   Ok (word.0 ∷ others.0, others.1)
 
 unfoldable pub reference_at : List ℕ → Result (TermValue × List ℕ) ExternalFault
 reference_at bytes = do
-  count ← number_at w16 bytes
+  count ← big_endian_at w16 bytes
   if nat_lt 0 count.0 && nat_lt count.0 6 then (do
-    node ← atom_at count.1
-    creation ← number_at w32 node.1
+    node ← external_atom_at count.1
+    creation ← big_endian_at w32 node.1
     words ← words_at count.0 creation.1
     Ok (reference_term node.0 creation.0 words.0, words.1)) else Err out_of_profile
 
@@ -106,7 +106,7 @@ leaf_at forms.SmallInteger bytes = do
   n ← byte_at bytes
   Ok (int_term (pos n.0), n.1)
 leaf_at forms.Integer bytes = do
-  n ← number_at w32 bytes
+  n ← big_endian_at w32 bytes
   Ok (int_term (cast_signed w32 n.0), n.1)
 leaf_at forms.SmallBig bytes = do
   n ← big_at bytes
@@ -133,10 +133,10 @@ Inner = ℕ → List ℕ → Result (TermValue × List ℕ) ExternalFault
 abbrev pub text_list : List ℕ → TermValue
 text_list text = list_of (map (λ byte. int_term (pos byte)) text)
 
-unfoldable pub string_at : ℕ → List ℕ → Result (TermValue × List ℕ) ExternalFault
-string_at room bytes = do
-  count ← number_at w16 bytes
-  if nat_lt room count.0 then Err too_deep else (do
+unfoldable pub external_string_at : ℕ → List ℕ → Result (TermValue × List ℕ) ExternalFault
+external_string_at depth_left bytes = do
+  count ← big_endian_at w16 bytes
+  if nat_lt depth_left count.0 then Err too_deep else (do
     text ← bytes_at count.0 count.1
     Ok (text_list text.0, text.1))
 
@@ -148,9 +148,9 @@ pair_at inner n bytes = do
   Ok (pair_term head.0 tail.0, tail.1)
 
 -- a list; those of no elements were passed over
-unfoldable pub list_at : Inner → ℕ → ℕ → List ℕ → Result (TermValue × List ℕ) ExternalFault
-list_at inner room zero bytes = Err bad_tag
-list_at inner room (suc n) bytes = if nat_lt room (suc n) then Err too_deep else pair_at inner n bytes
+unfoldable pub external_list_at : Inner → ℕ → ℕ → List ℕ → Result (TermValue × List ℕ) ExternalFault
+external_list_at inner depth_left zero bytes = Err bad_tag
+external_list_at inner depth_left (suc n) bytes = if nat_lt depth_left (suc n) then Err too_deep else pair_at inner n bytes
 
 -- n terms
 unfoldable pub items_at : (List ℕ → Result (TermValue × List ℕ) ExternalFault) → ℕ → List ℕ → Result (List TermValue × List ℕ) ExternalFault
@@ -160,24 +160,24 @@ items_at item (suc n) bytes = do
   others ← items_at item n first.1
   Ok (first.0 ∷ others.0, others.1)
 
-unfoldable pub tuple_at : Inner → ℕ → ℕ → List ℕ → Result (TermValue × List ℕ) ExternalFault
-tuple_at inner room count bytes =
-    if room == 0 then Err too_deep else (do
+unfoldable pub external_tuple_at : Inner → ℕ → ℕ → List ℕ → Result (TermValue × List ℕ) ExternalFault
+external_tuple_at inner depth_left count bytes =
+    if depth_left == 0 then Err too_deep else (do
       items ← items_at (inner 0) count bytes
       Ok (tuple_of items.0, items.1))
 
-unfoldable pub form_at : Inner → ℕ → Form → List ℕ → Result (TermValue × List ℕ) ExternalFault
-form_at inner room forms.String bytes = string_at room bytes
-form_at inner room forms.List bytes = do
-  count ← number_at w32 bytes
-  list_at inner room count.0 count.1
-form_at inner room forms.SmallTuple bytes = do
+unfoldable pub term_of_form : Inner → ℕ → Form → List ℕ → Result (TermValue × List ℕ) ExternalFault
+term_of_form inner depth_left forms.String bytes = external_string_at depth_left bytes
+term_of_form inner depth_left forms.List bytes = do
+  count ← big_endian_at w32 bytes
+  external_list_at inner depth_left count.0 count.1
+term_of_form inner depth_left forms.SmallTuple bytes = do
   count ← byte_at bytes
-  tuple_at inner room count.0 count.1
-form_at inner room forms.LargeTuple bytes = do
-  count ← number_at w32 bytes
-  tuple_at inner room count.0 count.1
-form_at inner room form bytes = leaf_at form bytes
+  external_tuple_at inner depth_left count.0 count.1
+term_of_form inner depth_left forms.LargeTuple bytes = do
+  count ← big_endian_at w32 bytes
+  external_tuple_at inner depth_left count.0 count.1
+term_of_form inner depth_left form bytes = leaf_at form bytes
 
 -- the front of a list of no elements
 abbrev pub empty_list : List ℕ
@@ -190,21 +190,21 @@ after_empty_lists (a ∷ b ∷ c ∷ d ∷ e ∷ rest) =
 after_empty_lists bytes = bytes
 
 unfoldable pub whole_at : Inner → ℕ → List ℕ → Result (TermValue × List ℕ) ExternalFault
-whole_at inner room bytes = do
+whole_at inner depth_left bytes = do
   tag ← byte_at (after_empty_lists bytes)
-  form_at inner room (form_of tag.0) tag.1
+  term_of_form inner depth_left (form_of tag.0) tag.1
 
 -- n elements of a list and then its tail, with room for m levels of pairs and tuples, the first number
 unfoldable pub read_at : ℕ → Inner
 read_at zero zero bytes = whole_at (λ n rest. Err too_deep) zero bytes
 read_at zero (suc n) bytes = Err too_deep
-read_at (suc room) zero bytes = whole_at (read_at room) (suc room) bytes
-read_at (suc room) (suc n) bytes = pair_at (read_at room) n bytes
+read_at (suc depth_left) zero bytes = whole_at (read_at depth_left) (suc depth_left) bytes
+read_at (suc depth_left) (suc n) bytes = pair_at (read_at depth_left) n bytes
 
 -- the reading of the parts of a term that has this room
 unfoldable pub below : ℕ → Inner
 below zero = λ n bytes. Err too_deep
-below (suc room) = read_at room
+below (suc depth_left) = read_at depth_left
 
 -- a whole term, after the version byte, and the bytes after it
 unfoldable pub external_at : List ℕ → Result (TermValue × List ℕ) ExternalFault

@@ -2,7 +2,7 @@
 use Rattle.std.specs.Prelude.{ℕ, List, Result, Ok, Err}
 use Rattle.beam_model.specs.Listing.{Listing}
 use Rattle.beam_model.specs.Form.{Form, FormFault, form_at}
-use Rattle.beam_model.specs.Tables.{Tables, TableFault, tables_at, wanted, atom_of}
+use Rattle.beam_model.specs.Tables.{Tables, TableFault, tables_at, required_chunk, atom_of_index}
 use Rattle.beam_model.specs.CodeChunk.{CodeFault, code_of}
 pub use Rattle.beam_model.specs.Reading.{◌>>=◌}
 
@@ -25,13 +25,13 @@ pub record Parts : Type 0 where
 unfoldable pub parts_of_form : Form → Result Parts FileFault
 parts_of_form form = do
   tables ← in_layer table_fault (tables_at form)
-  code ← in_layer table_fault (wanted form.code)
+  code ← in_layer table_fault (required_chunk form.code)
   Ok (record { tables = tables; code = code })
 
 -- the listing that names its atoms, imports and literals; the first atom is the module's name
 unfoldable pub listing_of_parts : Parts → Result Listing FileFault
 listing_of_parts p = do
-  name ← in_layer table_fault (atom_of p.tables.atoms 1)
+  name ← in_layer table_fault (atom_of_index p.tables.atoms 1)
   code ← in_layer code_fault (code_of p.tables.atoms p.tables.imports p.tables.literals p.code)
   Ok (record { name = name; exports = p.tables.exports; label_count = code.label_count; function_count = code.function_count; instructions = code.instructions })
 

@@ -38,13 +38,13 @@ chunk_takes bytes rest chunk e =
     rw (← rest-is) (omega (arith, length-drop (padded (size_at bytes)) (drop 8 bytes), length-drop 8 bytes, long))
 
 -- a chunk is taken, and the limit suffices for the rest
-pub goes_on : (limit : ℕ) (form more : Form) (bytes rest : List ℕ) (chunk : Chunk) (total : Result Form FormFault)
+pub after_chunk : (limit : ℕ) (form more : Form) (bytes rest : List ℕ) (chunk : Chunk) (total : Result Form FormFault)
     → chunk_at bytes ≡ Ok (chunk, rest) → with_chunk form chunk ≡ Ok more → length bytes ≤ limit → with_chunks limit form bytes ≡ total
     → (less : ℕ) × (length rest ≤ less) × (with_chunks less more rest ≡ total)
 unfolding with_chunks
-goes_on limit form more [] rest chunk total e w le h = absurd (omega (arith, chunk_takes [] rest chunk e))
-goes_on zero form more (b ∷ bytes) rest chunk total e w le h = absurd (omega arith)
-goes_on (suc limit) form more (b ∷ bytes) rest chunk total e w le h =
+after_chunk limit form more [] rest chunk total e w le h = absurd (omega (arith, chunk_takes [] rest chunk e))
+after_chunk zero form more (b ∷ bytes) rest chunk total e w le h = absurd (omega arith)
+after_chunk (suc limit) form more (b ∷ bytes) rest chunk total e w le h =
     let one : with_chunks (suc limit) form (b ∷ bytes) ≡ with_chunks limit more rest = rw (e, w) refl in
     (limit, omega (arith, chunk_takes (b ∷ bytes) rest chunk e), sym one ∙ h)
 
@@ -125,7 +125,7 @@ part : (total : Result Form FormFault) (a b c d : ℕ) (o : Option (List ℕ)) (
 part total a b c d None rest put adds fits left = record { limit = left.limit; room = left.room; same = left.same }
 part total a b c d (Some content) rest put adds fits left =
     let small : length content < 2 ^ 32 = omega (arith, length-append (content ++ padding (length content)) rest, length-append content (padding (length content))) in
-    let taken = goes_on left.limit (put None) (put (Some content)) (chunk_bytes (a ∷ b ∷ c ∷ d ∷ []) (Some content) ++ rest) rest (record { name = a ∷ b ∷ c ∷ d ∷ []; content = content }) total (chunk_again a b c d content rest small) (adds content) left.room left.same in
+    let taken = after_chunk left.limit (put None) (put (Some content)) (chunk_bytes (a ∷ b ∷ c ∷ d ∷ []) (Some content) ++ rest) rest (record { name = a ∷ b ∷ c ∷ d ∷ []; content = content }) total (chunk_again a b c d content rest small) (adds content) left.room left.same in
     record { limit = taken.0; room = taken.1; same = taken.2 }
 
 at_end : (form : Form) (bytes : List ℕ) (total : Result Form FormFault) → Left form bytes total → Left form (bytes ++ []) total

@@ -14,11 +14,11 @@ None >>= f = None
 -- ---- quotes and comments
 
 -- what the byte after this one stands in
-abbrev pub inside_behind : Inside → ℕ → Inside
-inside_behind inside.Nothing c = if c == 37 then inside.Comment else if c == 34 || c == 39 then inside.Quotes c else inside.Nothing
-inside_behind (inside.Quotes quote) c = if c == quote then inside.Nothing else if c == 92 then inside.Escape quote else inside.Quotes quote
-inside_behind (inside.Escape quote) c = inside.Quotes quote
-inside_behind inside.Comment c = if c == 10 then inside.Nothing else inside.Comment
+abbrev pub inside_after : Inside → ℕ → Inside
+inside_after inside.Nothing c = if c == 37 then inside.Comment else if c == 34 || c == 39 then inside.Quotes c else inside.Nothing
+inside_after (inside.Quotes quote) c = if c == quote then inside.Nothing else if c == 92 then inside.Escape quote else inside.Quotes quote
+inside_after (inside.Escape quote) c = inside.Quotes quote
+inside_after inside.Comment c = if c == 10 then inside.Nothing else inside.Comment
 
 abbrev pub is_comment : Inside → Bool
 is_comment inside.Comment = true
@@ -31,7 +31,7 @@ is_outside _ = false
 -- blanks in the place of comments, up to their line ends
 unfoldable pub uncommented_from : Inside → List ℕ → List ℕ
 uncommented_from stands [] = []
-uncommented_from stands (c ∷ cs) = (if is_comment (inside_behind stands c) then 32 else c) ∷ uncommented_from (inside_behind stands c) cs
+uncommented_from stands (c ∷ cs) = (if is_comment (inside_after stands c) then 32 else c) ∷ uncommented_from (inside_after stands c) cs
 
 abbrev pub uncommented : List ℕ → List ℕ
 uncommented = uncommented_from inside.Nothing
@@ -47,14 +47,14 @@ closed c (o ∷ outer) = if c == o then Some outer else None
 
 -- The brackets that are open after a byte, each by its closing bracket, the innermost first; none where the byte closes a bracket
 -- that isn't the innermost open one.
-abbrev pub open_behind : Inside → ℕ → List ℕ → Option (List ℕ)
-open_behind inside.Nothing c brackets =
+abbrev pub open_after : Inside → ℕ → List ℕ → Option (List ℕ)
+open_after inside.Nothing c brackets =
     if c == 40 then Some (41 ∷ brackets)
     else if c == 91 then Some (93 ∷ brackets)
     else if c == 123 then Some (125 ∷ brackets)
     else if is_closing c then closed c brackets
     else Some brackets
-open_behind _ c brackets = Some brackets
+open_after _ c brackets = Some brackets
 
 -- whether a mark, or a bracket that closes none of the text's own, stands outside of quotes and brackets
 abbrev pub is_stop : ℕ → Inside → List ℕ → ℕ → Bool
@@ -66,8 +66,8 @@ stop_from mark stands brackets n [] = None
 stop_from mark stands brackets n (c ∷ cs) =
     if is_stop mark stands brackets c then Some n
     else (do
-      inner ← open_behind stands c brackets
-      stop_from mark (inside_behind stands c) inner (n + 1) cs)
+      inner ← open_after stands c brackets
+      stop_from mark (inside_after stands c) inner (n + 1) cs)
 
 -- how many bytes stand before the first mark of this kind outside of quotes and brackets
 abbrev pub stop_in : ℕ → List ℕ → Option ℕ
@@ -81,9 +81,9 @@ alone x [] = Some x
 alone x (c ∷ cs) = None
 
 -- after an element: the end of the bracket, or further elements
-abbrev pub elements_behind : (List ℕ → Option (List (List ℕ))) → ℕ → List (List ℕ) → List ℕ → Option (List (List ℕ))
-elements_behind more close elements [] = None
-elements_behind more close elements (c ∷ cs) =
+abbrev pub elements_after : (List ℕ → Option (List (List ℕ))) → ℕ → List (List ℕ) → List ℕ → Option (List (List ℕ))
+elements_after more close elements [] = None
+elements_after more close elements (c ∷ cs) =
     if c == 44 then more (after_blanks cs)
     else if c == close then alone elements (after_blanks cs)
     else None
@@ -92,7 +92,7 @@ elements_behind more close elements (c ∷ cs) =
 abbrev pub element_by : (List (List ℕ) → List ℕ → Option (List (List ℕ))) → ℕ → List (List ℕ) → List ℕ → Option (List (List ℕ))
 element_by more close elements text = do
   size ← stop_in 44 text
-  if size == 0 then None else elements_behind (more (elements ++ take size text ∷ [])) close (elements ++ take size text ∷ []) (drop size text)
+  if size == 0 then None else elements_after (more (elements ++ take size text ∷ [])) close (elements ++ take size text ∷ []) (drop size text)
 
 -- These elements, and then the elements of the text up to the end of the bracket, which is the end of the text; at most n, the
 -- bytes of the text.
@@ -106,14 +106,14 @@ elements_within close [] = None
 elements_within close (c ∷ cs) = if c == close then alone [] (after_blanks cs) else elements_from (length (c ∷ cs)) close [] (c ∷ cs)
 
 -- the elements of a text in these brackets
-unfoldable pub elements_of : ℕ → ℕ → List ℕ → Option (List (List ℕ))
-elements_of opening close [] = None
-elements_of opening close (c ∷ cs) = if c == opening then elements_within close (after_blanks cs) else None
+unfoldable pub bracketed_elements : ℕ → ℕ → List ℕ → Option (List (List ℕ))
+bracketed_elements opening close [] = None
+bracketed_elements opening close (c ∷ cs) = if c == opening then elements_within close (after_blanks cs) else None
 
 -- `{..}`
 abbrev pub tuple_parts : List ℕ → Option (List (List ℕ))
-tuple_parts = elements_of 123 125
+tuple_parts = bracketed_elements 123 125
 
 -- `[..]`
 abbrev pub list_parts : List ℕ → Option (List (List ℕ))
-list_parts = elements_of 91 93
+list_parts = bracketed_elements 91 93

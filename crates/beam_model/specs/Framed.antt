@@ -125,51 +125,51 @@ put_all tag ns s = s
 -- ---- frames
 
 -- the newest frame that a row needs, and what the row makes of it, beside the registers
-pub data Making : Type 0 where
-  keeps : Making
-  wants_bare : Making
-  allocates : ℕ → Making  -- needs a frame without y registers, and makes n
-  drops : ℕ → Making  -- needs exactly n y registers, and leaves none
-  trims : ℕ → ℕ → Making  -- needs exactly m + n y registers, and drops the first m
+pub data FrameEffect : Type 0 where
+  keeps : FrameEffect
+  wants_bare : FrameEffect
+  allocates : ℕ → FrameEffect  -- needs a frame without y registers, and makes n
+  drops : ℕ → FrameEffect  -- needs exactly n y registers, and leaves none
+  trims : ℕ → ℕ → FrameEffect  -- needs exactly m + n y registers, and drops the first m
 
 abbrev pub number : Operand → ℕ
 number o = unwrap_or (number_in o) 0
 
 -- whether a call is of a native that never returns: error/1 and error/2, exit/1 and throw/1
-abbrev pub exits_by : Option Native → Bool
-exits_by (Some native) = is_exit native
-exits_by None = false
+abbrev pub calls_exit_by : Option Native → Bool
+calls_exit_by (Some native) = is_exit native
+calls_exit_by None = false
 
-abbrev pub exits : Operand → Bool
-exits (operand.Import i) = is_erlang i.«module» && exits_by (native_named i.function i.arity)
-exits _ = false
+abbrev pub calls_exit : Operand → Bool
+calls_exit (operand.Import i) = is_erlang i.«module» && calls_exit_by (native_named i.function i.arity)
+calls_exit _ = false
 
 -- (A tail call of a native that never returns needs no size: the compiler lets such calls share one row from before a trim and after it, and
 -- writes any number there; see validate_tail_call of OTP's beam_validator, and safe labels of its beam_trim.)
-abbrev pub making_by : Opcode → List Operand → Making
-making_by op.Allocate (n ∷ rest) = allocates (number n)
-making_by op.AllocateHeap (n ∷ rest) = allocates (number n)
-making_by op.Deallocate (n ∷ rest) = drops (number n)
-making_by op.CallLast (arity ∷ f ∷ n ∷ rest) = drops (number n)
-making_by op.CallExtLast (arity ∷ i ∷ n ∷ rest) = if exits i then keeps else drops (number n)
-making_by op.ApplyLast (arity ∷ n ∷ rest) = drops (number n)
-making_by op.Trim (m ∷ n ∷ rest) = trims (number m) (number n)
-making_by op.Return os = wants_bare
-making_by op.CallOnly os = wants_bare
-making_by op.CallExtOnly os = wants_bare
-making_by _ os = keeps
+abbrev pub frame_effect_by : Opcode → List Operand → FrameEffect
+frame_effect_by op.Allocate (n ∷ rest) = allocates (number n)
+frame_effect_by op.AllocateHeap (n ∷ rest) = allocates (number n)
+frame_effect_by op.Deallocate (n ∷ rest) = drops (number n)
+frame_effect_by op.CallLast (arity ∷ f ∷ n ∷ rest) = drops (number n)
+frame_effect_by op.CallExtLast (arity ∷ i ∷ n ∷ rest) = if calls_exit i then keeps else drops (number n)
+frame_effect_by op.ApplyLast (arity ∷ n ∷ rest) = drops (number n)
+frame_effect_by op.Trim (m ∷ n ∷ rest) = trims (number m) (number n)
+frame_effect_by op.Return os = wants_bare
+frame_effect_by op.CallOnly os = wants_bare
+frame_effect_by op.CallExtOnly os = wants_bare
+frame_effect_by _ os = keeps
 
-abbrev pub making : Instruction → Making
-making i = making_by i.opcode i.operands
+abbrev pub frame_effect : Instruction → FrameEffect
+frame_effect i = frame_effect_by i.opcode i.operands
 
 -- the shape after the row, where the shape before it is as the row needs it
-abbrev pub made : Making → Shape → Option Shape
-made keeps s = Some s
-made wants_bare bare = Some bare
-made (allocates n) bare = Some (sized (replicate n None))
-made (drops n) (sized y) = if length y == n then Some bare else None
-made (trims m n) (sized y) = if length y == m + n then Some (sized (drop m y)) else None
-made _ _ = None
+abbrev pub after_effect : FrameEffect → Shape → Option Shape
+after_effect keeps s = Some s
+after_effect wants_bare bare = Some bare
+after_effect (allocates n) bare = Some (sized (replicate n None))
+after_effect (drops n) (sized y) = if length y == n then Some bare else None
+after_effect (trims m n) (sized y) = if length y == m + n then Some (sized (drop m y)) else None
+after_effect _ _ = None
 
 -- ---- catch tags
 
@@ -275,20 +275,20 @@ may_go_wrong op.TryCase = true
 may_go_wrong _ = false
 
 -- a built-in function without a label to go to instead, by the operands of bif1 and bif2, and by those of gc_bif1 and gc_bif2
-abbrev pub fails : List Operand → Bool
-fails (f ∷ i ∷ rest) = may_fail f i
-fails _ = false
+abbrev pub bif_may_fail : List Operand → Bool
+bif_may_fail (f ∷ i ∷ rest) = may_fail f i
+bif_may_fail _ = false
 
-abbrev pub fails_collecting : List Operand → Bool
-fails_collecting (f ∷ live ∷ i ∷ rest) = may_fail f i
-fails_collecting _ = false
+abbrev pub gc_bif_may_fail : List Operand → Bool
+gc_bif_may_fail (f ∷ live ∷ i ∷ rest) = may_fail f i
+gc_bif_may_fail _ = false
 
-abbrev pub fails_by : Opcode → List Operand → Bool
-fails_by op.Bif1 os = fails os
-fails_by op.Bif2 os = fails os
-fails_by op.GcBif1 os = fails_collecting os
-fails_by op.GcBif2 os = fails_collecting os
-fails_by _ os = false
+abbrev pub may_fail_by : Opcode → List Operand → Bool
+may_fail_by op.Bif1 os = bif_may_fail os
+may_fail_by op.Bif2 os = bif_may_fail os
+may_fail_by op.GcBif1 os = gc_bif_may_fail os
+may_fail_by op.GcBif2 os = gc_bif_may_fail os
+may_fail_by _ os = false
 
 -- whether the list operand holds something else than its opcode allows
 abbrev pub is_wrong_by : Opcode → List Operand → Bool
@@ -299,7 +299,7 @@ is_wrong_by _ os = false
 
 -- whether the row may raise where its registers and its frame are as it needs them
 abbrev pub may_raise : Instruction → Bool
-may_raise i = is_call i.opcode || is_error i.opcode || may_go_wrong i.opcode || fails_by i.opcode i.operands || is_wrong_by i.opcode i.operands
+may_raise i = is_call i.opcode || is_error i.opcode || may_go_wrong i.opcode || may_fail_by i.opcode i.operands || is_wrong_by i.opcode i.operands
 
 -- ---- where a row may go
 
@@ -313,36 +313,36 @@ may_return (operand.Import i) = not (never_returns i)
 may_return _ = true
 
 -- whether the row may go to the next one: no term is a float, a port, a binary, a fun or a map
-abbrev pub goes_on_by : Opcode → List Operand → Bool
-goes_on_by op.FuncInfo os = false
-goes_on_by op.IntCodeEnd os = false
-goes_on_by op.CallLast os = false
-goes_on_by op.CallOnly os = false
-goes_on_by op.CallExtLast os = false
-goes_on_by op.CallExtOnly os = false
-goes_on_by op.ApplyLast os = false
-goes_on_by op.Return os = false
-goes_on_by op.LoopRecEnd os = false
-goes_on_by op.Wait os = false
-goes_on_by op.Jump os = false
-goes_on_by op.SelectVal os = false
-goes_on_by op.SelectTupleArity os = false
-goes_on_by op.TryCaseEnd os = false
-goes_on_by op.Badmatch os = false
-goes_on_by op.IfEnd os = false
-goes_on_by op.CaseEnd os = false
-goes_on_by op.Badrecord os = false
-goes_on_by op.Raise os = false
-goes_on_by op.IsFloat os = false
-goes_on_by op.IsPort os = false
-goes_on_by op.IsBinary os = false
-goes_on_by op.IsFunction os = false
-goes_on_by op.IsMap os = false
-goes_on_by op.CallExt (arity ∷ i ∷ rest) = may_return i
-goes_on_by _ os = true
+abbrev pub may_fall_through_by : Opcode → List Operand → Bool
+may_fall_through_by op.FuncInfo os = false
+may_fall_through_by op.IntCodeEnd os = false
+may_fall_through_by op.CallLast os = false
+may_fall_through_by op.CallOnly os = false
+may_fall_through_by op.CallExtLast os = false
+may_fall_through_by op.CallExtOnly os = false
+may_fall_through_by op.ApplyLast os = false
+may_fall_through_by op.Return os = false
+may_fall_through_by op.LoopRecEnd os = false
+may_fall_through_by op.Wait os = false
+may_fall_through_by op.Jump os = false
+may_fall_through_by op.SelectVal os = false
+may_fall_through_by op.SelectTupleArity os = false
+may_fall_through_by op.TryCaseEnd os = false
+may_fall_through_by op.Badmatch os = false
+may_fall_through_by op.IfEnd os = false
+may_fall_through_by op.CaseEnd os = false
+may_fall_through_by op.Badrecord os = false
+may_fall_through_by op.Raise os = false
+may_fall_through_by op.IsFloat os = false
+may_fall_through_by op.IsPort os = false
+may_fall_through_by op.IsBinary os = false
+may_fall_through_by op.IsFunction os = false
+may_fall_through_by op.IsMap os = false
+may_fall_through_by op.CallExt (arity ∷ i ∷ rest) = may_return i
+may_fall_through_by _ os = true
 
-abbrev pub goes_on : Instruction → Bool
-goes_on i = goes_on_by i.opcode i.operands
+abbrev pub may_fall_through : Instruction → Bool
+may_fall_through i = may_fall_through_by i.opcode i.operands
 
 -- the label of the function that it calls
 abbrev pub called_by : Opcode → List Operand → Option ℕ
@@ -412,8 +412,8 @@ abbrev pub finds : Instruction → Shape → Bool
 finds i s = list_all (is_value s) (read_ys i) && list_all (is_there s) (written_ys i) && tags_a_y (tag i) (written_ys i)
 
 -- the shape after the row, where the row finds the frame that it needs
-abbrev pub left : Instruction → Shape → Option Shape
-left i s = option_map (put_all (tag i) (written_ys i)) (made (making i) s)
+abbrev pub shape_after : Instruction → Shape → Option Shape
+shape_after i s = option_map (put_all (tag i) (written_ys i)) (after_effect (frame_effect i) s)
 
 -- a function begins without y registers
 abbrev pub begins_bare : Assignment → List Instruction → ℕ → Bool
@@ -426,11 +426,11 @@ leads a code i s = list_all (begins_bare a code) (in_list (called i)) && list_al
 -- the next row, if the row may go there, may have the shape after the row
 abbrev pub leads_on : Assignment → Instruction → ℕ → Option Shape → Bool
 leads_on a i next None = false
-leads_on a i next (Some s) = not (goes_on i) || may_have s (a next)
+leads_on a i next (Some s) = not (may_fall_through i) || may_have s (a next)
 
 -- the row finds the registers and the frame that it needs, and where it may go the shapes fit
 abbrev pub fits : Assignment → List Instruction → Instruction → ℕ → Shape → Bool
-fits a code i next s = finds i s && leads a code i s && leads_on a i next (left i s)
+fits a code i next s = finds i s && leads a code i s && leads_on a i next (shape_after i s)
 
 abbrev pub fits_if : Assignment → List Instruction → Instruction → ℕ → Option Shape → Bool
 fits_if a code i next None = true

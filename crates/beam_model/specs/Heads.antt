@@ -9,7 +9,7 @@ use Rattle.beam_model.specs.declared.instruction.Operand.TheVariants as operand
 use Rattle.beam_model.specs.declared.instruction.Instruction.{Instruction}
 use Rattle.beam_model.specs.declared.opcode.Opcode.TheVariants as op
 use Rattle.beam_model.specs.Listing.{Listing}
-use Rattle.beam_model.specs.Loadable.{are_labels_lawful, signature_of, exported_signature, are_signatures_new, is_entry_of, are_natives_known, are_limits_kept}
+use Rattle.beam_model.specs.Loadable.{are_labels_lawful, signature_of, exported_signature, are_signatures_new, is_entry_of, are_natives_known, are_limits_met}
 use Rattle.beam_model.specs.Framed.{IsFramed}
 use Rattle.beam_model.specs.Sequence.{InSequence}
 
@@ -59,7 +59,7 @@ pub record IsWellFormed (l : Listing) : Type 0 where
   pub entries : IsTrue (list_all (is_entry_of functions) l.exports)
   pub exports : IsTrue (are_signatures_new [] (map exported_signature l.exports))
   pub natives : IsTrue (are_natives_known l)
-  pub limits : IsTrue (are_limits_kept l)
+  pub limits : IsTrue (are_limits_met l)
   pub framed : IsFramed l
 
 -- the listing can be loaded, by some functions and shapes

@@ -31,11 +31,11 @@ abbrev pub whole_of : {A : Type 0} → Reading A → Option A
 whole_of (Ok read) = alone read.0 read.1
 whole_of (Err left) = None
 
-unfoldable pub integer_of : List ℕ → Option ℤ
-integer_of text = whole_of (integer_at text)
+unfoldable pub integer_of_text : List ℕ → Option ℤ
+integer_of_text text = whole_of (integer_at text)
 
-unfoldable pub atom_of : List ℕ → Option (List ℕ)
-atom_of text = whole_of (atom_at text)
+unfoldable pub atom_of_text : List ℕ → Option (List ℕ)
+atom_of_text text = whole_of (atom_at text)
 
 -- the depth is counted in the term alone
 unfoldable pub term_of : List ℕ → Option TermValue
@@ -48,7 +48,7 @@ word_of (negsuc n) = None
 -- a number of 32 bits
 unfoldable pub number_of_text : List ℕ → Option ℕ
 number_of_text text = do
-  z ← integer_of text
+  z ← integer_of_text text
   word_of z
 
 -- ---- tuples with a name in front
@@ -56,7 +56,7 @@ number_of_text text = do
 -- the name, and the parts after it
 abbrev pub headed_by : List (List ℕ) → Option (List ℕ × List (List ℕ))
 headed_by (head ∷ part ∷ parts) = do
-  name ← atom_of head
+  name ← atom_of_text head
   Some (name, part ∷ parts)
 headed_by _ = None
 
@@ -97,28 +97,28 @@ typed_register parts = do
   h ← headed_of part
   plain_register h.0 h.1
 
-unfoldable pub register_by : List ℕ → List (List ℕ) → Option Argument
-register_by name parts = if same_text name (codes "tr") then typed_register parts else plain_register name parts
+unfoldable pub register_of_parts : List ℕ → List (List ℕ) → Option Argument
+register_of_parts name parts = if same_text name (codes "tr") then typed_register parts else plain_register name parts
 
-unfoldable pub register_of : List ℕ → Option Argument
-register_of text = do
+unfoldable pub register_of_text : List ℕ → Option Argument
+register_of_text text = do
   h ← headed_of text
-  register_by h.0 h.1
+  register_of_parts h.0 h.1
 
 -- `{f,N}`
-unfoldable pub label_of : List ℕ → Option ℕ
-label_of text = do
+unfoldable pub label_of_text : List ℕ → Option ℕ
+label_of_text text = do
   part ← part_of (codes "f") text
   number_of_text part
 
 -- `{integer,I}`, `{atom,A}`, `{literal,T}`
-unfoldable pub term_by : List ℕ → List ℕ → Option TermValue
-term_by name part =
+unfoldable pub term_of_part : List ℕ → List ℕ → Option TermValue
+term_of_part name part =
     if same_text name (codes "integer") then (do
-      z ← integer_of part
+      z ← integer_of_text part
       Some (int_term z))
     else if same_text name (codes "atom") then (do
-      text ← atom_of part
+      text ← atom_of_text part
       Some (atom_term text))
     else if same_text name (codes "literal") then term_of part
     else None
@@ -126,49 +126,49 @@ term_by name part =
 unfoldable pub term_source : List ℕ → List (List ℕ) → Option Argument
 term_source name parts = do
   part ← only parts
-  t ← term_by name part
+  t ← term_of_part name part
   Some (argument.Term t)
 
 abbrev pub is_register_name : List ℕ → Bool
 is_register_name name = same_text name (codes "x") || same_text name (codes "y") || same_text name (codes "tr")
 
-abbrev pub source_by : List ℕ → List (List ℕ) → Option Argument
-source_by name parts = if is_register_name name then register_by name parts else term_source name parts
+abbrev pub source_of_parts : List ℕ → List (List ℕ) → Option Argument
+source_of_parts name parts = if is_register_name name then register_of_parts name parts else term_source name parts
 
 -- `nil`
 unfoldable pub nil_source : List ℕ → Option Argument
 nil_source text = do
-  name ← atom_of text
+  name ← atom_of_text text
   if same_text name (codes "nil") then Some (argument.Term nil_term) else None
 
-unfoldable pub source_of : List ℕ → Option Argument
-source_of [] = None
-source_of (c ∷ cs) =
+unfoldable pub source_of_text : List ℕ → Option Argument
+source_of_text [] = None
+source_of_text (c ∷ cs) =
     if c == 123 then (do
       h ← headed_of (c ∷ cs)
-      source_by h.0 h.1)
+      source_of_parts h.0 h.1)
     else nil_source (c ∷ cs)
 
 -- a member of a list operand that stands in braces: a label or a source
-unfoldable pub member_by : List ℕ → List (List ℕ) → Option Argument
-member_by name parts =
+unfoldable pub member_of_parts : List ℕ → List (List ℕ) → Option Argument
+member_of_parts name parts =
     if same_text name (codes "f") then (do
       part ← only parts
       n ← number_of_text part
       Some (argument.Label n))
-    else source_by name parts
+    else source_of_parts name parts
 
 abbrev pub number_member : List ℕ → Option Argument
 number_member text = do
   n ← number_of_text text
   Some (argument.Number n)
 
-unfoldable pub member_of : List ℕ → Option Argument
-member_of [] = None
-member_of (c ∷ cs) =
+unfoldable pub member_of_text : List ℕ → Option Argument
+member_of_text [] = None
+member_of_text (c ∷ cs) =
     if c == 123 then (do
       h ← headed_of (c ∷ cs)
-      member_by h.0 h.1)
+      member_of_parts h.0 h.1)
     else if is_digit c then number_member (c ∷ cs)
     else nil_source (c ∷ cs)
 
@@ -176,34 +176,34 @@ member_of (c ∷ cs) =
 unfoldable pub members_from : List Argument → List (List ℕ) → Option (List Argument)
 members_from members [] = Some members
 members_from members (text ∷ texts) = do
-  member ← member_of text
+  member ← member_of_text text
   members_from (members ++ member ∷ []) texts
 
 -- `{list,[..]}`
-unfoldable pub list_of : List ℕ → Option (List Argument)
-list_of text = do
+unfoldable pub members_of_text : List ℕ → Option (List Argument)
+members_of_text text = do
   part ← part_of (codes "list") text
   parts ← list_parts part
   members_from [] parts
 
-abbrev pub import_by : List ℕ → List (List ℕ) → Option Import
-import_by name (m ∷ f ∷ a ∷ []) = do
-  «module» ← atom_of m
-  function ← atom_of f
+abbrev pub import_of_parts : List ℕ → List (List ℕ) → Option Import
+import_of_parts name (m ∷ f ∷ a ∷ []) = do
+  «module» ← atom_of_text m
+  function ← atom_of_text f
   arity ← number_of_text a
   if same_text name (codes "extfunc") then Some (record { «module» = «module»; function = function; arity = arity }) else None
-import_by name _ = None
+import_of_parts name _ = None
 
 -- `{extfunc,M,F,A}`
-unfoldable pub import_of : List ℕ → Option Import
-import_of text = do
+unfoldable pub import_of_text : List ℕ → Option Import
+import_of_text text = do
   h ← headed_of text
-  import_by h.0 h.1
+  import_of_parts h.0 h.1
 
 -- a native stands by its name alone
 unfoldable pub native_of : ℕ → List ℕ → Option Import
 native_of arity text = do
-  name ← atom_of text
+  name ← atom_of_text text
   Some (record { «module» = codes "erlang"; function = name; arity = arity })
 
 abbrev pub as_one : Option Argument → Option Operand
@@ -218,14 +218,14 @@ as_import found = do
 
 abbrev pub label_argument : List ℕ → Option Argument
 label_argument text = do
-  n ← label_of text
+  n ← label_of_text text
   Some (argument.Label n)
 
 -- an atom alone, never by `{literal,A}`
 unfoldable pub atom_argument : List ℕ → Option Argument
 atom_argument text = do
   part ← part_of (codes "atom") text
-  name ← atom_of part
+  name ← atom_of_text part
   Some (argument.Term (atom_term name))
 
 abbrev pub as_list : Option (List Argument) → Option Operand
@@ -234,60 +234,60 @@ as_list found = do
   Some (operand.List members)
 
 -- the operand that a text is under its kind
-unfoldable pub operand_of : Kind → List ℕ → Option Operand
-operand_of kind.Number text = as_one (number_member text)
-operand_of kind.Arity text = as_one (number_member text)
-operand_of kind.FrameSize text = as_one (number_member text)
-operand_of kind.Label text = as_one (label_argument text)
-operand_of kind.FailLabel text = as_one (label_argument text)
-operand_of kind.Atom text = as_one (atom_argument text)
-operand_of kind.Source text = as_one (source_of text)
-operand_of kind.Register text = as_one (register_of text)
-operand_of kind.Import text = as_import (import_of text)
-operand_of (kind.Native arity) text = as_import (native_of arity text)
-operand_of kind.List text = as_list (list_of text)
+unfoldable pub operand_of_text : Kind → List ℕ → Option Operand
+operand_of_text kind.Number text = as_one (number_member text)
+operand_of_text kind.Arity text = as_one (number_member text)
+operand_of_text kind.FrameSize text = as_one (number_member text)
+operand_of_text kind.Label text = as_one (label_argument text)
+operand_of_text kind.FailLabel text = as_one (label_argument text)
+operand_of_text kind.Atom text = as_one (atom_argument text)
+operand_of_text kind.Source text = as_one (source_of_text text)
+operand_of_text kind.Register text = as_one (register_of_text text)
+operand_of_text kind.Import text = as_import (import_of_text text)
+operand_of_text (kind.Native arity) text = as_import (native_of arity text)
+operand_of_text kind.List text = as_list (members_of_text text)
 
 -- these operands, and then the operands that the texts are under these kinds
 unfoldable pub operands_from : List Operand → List Kind → List (List ℕ) → Option (List Operand)
 operands_from operands [] [] = Some operands
 operands_from operands (letter ∷ letters) (text ∷ texts) = do
-  operand ← operand_of letter text
+  operand ← operand_of_text letter text
   operands_from (operands ++ operand ∷ []) letters texts
 operands_from operands _ _ = None
 
 -- ---- instructions
 
 -- the instruction of an opcode that is written in its shape
-abbrev pub written : Bool → Opcode → List (List ℕ) → Option Instruction
-written fits opcode texts =
+abbrev pub instruction_of_parts : Bool → Opcode → List (List ℕ) → Option Instruction
+instruction_of_parts fits opcode texts =
     if fits then (do
       operands ← operands_from [] (kinds_of opcode) texts
       Some (record { opcode = opcode; operands = operands }))
     else None
 
-abbrev pub is_plain : Shape → Bool
-is_plain shape.Plain = true
-is_plain _ = false
+abbrev pub is_plain_shape : Shape → Bool
+is_plain_shape shape.Plain = true
+is_plain_shape _ = false
 
-abbrev pub is_test : Shape → Bool
-is_test shape.Test = true
-is_test _ = false
+abbrev pub is_test_shape : Shape → Bool
+is_test_shape shape.Test = true
+is_test_shape _ = false
 
-abbrev pub is_bif0 : Shape → Bool
-is_bif0 shape.Bif0 = true
-is_bif0 _ = false
+abbrev pub is_bif0_shape : Shape → Bool
+is_bif0_shape shape.Bif0 = true
+is_bif0_shape _ = false
 
-abbrev pub is_bif : Shape → Bool
-is_bif shape.Bif = true
-is_bif _ = false
+abbrev pub is_bif_shape : Shape → Bool
+is_bif_shape shape.Bif = true
+is_bif_shape _ = false
 
-abbrev pub is_gc_bif : Shape → Bool
-is_gc_bif shape.GcBif = true
-is_gc_bif _ = false
+abbrev pub is_gc_bif_shape : Shape → Bool
+is_gc_bif_shape shape.GcBif = true
+is_gc_bif_shape _ = false
 
-abbrev pub is_raise : Shape → Bool
-is_raise shape.Raise = true
-is_raise _ = false
+abbrev pub is_raise_shape : Shape → Bool
+is_raise_shape shape.Raise = true
+is_raise_shape _ = false
 
 -- whether an opcode is int_code_end, which a listing doesn't write
 abbrev pub is_end : Opcode → Bool
@@ -298,26 +298,26 @@ is_end _ = false
 unfoldable pub plain_of : List ℕ → List (List ℕ) → Option Instruction
 plain_of name parts = do
   opcode ← opcode_named name
-  if is_end opcode then None else written (is_plain (shape_of opcode)) opcode parts
+  if is_end opcode then None else instruction_of_parts (is_plain_shape (shape_of opcode)) opcode parts
 
 -- `{test,name,F,[arguments]}`
 unfoldable pub test_of : List (List ℕ) → Option Instruction
 test_of (name ∷ fail ∷ arguments ∷ []) = do
-  text ← atom_of name
+  text ← atom_of_text name
   opcode ← opcode_named text
   parts ← list_parts arguments
-  written (is_test (shape_of opcode)) opcode (fail ∷ parts)
+  instruction_of_parts (is_test_shape (shape_of opcode)) opcode (fail ∷ parts)
 test_of _ = None
 
 -- the instruction raise of these operands
 unfoldable pub raise_by : List (List ℕ) → Option Instruction
 raise_by parts = do
   opcode ← opcode_of 108
-  written (is_raise (shape_of opcode)) opcode parts
+  instruction_of_parts (is_raise_shape (shape_of opcode)) opcode parts
 
 -- `{raise,[operands]}`
-unfoldable pub raise_of : List ℕ → Option Instruction
-raise_of list = do
+unfoldable pub raise_of_text : List ℕ → Option Instruction
+raise_of_text list = do
   parts ← list_parts list
   raise_by parts
 
@@ -328,16 +328,16 @@ counted first count = if nat_lt count 3 then opcode_of (first + count) else None
 -- `{bif,Name,{f,0},[],D}`
 unfoldable pub bif0_of : List ℕ → List ℕ → List ℕ → Option Instruction
 bif0_of name fail dest = do
-  label ← label_of fail
+  label ← label_of_text fail
   opcode ← opcode_of 9
-  written (label == 0 && is_bif0 (shape_of opcode)) opcode (name ∷ dest ∷ [])
+  instruction_of_parts (label == 0 && is_bif0_shape (shape_of opcode)) opcode (name ∷ dest ∷ [])
 
 -- `{bif,Name,F,[arguments],D}`
 unfoldable pub bif_by : List ℕ → List ℕ → List (List ℕ) → List ℕ → Option Instruction
 bif_by name fail [] dest = bif0_of name fail dest
 bif_by name fail (part ∷ parts) dest = do
   opcode ← counted 9 (length (part ∷ parts))
-  written (is_bif (shape_of opcode)) opcode ((fail ∷ name ∷ []) ++ (part ∷ parts) ++ dest ∷ [])
+  instruction_of_parts (is_bif_shape (shape_of opcode)) opcode ((fail ∷ name ∷ []) ++ (part ∷ parts) ++ dest ∷ [])
 
 -- two arguments of raise: the native raise/2 is the instruction raise
 abbrev pub is_raise_call : List ℕ → List (List ℕ) → Bool
@@ -345,7 +345,7 @@ is_raise_call name parts = length parts == 2 && same_text name (codes "raise")
 
 unfoldable pub bif_of : List (List ℕ) → Option Instruction
 bif_of (name ∷ fail ∷ arguments ∷ dest ∷ []) = do
-  text ← atom_of name
+  text ← atom_of_text name
   parts ← list_parts arguments
   if is_raise_call text parts then raise_by parts else bif_by name fail parts dest
 bif_of _ = None
@@ -355,7 +355,7 @@ unfoldable pub gc_bif_of : List (List ℕ) → Option Instruction
 gc_bif_of (name ∷ fail ∷ live ∷ arguments ∷ dest ∷ []) = do
   parts ← list_parts arguments
   opcode ← counted 123 (length parts)
-  written (is_gc_bif (shape_of opcode)) opcode ((fail ∷ live ∷ name ∷ []) ++ parts ++ dest ∷ [])
+  instruction_of_parts (is_gc_bif_shape (shape_of opcode)) opcode ((fail ∷ live ∷ name ∷ []) ++ parts ++ dest ∷ [])
 gc_bif_of _ = None
 
 -- `{line,_}`
@@ -369,7 +369,7 @@ instruction_by name parts =
     else if same_text name (codes "gc_bif") then gc_bif_of parts
     else if same_text name (codes "raise") then (do
       list ← only parts
-      raise_of list)
+      raise_of_text list)
     else if same_text name (codes "line") then (do
       about ← only parts
       Some line_instruction)
@@ -378,18 +378,18 @@ instruction_by name parts =
 -- ---- the forms after the heads
 
 -- `{function,F,A,Entry}`
-unfoldable pub function_of : List (List ℕ) → Option Function
-function_of (f ∷ a ∷ e ∷ []) = do
-  name ← atom_of f
+unfoldable pub function_of_parts : List (List ℕ) → Option Function
+function_of_parts (f ∷ a ∷ e ∷ []) = do
+  name ← atom_of_text f
   arity ← number_of_text a
   entry ← number_of_text e
   Some (record { name = name; arity = arity; entry = entry })
-function_of _ = None
+function_of_parts _ = None
 
 unfoldable pub item_by : List ℕ → List (List ℕ) → Option Item
 item_by name parts =
     if same_text name (codes "function") then (do
-      function ← function_of parts
+      function ← function_of_parts parts
       Some (item.Function function))
     else if same_text name (codes "%") then (do
       about ← only parts
@@ -401,7 +401,7 @@ item_by name parts =
 -- an instruction without operands is its name alone
 unfoldable pub bare_item : List ℕ → Option Item
 bare_item text = do
-  name ← atom_of text
+  name ← atom_of_text text
   instruction ← plain_of name []
   Some (item.Instruction instruction)
 
@@ -419,26 +419,26 @@ item_of (c ∷ cs) =
 unfoldable pub module_of : List ℕ → Option (List ℕ)
 module_of text = do
   part ← part_of (codes "module") text
-  atom_of part
+  atom_of_text part
 
-abbrev pub signature_by : List (List ℕ) → Option Signature
-signature_by (f ∷ a ∷ []) = do
-  name ← atom_of f
+abbrev pub signature_of_parts : List (List ℕ) → Option Signature
+signature_of_parts (f ∷ a ∷ []) = do
+  name ← atom_of_text f
   arity ← number_of_text a
   Some (record { name = name; arity = arity })
-signature_by _ = None
+signature_of_parts _ = None
 
 -- `{F,A}`
-unfoldable pub signature_of : List ℕ → Option Signature
-signature_of text = do
+unfoldable pub signature_of_text : List ℕ → Option Signature
+signature_of_text text = do
   parts ← tuple_parts text
-  signature_by parts
+  signature_of_parts parts
 
 -- these signatures, and then the signatures that the texts are
 unfoldable pub signatures_from : List Signature → List (List ℕ) → Option (List Signature)
 signatures_from signatures [] = Some signatures
 signatures_from signatures (text ∷ texts) = do
-  signature ← signature_of text
+  signature ← signature_of_text text
   signatures_from (signatures ++ signature ∷ []) texts
 
 -- `{exports,[{F,A},..]}`

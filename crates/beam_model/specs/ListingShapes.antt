@@ -6,12 +6,12 @@ use Rattle.beam_model.specs.declared.shape.Shape.TheVariants as shape
 use Rattle.beam_model.specs.Opcodes.{number_of}
 
 -- comparisons and type tests
-abbrev pub is_test : ℕ → Bool
-is_test n = (nat_le 39 n && nat_le n 58) || n == 77 || n == 114 || n == 156 || n == 159
+abbrev pub is_test_opcode : ℕ → Bool
+is_test_opcode n = (nat_le 39 n && nat_le n 58) || n == 77 || n == 114 || n == 156 || n == 159
 
 abbrev pub shape_by : ℕ → Shape
 shape_by n =
-    if is_test n then shape.Test
+    if is_test_opcode n then shape.Test
     else if n == 9 then shape.Bif0
     else if n == 10 || n == 11 then shape.Bif
     else if n == 124 || n == 125 then shape.GcBif

@@ -126,14 +126,14 @@ is_line op.Line = true
 is_line _ = false
 
 -- the instructions without the lines that stand in front of them
-abbrev pub behind_lines : List Instruction → List Instruction
-behind_lines [] = []
-behind_lines (i ∷ rest) = if is_line i.opcode then behind_lines rest else i ∷ rest
+abbrev pub after_leading_lines : List Instruction → List Instruction
+after_leading_lines [] = []
+after_leading_lines (i ∷ rest) = if is_line i.opcode then after_leading_lines rest else i ∷ rest
 
 -- the label in front, or 0
-abbrev pub entry_in : List Instruction → ℕ
-entry_in [] = 0
-entry_in (i ∷ rest) = unwrap_or (label_of i) 0
+abbrev pub front_label_or_zero : List Instruction → ℕ
+front_label_or_zero [] = 0
+front_label_or_zero (i ∷ rest) = unwrap_or (label_of i) 0
 
 abbrev pub function_line : List ℕ → ℕ → ℕ → List ℕ
 function_line name arity entry = codes "{function," ++ atom_text name ++ codes "," ++ decimal arity ++ codes "," ++ decimal entry ++ codes "}" ++ stop
@@ -152,13 +152,13 @@ is_func_info op.FuncInfo = true
 is_func_info _ = false
 
 -- the line of a function whose func_info stands in front
-abbrev pub function_text : List Instruction → List ℕ
-function_text [] = []
-function_text (i ∷ rest) = if is_func_info i.opcode then informed_text i.operands (entry_in rest) else []
+abbrev pub function_line_at : List Instruction → List ℕ
+function_line_at [] = []
+function_line_at (i ∷ rest) = if is_func_info i.opcode then informed_text i.operands (front_label_or_zero rest) else []
 
 -- the line of a function before its first label, which is followed by lines and func_info
 abbrev pub before_text : Instruction → List Instruction → List ℕ
-before_text i rest = if is_some (label_of i) then function_text (behind_lines rest) else []
+before_text i rest = if is_some (label_of i) then function_line_at (after_leading_lines rest) else []
 
 -- ---- listings
 

@@ -29,14 +29,14 @@ are_new before (n ∷ rest) = not (is_among n before) && are_new (before ++ n �
 
 -- ---- labels
 
-abbrev pub in_front : Option ℕ → List ℕ → List ℕ
-in_front None rest = rest
-in_front (Some n) rest = n ∷ rest
+abbrev pub with_label : Option ℕ → List ℕ → List ℕ
+with_label None rest = rest
+with_label (Some n) rest = n ∷ rest
 
 -- the labels that are defined
-abbrev pub labels_in : List Instruction → List ℕ
-labels_in [] = []
-labels_in (i ∷ rest) = in_front (label_of i) (labels_in rest)
+abbrev pub defined_labels : List Instruction → List ℕ
+defined_labels [] = []
+defined_labels (i ∷ rest) = with_label (label_of i) (defined_labels rest)
 
 -- a label that an operand names is defined; 0 names none, also where a label 0 is defined
 abbrev pub is_argument_defined : List ℕ → Argument → Bool
@@ -68,25 +68,25 @@ are_targets defined i = all_operands (is_defined defined) (kinds_of i.opcode) i.
 -- each label is defined once and is below the label count, and each label operand is defined
 abbrev pub are_labels_lawful : Listing → Bool
 are_labels_lawful l =
-    let defined = labels_in l.instructions in
+    let defined = defined_labels l.instructions in
     are_new [] defined && list_all (λ n. nat_lt n l.label_count) defined && list_all (are_targets defined) l.instructions
 
 -- ---- functions
 
 -- the states of the automaton of functions: which instructions stand before this one
 pub data Stage : Type 0 where
-  nothing : Stage  -- a label is expected
+  start : Stage  -- a label is expected
   first_label : Stage  -- the first label and lines stood there: func_info is expected
   informed : List ℕ → ℕ → Stage  -- func_info of a function of this name and arity: its entry label is expected
   body : Stage  -- an entry label or a part of a body: more of the body may come
   body_label : Stage  -- a label of the body and lines: func_info of the next function may come too
 
-abbrev pub atom_text : TermValue → Option (List ℕ)
-atom_text (atom_term text) = Some text
-atom_text _ = None
+abbrev pub atom_of_term : TermValue → Option (List ℕ)
+atom_of_term (atom_term text) = Some text
+atom_of_term _ = None
 
 abbrev pub atom_in : Operand → Option (List ℕ)
-atom_in (operand.One (argument.Term t)) = atom_text t
+atom_in (operand.One (argument.Term t)) = atom_of_term t
 atom_in _ = None
 
 abbrev pub number_in : Operand → Option ℕ
@@ -102,41 +102,41 @@ abbrev pub informed_by : List ℕ → List Operand → Option Stage
 informed_by name (m ∷ f ∷ a ∷ []) = informed_from name (atom_in m) (atom_in f) (number_in a)
 informed_by name _ = None
 
-abbrev pub behind_nothing : Instruction → Option Stage
-behind_nothing i = option_map (λ n. first_label) (label_of i)
+abbrev pub at_start : Instruction → Option Stage
+at_start i = option_map (λ n. first_label) (label_of i)
 
-abbrev pub behind_first_label : List ℕ → Opcode → List Operand → Option Stage
-behind_first_label name op.Line operands = Some first_label
-behind_first_label name op.FuncInfo operands = informed_by name operands
-behind_first_label name _ operands = None
+abbrev pub after_first_label : List ℕ → Opcode → List Operand → Option Stage
+after_first_label name op.Line operands = Some first_label
+after_first_label name op.FuncInfo operands = informed_by name operands
+after_first_label name _ operands = None
 
-abbrev pub behind_func_info : Instruction → Option Stage
-behind_func_info i = option_map (λ n. body) (label_of i)
+abbrev pub after_func_info : Instruction → Option Stage
+after_func_info i = option_map (λ n. body) (label_of i)
 
-abbrev pub behind_body : Opcode → Option Stage
-behind_body op.Label = Some body_label
-behind_body op.FuncInfo = None
-behind_body op.IntCodeEnd = None
-behind_body _ = Some body
+abbrev pub within_body : Opcode → Option Stage
+within_body op.Label = Some body_label
+within_body op.FuncInfo = None
+within_body op.IntCodeEnd = None
+within_body _ = Some body
 
-abbrev pub behind_body_label : List ℕ → Opcode → List Operand → Option Stage
-behind_body_label name op.Label operands = Some body_label
-behind_body_label name op.Line operands = Some body_label
-behind_body_label name op.FuncInfo operands = informed_by name operands
-behind_body_label name op.IntCodeEnd operands = None
-behind_body_label name _ operands = Some body
+abbrev pub after_body_label : List ℕ → Opcode → List Operand → Option Stage
+after_body_label name op.Label operands = Some body_label
+after_body_label name op.Line operands = Some body_label
+after_body_label name op.FuncInfo operands = informed_by name operands
+after_body_label name op.IntCodeEnd operands = None
+after_body_label name _ operands = Some body
 
 -- the state after an instruction, if the instruction may stand here
-abbrev pub behind : List ℕ → Stage → Instruction → Option Stage
-behind name nothing i = behind_nothing i
-behind name first_label i = behind_first_label name i.opcode i.operands
-behind name (informed f a) i = behind_func_info i
-behind name body i = behind_body i.opcode
-behind name body_label i = behind_body_label name i.opcode i.operands
+abbrev pub next_stage : List ℕ → Stage → Instruction → Option Stage
+next_stage name start i = at_start i
+next_stage name first_label i = after_first_label name i.opcode i.operands
+next_stage name (informed f a) i = after_func_info i
+next_stage name body i = within_body i.opcode
+next_stage name body_label i = after_body_label name i.opcode i.operands
 
 -- whether the list may end here
 abbrev pub may_end : Stage → Bool
-may_end nothing = true
+may_end start = true
 may_end first_label = false
 may_end (informed f a) = false
 may_end body = true
@@ -152,10 +152,10 @@ function_at _ i = []
 abbrev pub functions_from : List ℕ → Stage → List Instruction → Option (List Function)
 functions_from name stage [] = if may_end stage then Some [] else None
 functions_from name stage (i ∷ rest) =
-    option_and_then (λ next. option_map (λ fs. function_at stage i ++ fs) (functions_from name next rest)) (behind name stage i)
+    option_and_then (λ next. option_map (λ fs. function_at stage i ++ fs) (functions_from name next rest)) (next_stage name stage i)
 
 abbrev pub functions_of : Listing → Option (List Function)
-functions_of l = functions_from l.name nothing l.instructions
+functions_of l = functions_from l.name start l.instructions
 
 abbrev pub signature_of : Function → Signature
 signature_of f = record { name = f.name; arity = f.arity }
@@ -216,9 +216,9 @@ is_argument_within (argument.X n) = nat_lt n 1024
 is_argument_within (argument.Y n) = nat_lt n 1023
 is_argument_within _ = true
 
-abbrev pub is_number : Operand → Bool
-is_number (operand.One (argument.Number n)) = true
-is_number _ = false
+abbrev pub is_number_operand : Operand → Bool
+is_number_operand (operand.One (argument.Number n)) = true
+is_number_operand _ = false
 
 -- an arity is at most 255
 abbrev pub is_arity : Operand → Bool
@@ -234,46 +234,46 @@ abbrev pub is_label_operand : Operand → Bool
 is_label_operand (operand.One (argument.Label n)) = true
 is_label_operand _ = false
 
-abbrev pub is_atom : Operand → Bool
-is_atom o = is_some (atom_in o)
+abbrev pub is_atom_operand : Operand → Bool
+is_atom_operand o = is_some (atom_in o)
 
-abbrev pub is_register : Operand → Bool
-is_register (operand.One (argument.X n)) = nat_lt n 1024
-is_register (operand.One (argument.Y n)) = nat_lt n 1023
-is_register _ = false
+abbrev pub is_register_operand : Operand → Bool
+is_register_operand (operand.One (argument.X n)) = nat_lt n 1024
+is_register_operand (operand.One (argument.Y n)) = nat_lt n 1023
+is_register_operand _ = false
 
-abbrev pub is_source : Operand → Bool
-is_source (operand.One (argument.Term t)) = true
-is_source o = is_register o
+abbrev pub is_source_operand : Operand → Bool
+is_source_operand (operand.One (argument.Term t)) = true
+is_source_operand o = is_register_operand o
 
-abbrev pub is_import : Operand → Bool
-is_import (operand.Import i) = nat_le i.arity 255
-is_import _ = false
+abbrev pub is_import_operand : Operand → Bool
+is_import_operand (operand.Import i) = nat_le i.arity 255
+is_import_operand _ = false
 
-abbrev pub is_list : Operand → Bool
-is_list (operand.List as') = list_all is_argument_within as'
-is_list _ = false
+abbrev pub is_list_operand : Operand → Bool
+is_list_operand (operand.List as') = list_all is_argument_within as'
+is_list_operand _ = false
 
 -- the operand is of its kind, and within the limits of registers, frames and arities
 abbrev pub is_within : Kind → Operand → Bool
-is_within kind.Number o = is_number o
+is_within kind.Number o = is_number_operand o
 is_within kind.Arity o = is_arity o
 is_within kind.FrameSize o = is_frame_size o
 is_within kind.Label o = is_label_operand o
 is_within kind.FailLabel o = is_label_operand o
-is_within kind.Atom o = is_atom o
-is_within kind.Source o = is_source o
-is_within kind.Register o = is_register o
-is_within kind.Import o = is_import o
-is_within (kind.Native arity) o = is_import o
-is_within kind.List o = is_list o
+is_within kind.Atom o = is_atom_operand o
+is_within kind.Source o = is_source_operand o
+is_within kind.Register o = is_register_operand o
+is_within kind.Import o = is_import_operand o
+is_within (kind.Native arity) o = is_import_operand o
+is_within kind.List o = is_list_operand o
 
 -- the operands of each instruction are of its opcode's kinds; register numbers and arities are within the limits
-abbrev pub are_limits_kept : Listing → Bool
-are_limits_kept l = list_all (λ i. all_operands is_within (kinds_of i.opcode) i.operands) l.instructions
+abbrev pub are_limits_met : Listing → Bool
+are_limits_met l = list_all (λ i. all_operands is_within (kinds_of i.opcode) i.operands) l.instructions
 
 -- ---- all of it
 
 -- the first five rules; the sixth is that the listing is framed
-abbrev pub keeps_rules : Listing → Bool
-keeps_rules l = are_labels_lawful l && are_heads_lawful l && are_exports_lawful l && are_natives_known l && are_limits_kept l
+abbrev pub obeys_rules : Listing → Bool
+obeys_rules l = are_labels_lawful l && are_heads_lawful l && are_exports_lawful l && are_natives_known l && are_limits_met l

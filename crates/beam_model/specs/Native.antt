@@ -218,8 +218,8 @@ has_lawful_size (tuple_term items) = nat_lt (count_of items) (2 ^ 32)
 has_lawful_size _ = true
 
 -- a new term, or system_limit where it would be too deep or a tuple of too many elements
-abbrev pub made : TermValue → Result TermValue Fault
-made t = if nat_le (depth_of t) 4096 && has_lawful_size t then Ok t else Err SystemLimit
+abbrev pub limited_term : TermValue → Result TermValue Fault
+limited_term t = if nat_le (depth_of t) 4096 && has_lawful_size t then Ok t else Err SystemLimit
 
 -- an element before those of a proper list
 abbrev pub put_before : TermValue → Option (List TermValue) → Option (List TermValue)
@@ -255,12 +255,12 @@ element_of _ _ = Err Badarg
 -- `setelement`
 abbrev pub set_element_of : TermValue → TermValue → TermValue → Result TermValue Fault
 set_element_of (int_term (pos (suc i))) (tuple_term items) t =
-    if nat_lt i (count_of items) then made (tuple_of (slice_set (elements_of items) i t)) else Err Badarg
+    if nat_lt i (count_of items) then limited_term (tuple_of (slice_set (elements_of items) i t)) else Err Badarg
 set_element_of _ _ _ = Err Badarg
 
 -- `tuple_to_list`
 abbrev pub list_of_tuple : TermValue → Result TermValue Fault
-list_of_tuple (tuple_term items) = made (list_of (elements_of items))
+list_of_tuple (tuple_term items) = limited_term (list_of (elements_of items))
 list_of_tuple _ = Err Badarg
 
 -- a function applied to the elements of a proper list
@@ -274,11 +274,11 @@ length_of t = of_elements (λ items. Ok (int_term (pos (length items)))) (elemen
 
 -- `list_to_tuple`
 abbrev pub tuple_of_list : TermValue → Result TermValue Fault
-tuple_of_list t = of_elements (λ items. made (tuple_of items)) (elements_in t)
+tuple_of_list t = of_elements (λ items. limited_term (tuple_of items)) (elements_in t)
 
 -- `++`: the second may be any term
 abbrev pub append_of : TermValue → TermValue → Result TermValue Fault
-append_of s t = of_elements (λ items. made (list_before items t)) (elements_in s)
+append_of s t = of_elements (λ items. limited_term (list_before items t)) (elements_in s)
 
 -- the list of these code points
 abbrev pub list_of_codes : List ℕ → TermValue
@@ -286,12 +286,12 @@ list_of_codes cs = list_of (map (λ c. int_term (pos c)) cs)
 
 -- `atom_to_list`
 abbrev pub list_of_atom : TermValue → Result TermValue Fault
-list_of_atom (atom_term text) = made (list_of_codes (chars text))
+list_of_atom (atom_term text) = limited_term (list_of_codes (chars text))
 list_of_atom _ = Err Badarg
 
 -- `integer_to_list`: in decimal
 abbrev pub list_of_integer : TermValue → Result TermValue Fault
-list_of_integer (int_term n) = made (list_of_codes (signed_decimal n))
+list_of_integer (int_term n) = limited_term (list_of_codes (signed_decimal n))
 list_of_integer _ = Err Badarg
 
 -- ---- exceptions

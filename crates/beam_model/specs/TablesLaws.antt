@@ -12,11 +12,11 @@ use Rattle.std.proofs.lemmas.Slice.Eq.{bytes_eq-Decides}
 use Rattle.byteorder.specs.Endian.{big_number, big_bytes}
 use Rattle.byteorder.specs.Numbers.{big_number-reads_back}
 use Rattle.beam_term.specs.TermValue.{TermValue}
-use Rattle.beam_model.specs.External.{written}
+use Rattle.beam_model.specs.External.{external_bytes}
 use Rattle.beam_model.specs.ExternalReading.{external_at}
 use Rattle.beam_model.specs.declared.function.Import.{Import}
 use Rattle.beam_model.specs.declared.function.Export.{Export}
-use Rattle.beam_model.specs.Tables.{Tables, TableFault, TableChunks, bad_table, ◌>>=◌, number_at, entries_at, text_of, atom_at, atoms_at, atom_of, import_at, imports_at, export_at, exports_at, sized_at, literal_of, literal_at, literals_at, literals_in, wanted, tables_at, number_bytes, atom_bytes, placed, index_of, index_bytes, import_bytes, export_bytes, entries_bytes, table_bytes, atoms_bytes, literal_bytes, literals_bytes, tables_bytes, form_with}
+use Rattle.beam_model.specs.Tables.{Tables, TableFault, TableChunks, bad_table, ◌>>=◌, table_number_at, entries_at, utf8_text, table_atom_at, atoms_at, atom_of_index, import_at, imports_at, export_at, exports_at, sized_at, literal_of, literal_at, literals_at, literals_in, required_chunk, tables_at, number_bytes, atom_bytes, placed, index_of, index_bytes, import_bytes, export_bytes, entries_bytes, table_bytes, atoms_bytes, literal_bytes, literals_bytes, tables_bytes, form_with}
 
 -- the value of a step that did not fail
 bind_ok : {A B : Type 0} (r : Result A TableFault) (f : A → Result B TableFault) (y : B) → (r >>= f) ≡ Ok y → (x : A) × (r ≡ Ok x) × (f x ≡ Ok y)
@@ -44,40 +44,40 @@ at_equal f x y r e h = ap f e ∙ h
 
 -- ---- fields
 
-number_again : (n : ℕ) (bytes rest : List ℕ) → number_bytes n ≡ Ok bytes → number_at (bytes ++ rest) ≡ Ok (n, rest)
-unfolding number_bytes number_at
+number_again : (n : ℕ) (bytes rest : List ℕ) → number_bytes n ≡ Ok bytes → table_number_at (bytes ++ rest) ≡ Ok (n, rest)
+unfolding number_bytes table_number_at
 number_again n bytes rest e =
     let g = guard_true (ltb n (2 ^ 32)) bad_table (done (big_bytes 4 n)) bytes e in
     let lt : n < 2 ^ 32 = ltb-true _ _ g.0 in
     let is : big_bytes 4 n ≡ bytes = ok_is (big_bytes 4 n) bytes g.1 in
     let long : ltb (length (big_bytes 4 n ++ rest)) 4 ≡ false = le-ltb _ _ (omega arith) in
     let value : big_number 4 (big_bytes 4 n ++ rest) ≡ n = big_number-reads_back 4 n rest (omega arith) in
-    let read : number_at (big_bytes 4 n ++ rest) ≡ Ok (n, rest) = rw long (ap (λ (m : ℕ). done (m, rest)) value) in
-    ap (λ (b : List ℕ). number_at (b ++ rest)) (sym is) ∙ read
+    let read : table_number_at (big_bytes 4 n ++ rest) ≡ Ok (n, rest) = rw long (ap (λ (m : ℕ). done (m, rest)) value) in
+    ap (λ (b : List ℕ). table_number_at (b ++ rest)) (sym is) ∙ read
 
-text_is : (text t : List ℕ) → text_of text ≡ Ok t → text ≡ t
-unfolding text_of
+text_is : (text t : List ℕ) → utf8_text text ≡ Ok t → text ≡ t
+unfolding utf8_text
 text_is text t e = ok_is text t (guard_true (is_utf8 text) bad_table (done text) t e).1
 
-text_again : (text bytes rest : List ℕ) → atom_bytes text ≡ Ok bytes → atom_at (bytes ++ rest) ≡ Ok (text, rest)
-unfolding atom_bytes atom_at
+text_again : (text bytes rest : List ℕ) → atom_bytes text ≡ Ok bytes → table_atom_at (bytes ++ rest) ≡ Ok (text, rest)
+unfolding atom_bytes table_atom_at
 text_again text bytes rest e =
     let g = guard_ok (ltb 255 (length text)) bad_table _ bytes e in
-    let b = bind_ok (text_of text) (λ t. done (length text ∷ t)) bytes g.1 in
+    let b = bind_ok (utf8_text text) (λ t. done (length text ∷ t)) bytes g.1 in
     let same : text ≡ b.0 = text_is text b.0 b.1 in
     let is : length text ∷ text ≡ bytes = ap (λ (t : List ℕ). length text ∷ t) same ∙ ok_is (length text ∷ b.0) bytes b.2 in
-    let whole : text_of text ≡ Ok text = b.1 ∙ ap (λ (t : List ℕ). done t) (sym same) in
+    let whole : utf8_text text ≡ Ok text = b.1 ∙ ap (λ (t : List ℕ). done t) (sym same) in
     let long : ltb (length (text ++ rest)) (length text) ≡ false = le-ltb _ _ (omega (arith, length-append text rest)) in
-    let read : atom_at (length text ∷ (text ++ rest)) ≡ Ok (text, rest) = rw (long, take_at text rest (length text) refl, whole, drop_at text rest (length text) refl) refl in
-    ap (λ (x : List ℕ). atom_at (x ++ rest)) (sym is) ∙ read
+    let read : table_atom_at (length text ∷ (text ++ rest)) ≡ Ok (text, rest) = rw (long, take_at text rest (length text) refl, whole, drop_at text rest (length text) refl) refl in
+    ap (λ (x : List ℕ). table_atom_at (x ++ rest)) (sym is) ∙ read
 
 placed_ok : (o : Option ℕ) (index : ℕ) → placed o ≡ Ok index → (place : ℕ) × (o ≡ Some place) × (place + 1 ≡ index)
 placed_ok None index e = absurd cc
 placed_ok (Some place) index e = (place, refl, ok_is (place + 1) index e)
 
 -- the index of an atom names it
-atom_again : (atoms : List (List ℕ)) (text : List ℕ) (index : ℕ) → index_of atoms text ≡ Ok index → atom_of atoms index ≡ Ok text
-unfolding index_of atom_of
+atom_again : (atoms : List (List ℕ)) (text : List ℕ) (index : ℕ) → index_of atoms text ≡ Ok index → atom_of_index atoms index ≡ Ok text
+unfolding index_of atom_of_index
 atom_again atoms text index e =
     let p = placed_ok (position (bytes_eq text) atoms) index e in
     let q = position-Some (bytes_eq text) atoms p.0 [] p.1 in
@@ -89,8 +89,8 @@ atom_again atoms text index e =
 
 record Indexed (atoms : List (List ℕ)) (text bytes : List ℕ) : Type 0 where
   index : ℕ
-  again : (rest : List ℕ) → number_at (bytes ++ rest) ≡ Ok (index, rest)
-  atom : atom_of atoms index ≡ Ok text
+  again : (rest : List ℕ) → table_number_at (bytes ++ rest) ≡ Ok (index, rest)
+  atom : atom_of_index atoms index ≡ Ok text
 
 indexed : (atoms : List (List ℕ)) (text bytes : List ℕ) → index_bytes atoms text ≡ Ok bytes → Indexed atoms text bytes
 unfolding index_bytes
@@ -155,17 +155,17 @@ entries_again entry bytes_of (x ∷ xs) again bytes rest e =
     at_equal (entries_at entry (suc (length xs))) (bytes ++ rest) (a.0 ++ (b.0 ++ rest)) (Ok (x ∷ xs)) (paired bytes a.0 b.0 rest is) (rw (All-head (IsReadAgain entry bytes_of) x xs again a.0 (b.0 ++ rest) a.1, entries_again entry bytes_of xs (All-tail (IsReadAgain entry bytes_of) x xs again) b.0 rest b.1) refl)
 
 table_again : {X : Type 0} (entry : List ℕ → Result (X × List ℕ) TableFault) (bytes_of : X → Result (List ℕ) TableFault)
-    → (xs : List X) → All (IsReadAgain entry bytes_of) xs → (bytes : List ℕ) → table_bytes bytes_of xs ≡ Ok bytes → (rest : List ℕ) × (number_at bytes ≡ Ok (length xs, rest)) × (entries_at entry (length xs) rest ≡ Ok xs)
+    → (xs : List X) → All (IsReadAgain entry bytes_of) xs → (bytes : List ℕ) → table_bytes bytes_of xs ≡ Ok bytes → (rest : List ℕ) × (table_number_at bytes ≡ Ok (length xs, rest)) × (entries_at entry (length xs) rest ≡ Ok xs)
 unfolding table_bytes
 table_again entry bytes_of xs again bytes e =
     let a = bind_ok (number_bytes (length xs)) (λ count. entries_bytes bytes_of xs >>= λ entries. done (count ++ entries)) bytes e in
     let b = bind_ok (entries_bytes bytes_of xs) (λ entries. done (a.0 ++ entries)) bytes a.2 in
     let is : a.0 ++ b.0 ≡ bytes = ok_is (a.0 ++ b.0) bytes b.2 in
-    let count : number_at bytes ≡ Ok (length xs, b.0) = ap number_at (sym is) ∙ number_again (length xs) a.0 b.0 a.1 in
+    let count : table_number_at bytes ≡ Ok (length xs, b.0) = ap table_number_at (sym is) ∙ number_again (length xs) a.0 b.0 a.1 in
     let entries : entries_at entry (length xs) b.0 ≡ Ok xs = ap (entries_at entry (length xs)) (sym (append-nil b.0)) ∙ entries_again entry bytes_of xs again b.0 [] b.1 in
     (b.0, count, entries)
 
-atoms_from : (count : ℕ) (atoms : List (List ℕ)) (bytes rest : List ℕ) → (ltb 0 count && nat_le count 65535) ≡ true → number_at bytes ≡ Ok (count, rest) → entries_at atom_at count rest ≡ Ok atoms → atoms_at bytes ≡ Ok atoms
+atoms_from : (count : ℕ) (atoms : List (List ℕ)) (bytes rest : List ℕ) → (ltb 0 count && nat_le count 65535) ≡ true → table_number_at bytes ≡ Ok (count, rest) → entries_at table_atom_at count rest ≡ Ok atoms → atoms_at bytes ≡ Ok atoms
 unfolding atoms_at
 atoms_from count atoms bytes rest fits read entries = rw (read, fits, entries) refl
 
@@ -173,7 +173,7 @@ atoms_again : (atoms : List (List ℕ)) (bytes : List ℕ) → atoms_bytes atoms
 unfolding atoms_bytes
 atoms_again atoms bytes e =
     let g = guard_true (ltb 0 (length atoms) && nat_le (length atoms) 65535) bad_table _ bytes e in
-    let t = table_again atom_at atom_bytes atoms (λ k d lt. text_again _) bytes g.1 in
+    let t = table_again table_atom_at atom_bytes atoms (λ k d lt. text_again _) bytes g.1 in
     atoms_from (length atoms) atoms bytes t.0 g.0 t.1 t.2
 
 imports_again : (atoms : List (List ℕ)) (is : List Import) (bytes : List ℕ) → table_bytes (import_bytes atoms) is ≡ Ok bytes → imports_at atoms bytes ≡ Ok is
@@ -199,7 +199,7 @@ sized_again front size rest e =
 
 -- the bytes that are written for a term are read as that term
 abbrev pub IsReadBack : TermValue → Type 0
-IsReadBack t = external_at (written t) ≡ Ok (t, [])
+IsReadBack t = external_at (external_bytes t) ≡ Ok (t, [])
 
 literal_is : (t : TermValue) (front : List ℕ) → external_at front ≡ Ok (t, []) → literal_of front ≡ Ok t
 unfolding literal_of
@@ -208,13 +208,13 @@ literal_is t front e = rw e refl
 literal_again : (t : TermValue) → IsReadBack t → IsReadAgain literal_at literal_bytes t
 unfolding literal_bytes literal_at
 literal_again t again bytes rest e =
-    let s = bind_ok (number_bytes (length (written t))) (λ size. done (size ++ written t)) bytes e in
-    let is : s.0 ++ written t ≡ bytes = ok_is (s.0 ++ written t) bytes s.2 in
-    let field = sized_again (written t) s.0 rest s.1 in
-    let literal = literal_is t (written t) again in
-    at_equal literal_at (bytes ++ rest) (s.0 ++ (written t ++ rest)) (Ok (t, rest)) (paired bytes s.0 (written t) rest is) (rw (field, literal) refl)
+    let s = bind_ok (number_bytes (length (external_bytes t))) (λ size. done (size ++ external_bytes t)) bytes e in
+    let is : s.0 ++ external_bytes t ≡ bytes = ok_is (s.0 ++ external_bytes t) bytes s.2 in
+    let field = sized_again (external_bytes t) s.0 rest s.1 in
+    let literal = literal_is t (external_bytes t) again in
+    at_equal literal_at (bytes ++ rest) (s.0 ++ (external_bytes t ++ rest)) (Ok (t, rest)) (paired bytes s.0 (external_bytes t) rest is) (rw (field, literal) refl)
 
-literals_from : (count : ℕ) (ts : List TermValue) (bytes counted rest : List ℕ) → number_at bytes ≡ Ok (0, counted) → number_at counted ≡ Ok (count, rest) → entries_at literal_at count rest ≡ Ok ts → literals_at bytes ≡ Ok ts
+literals_from : (count : ℕ) (ts : List TermValue) (bytes counted rest : List ℕ) → table_number_at bytes ≡ Ok (0, counted) → table_number_at counted ≡ Ok (count, rest) → entries_at literal_at count rest ≡ Ok ts → literals_at bytes ≡ Ok ts
 unfolding literals_at
 literals_from count ts bytes counted rest first read entries = rw (first, read, entries) refl
 
@@ -235,7 +235,7 @@ literals_again (t ∷ ts) again chunk e =
 
 -- tables that are written are read again, whatever the code, where what is written of each literal is read as it
 pub tables_again : (t : Tables) (chunks : TableChunks) (code : List ℕ) → All IsReadBack t.literals → tables_bytes t ≡ Ok chunks → tables_at (form_with chunks code) ≡ Ok t
-unfolding tables_bytes tables_at wanted
+unfolding tables_bytes tables_at required_chunk
 tables_again t chunks code again e =
     let a = bind_ok (atoms_bytes t.atoms) (λ atoms. table_bytes (import_bytes t.atoms) t.imports >>= λ imports. table_bytes (export_bytes t.atoms) t.exports >>= λ exports. literals_bytes t.literals >>= λ literals. done (record { atoms = atoms; imports = imports; exports = exports; literals = literals })) chunks e in
     let i = bind_ok (table_bytes (import_bytes t.atoms) t.imports) (λ imports. table_bytes (export_bytes t.atoms) t.exports >>= λ exports. literals_bytes t.literals >>= λ literals. done (record { atoms = a.0; imports = imports; exports = exports; literals = literals })) chunks a.2 in

@@ -31,9 +31,9 @@ unfoldable pub is_reserved : List ℕ → Bool
 is_reserved text = list_any (λ w. bytes_eq w text) reserved_words
 
 -- an atom that is written without quotes
-abbrev pub is_bare : List ℕ → Bool
-is_bare [] = false
-is_bare (c ∷ cs) = is_lower c && not (is_reserved (c ∷ cs)) && list_all is_name cs
+abbrev pub is_unquoted : List ℕ → Bool
+is_unquoted [] = false
+is_unquoted (c ∷ cs) = is_lower c && not (is_reserved (c ∷ cs)) && list_all is_name cs
 
 -- a byte between quotes: the quote, the backslash and the control characters are escaped
 abbrev pub escaped : ℕ → List ℕ
@@ -43,7 +43,7 @@ escaped c =
     else c ∷ []
 
 abbrev pub atom_text : List ℕ → List ℕ
-atom_text text = if is_bare text then text else codes "'" ++ flat_map escaped text ++ codes "'"
+atom_text text = if is_unquoted text then text else codes "'" ++ flat_map escaped text ++ codes "'"
 
 abbrev pub pid_text : ℕ → ℕ → List ℕ
 pid_text id serial = codes "<0." ++ decimal id ++ codes "." ++ decimal serial ++ codes ">"

@@ -58,5 +58,5 @@ abbrev mutual
   AreFurther (more_terms x xs) text rest = Then (Mark 44) (Then (IsText x) (AreFurther xs)) text rest
 
 -- the whole text spells the term, with blanks before it and after it
-abbrev pub Spells : List ℕ → TermValue → Type 0
-Spells text t = IsText t (after_blanks text) []
+abbrev pub IsTextOf : List ℕ → TermValue → Type 0
+IsTextOf text t = IsText t (after_blanks text) []

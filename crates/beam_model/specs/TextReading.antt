@@ -5,7 +5,7 @@ use Rattle.std.specs.Char.{digit_value}
 use Rattle.std.specs.Str.{chars, is_utf8}
 use lib.Utf8.{scalar}
 use Rattle.beam_term.specs.TermValue.{TermValue, int_term, atom_term, nil_term, pair_term, tuple_of}
-use Rattle.beam_model.specs.Text.{is_digit, is_name, is_bare}
+use Rattle.beam_model.specs.Text.{is_digit, is_name, is_unquoted}
 pub use Rattle.beam_model.specs.Reading.{◌>>=◌}
 
 -- What reading the front of a text gives: a value and the text after it, or how much of the text is left at the fault.
@@ -128,20 +128,20 @@ name_len [] = 0
 name_len (c ∷ cs) = if is_name c then suc (name_len cs) else 0
 
 -- the atom of this name, which stands at the front of the text, and the text after it
-abbrev pub atom_of : List ℕ → List ℕ → List ℕ → Reading (List ℕ)
-atom_of text name rest = if is_atom_text name then Ok (name, after_blanks rest) else fault_at text
+abbrev pub checked_atom : List ℕ → List ℕ → List ℕ → Reading (List ℕ)
+checked_atom text name rest = if is_atom_text name then Ok (name, after_blanks rest) else fault_at text
 
-abbrev pub bare_atom_at : List ℕ → Reading (List ℕ)
-bare_atom_at text =
-    if is_bare (take (name_len text) text) then atom_of text (take (name_len text) text) (drop (name_len text) text) else fault_at text
+abbrev pub unquoted_atom_at : List ℕ → Reading (List ℕ)
+unquoted_atom_at text =
+    if is_unquoted (take (name_len text) text) then checked_atom text (take (name_len text) text) (drop (name_len text) text) else fault_at text
 
 unfoldable pub atom_at : List ℕ → Reading (List ℕ)
 atom_at [] = Err 0
 atom_at (c ∷ cs) =
     if c == 39 then (do
       name ← quoted_at 39 cs
-      atom_of (c ∷ cs) name.0 name.1)
-    else bare_atom_at (c ∷ cs)
+      checked_atom (c ∷ cs) name.0 name.1)
+    else unquoted_atom_at (c ∷ cs)
 
 -- a text in double quotes
 unfoldable pub string_at : List ℕ → Reading (List ℕ)

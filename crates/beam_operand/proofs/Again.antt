@@ -7,7 +7,7 @@ use Rattle.beam_model.specs.declared.compact.Compact.{Compact}
 use Rattle.beam_model.specs.declared.compact.Compact.TheVariants.{Number, Integer, Nil, Atom, X, Y, Label, Literal}
 use Rattle.beam_model.specs.declared.compact.CompactOperand.{CompactOperand}
 use Rattle.beam_model.specs.declared.compact.CompactOperand.TheVariants as operand
-use Rattle.beam_model.specs.Compact.{OperandFault, unsupported_operand, integer_too_large, ◌>>=◌, tag_of, tag_number, value_at, is_small, natural_at, integer_at, number_at, atom_of, register_of, extended_of, single_of, single_at, members_at, list_at, one, is_one, operand_of, operand_at, magnitude, field, single_spelling, members_spelling, spelling, HasNumbers, HaveNumbers, IsOperand}
+use Rattle.beam_model.specs.Compact.{OperandFault, unsupported_operand, integer_too_large, ◌>>=◌, compact_tag, tag_number, value_at, is_small, natural_at, compact_integer_at, number_at, atom_or_nil, register_of_tag, extended_of, single_of_tag, single_at, members_at, compact_list_at, as_operand, is_one, operand_of_tag, operand_at, magnitude, field, single_spelling, members_spelling, spelling, HasNumbers, HaveNumbers, HasOperandNumbers}
 use Rattle.beam_operand.proofs.Prefix.{bind_ok, ok_is}
 use Rattle.beam_operand.proofs.Fields.{field_is}
 
@@ -21,7 +21,7 @@ pub record IsSingle (text : List ℕ) (x : Compact) : Type 0 where
   pub parts : text ≡ first ∷ bytes
   pub again : (more : List ℕ) → single_at (first ∷ (bytes ++ more)) ≡ Ok (x, more)
 
-pub tag_is : (kind : CompactTag) (first : ℕ) → first % 8 ≡ tag_number kind → tag_of first ≡ kind
+pub tag_is : (kind : CompactTag) (first : ℕ) → first % 8 ≡ tag_number kind → compact_tag first ≡ kind
 tag_is tag.Number first e = rw e refl
 tag_is tag.Integer first e = rw e refl
 tag_is tag.Atom first e = rw e refl
@@ -44,7 +44,7 @@ number_again n more lt =
 
 -- a field, whose value determines the operand
 from_field : (kind : CompactTag) (z : ℤ) (x : Compact) → magnitude z < 2 ^ 63 → tag_number kind < 8
-    → ((first : ℕ) (bytes more : List ℕ) → value_at first bytes ≡ Ok (z, more) → single_of kind first bytes ≡ Ok (x, more))
+    → ((first : ℕ) (bytes more : List ℕ) → value_at first bytes ≡ Ok (z, more) → single_of_tag kind first bytes ≡ Ok (x, more))
     → IsSingle (field (tag_number kind) z) x
 from_field kind z x small below read =
     let f = field_is (tag_number kind) z below small in
@@ -52,31 +52,31 @@ from_field kind z x small below read =
       first = f.first;
       bytes = f.bytes;
       parts = f.parts;
-      again = λ more. ap (λ (t : CompactTag). single_of t f.first (f.bytes ++ more)) (tag_is kind f.first f.tagged) ∙ read f.first (f.bytes ++ more) more (f.again more);
+      again = λ more. ap (λ (t : CompactTag). single_of_tag t f.first (f.bytes ++ more)) (tag_is kind f.first f.tagged) ∙ read f.first (f.bytes ++ more) more (f.again more);
     }
 
-pub number_read : (n : ℕ) → n < 2 ^ 32 → (first : ℕ) (bytes more : List ℕ) → value_at first bytes ≡ Ok (pos n, more) → single_of tag.Number first bytes ≡ Ok (Number n, more)
-unfolding single_of
+pub number_read : (n : ℕ) → n < 2 ^ 32 → (first : ℕ) (bytes more : List ℕ) → value_at first bytes ≡ Ok (pos n, more) → single_of_tag tag.Number first bytes ≡ Ok (Number n, more)
+unfolding single_of_tag
 number_read n lt first bytes more h = rw (natural_again first n bytes more lt h) refl
 
-pub label_read : (n : ℕ) → n < 2 ^ 32 → (first : ℕ) (bytes more : List ℕ) → value_at first bytes ≡ Ok (pos n, more) → single_of tag.Label first bytes ≡ Ok (Label n, more)
-unfolding single_of
+pub label_read : (n : ℕ) → n < 2 ^ 32 → (first : ℕ) (bytes more : List ℕ) → value_at first bytes ≡ Ok (pos n, more) → single_of_tag tag.Label first bytes ≡ Ok (Label n, more)
+unfolding single_of_tag
 label_read n lt first bytes more h = rw (natural_again first n bytes more lt h) refl
 
-pub atom_read : (n : ℕ) → n < 2 ^ 32 → (first : ℕ) (bytes more : List ℕ) → value_at first bytes ≡ Ok (pos n, more) → single_of tag.Atom first bytes ≡ Ok (atom_of n, more)
-unfolding single_of
+pub atom_read : (n : ℕ) → n < 2 ^ 32 → (first : ℕ) (bytes more : List ℕ) → value_at first bytes ≡ Ok (pos n, more) → single_of_tag tag.Atom first bytes ≡ Ok (atom_or_nil n, more)
+unfolding single_of_tag
 atom_read n lt first bytes more h = rw (natural_again first n bytes more lt h) refl
 
-pub x_read : (n : ℕ) → n < 2 ^ 32 → (first : ℕ) (bytes more : List ℕ) → value_at first bytes ≡ Ok (pos n, more) → single_of tag.X first bytes ≡ Ok (X n, more)
-unfolding single_of register_of
+pub x_read : (n : ℕ) → n < 2 ^ 32 → (first : ℕ) (bytes more : List ℕ) → value_at first bytes ≡ Ok (pos n, more) → single_of_tag tag.X first bytes ≡ Ok (X n, more)
+unfolding single_of_tag register_of_tag
 x_read n lt first bytes more h = rw (natural_again first n bytes more lt h) refl
 
-pub y_read : (n : ℕ) → n < 2 ^ 32 → (first : ℕ) (bytes more : List ℕ) → value_at first bytes ≡ Ok (pos n, more) → single_of tag.Y first bytes ≡ Ok (Y n, more)
-unfolding single_of register_of
+pub y_read : (n : ℕ) → n < 2 ^ 32 → (first : ℕ) (bytes more : List ℕ) → value_at first bytes ≡ Ok (pos n, more) → single_of_tag tag.Y first bytes ≡ Ok (Y n, more)
+unfolding single_of_tag register_of_tag
 y_read n lt first bytes more h = rw (natural_again first n bytes more lt h) refl
 
-pub integer_read : (z : ℤ) → is_small z ≡ true → (first : ℕ) (bytes more : List ℕ) → value_at first bytes ≡ Ok (z, more) → single_of tag.Integer first bytes ≡ Ok (Integer z, more)
-unfolding single_of integer_at
+pub integer_read : (z : ℤ) → is_small z ≡ true → (first : ℕ) (bytes more : List ℕ) → value_at first bytes ≡ Ok (z, more) → single_of_tag tag.Integer first bytes ≡ Ok (Integer z, more)
+unfolding single_of_tag compact_integer_at
 integer_read z small first bytes more h = rw (h, small) refl
 
 small_fits : (z : ℤ) → is_small z ≡ true → magnitude z < 2 ^ 63
@@ -84,7 +84,7 @@ small_fits (pos n) e = omega (arith, ltb-true _ _ e)
 small_fits (negsuc n) e = omega (arith, ltb-true _ _ e)
 
 literal_is : (n : ℕ) → n < 2 ^ 32 → IsSingle (field 7 (pos 4) ++ field 0 (pos n)) (Literal n)
-unfolding single_of extended_of
+unfolding single_of_tag extended_of
 literal_is n lt =
     let f = field_is 7 (pos 4) (omega arith) (omega arith) in
     record {
@@ -92,8 +92,8 @@ literal_is n lt =
       bytes = f.bytes ++ field 0 (pos n);
       parts = ap (λ (t : List ℕ). t ++ field 0 (pos n)) f.parts;
       again = λ more.
-          ap (λ (t : CompactTag). single_of t f.first ((f.bytes ++ field 0 (pos n)) ++ more)) (tag_is tag.Extended f.first f.tagged)
-          ∙ ap (single_of tag.Extended f.first) (append_assoc f.bytes (field 0 (pos n)) more)
+          ap (λ (t : CompactTag). single_of_tag t f.first ((f.bytes ++ field 0 (pos n)) ++ more)) (tag_is tag.Extended f.first f.tagged)
+          ∙ ap (single_of_tag tag.Extended f.first) (append_assoc f.bytes (field 0 (pos n)) more)
           ∙ ap (λ (r : Result (ℤ × List ℕ) OperandFault). r >>= λ v. extended_of v.0 v.1) (f.again (field 0 (pos n) ++ more))
           ∙ ap (λ (r : Result (ℕ × List ℕ) OperandFault). r >>= λ index. Ok (Literal index.0, index.1)) (number_again n more lt);
     }
@@ -109,7 +109,7 @@ refused false f x y e = (refl, cc)
 as_text : (t text : List ℕ) (x : Compact) → done t ≡ Ok text → IsSingle t x → IsSingle text x
 as_text t text x e h = subst (λ (s : List ℕ). IsSingle s x) (ok_is {F = OperandFault} t text e) h
 
-pub atom_not_nil : (n : ℕ) → eqb n 0 ≡ false → atom_of n ≡ Atom n
+pub atom_not_nil : (n : ℕ) → eqb n 0 ≡ false → atom_or_nil n ≡ Atom n
 atom_not_nil zero e = absurd cc
 atom_not_nil (suc n) e = refl
 
@@ -146,19 +146,19 @@ members_again (x ∷ xs) text more h e =
 -- what is no list is read as one operand
 not_one : (z : ℤ) (bytes : List ℕ) (x : Compact × List ℕ) → extended_of z bytes ≡ Ok x → is_one z ≡ false
 unfolding extended_of
-not_one (pos n) bytes x e = ne_eqb n 1 (λ one. let none : extended_of (pos n) bytes ≡ Err unsupported_operand = rw one refl in let both : Err unsupported_operand ≡ Ok x = sym none ∙ e in absurd cc)
+not_one (pos n) bytes x e = ne_eqb n 1 (λ as_operand. let none : extended_of (pos n) bytes ≡ Err unsupported_operand = rw as_operand refl in let both : Err unsupported_operand ≡ Ok x = sym none ∙ e in absurd cc)
 not_one (negsuc n) bytes x e = refl
 
-extended_single : (first : ℕ) (bytes : List ℕ) (x : Compact) (rest : List ℕ) → single_of tag.Extended first bytes ≡ Ok (x, rest) → operand_of tag.Extended first bytes ≡ Ok (operand.One x, rest)
-unfolding operand_of single_of
+extended_single : (first : ℕ) (bytes : List ℕ) (x : Compact) (rest : List ℕ) → single_of_tag tag.Extended first bytes ≡ Ok (x, rest) → operand_of_tag tag.Extended first bytes ≡ Ok (operand.One x, rest)
+unfolding operand_of_tag single_of_tag
 extended_single first bytes x rest e =
     let b = bind_ok (value_at first bytes) (λ v. extended_of v.0 v.1) (x, rest) e in
-    ap (λ (r : Result (ℤ × List ℕ) OperandFault). r >>= λ v. cond (is_one v.0) (list_at v.1) (one (extended_of v.0 v.1))) b.1
-    ∙ ap (λ (t : Bool). cond t (list_at b.0.1) (one (extended_of b.0.0 b.0.1))) (not_one b.0.0 b.0.1 (x, rest) b.2)
-    ∙ ap one b.2
+    ap (λ (r : Result (ℤ × List ℕ) OperandFault). r >>= λ v. cond (is_one v.0) (compact_list_at v.1) (as_operand (extended_of v.0 v.1))) b.1
+    ∙ ap (λ (t : Bool). cond t (compact_list_at b.0.1) (as_operand (extended_of b.0.0 b.0.1))) (not_one b.0.0 b.0.1 (x, rest) b.2)
+    ∙ ap as_operand b.2
 
-pub from_single : (kind : CompactTag) (first : ℕ) (bytes : List ℕ) (x : Compact) (rest : List ℕ) → single_of kind first bytes ≡ Ok (x, rest) → operand_of kind first bytes ≡ Ok (operand.One x, rest)
-unfolding operand_of
+pub from_single : (kind : CompactTag) (first : ℕ) (bytes : List ℕ) (x : Compact) (rest : List ℕ) → single_of_tag kind first bytes ≡ Ok (x, rest) → operand_of_tag kind first bytes ≡ Ok (operand.One x, rest)
+unfolding operand_of_tag
 from_single tag.Number first bytes x rest e = rw e refl
 from_single tag.Integer first bytes x rest e = rw e refl
 from_single tag.Atom first bytes x rest e = rw e refl
@@ -191,11 +191,11 @@ list_parts xs text e =
       parts = sym (ok_is {F = OperandFault} ((field 7 (pos 1) ++ field 0 (pos (length xs))) ++ b.0) text b.2);
     }
 
-pub operand_again : (v : CompactOperand) (text more : List ℕ) → IsOperand v → spelling v ≡ Ok text → operand_at (text ++ more) ≡ Ok (v, more)
-unfolding spelling operand_of list_at
+pub operand_again : (v : CompactOperand) (text more : List ℕ) → HasOperandNumbers v → spelling v ≡ Ok text → operand_at (text ++ more) ≡ Ok (v, more)
+unfolding spelling operand_of_tag compact_list_at
 operand_again (operand.One x) text more h e =
     let s = single_again x text h e in
-    ap (λ (t : List ℕ). operand_at (t ++ more)) s.parts ∙ from_single (tag_of s.first) s.first (s.bytes ++ more) x more (s.again more)
+    ap (λ (t : List ℕ). operand_at (t ++ more)) s.parts ∙ from_single (compact_tag s.first) s.first (s.bytes ++ more) x more (s.again more)
 operand_again (operand.List xs) text more h e =
     let g = list_parts xs text e in
     let f = field_is 7 (pos 1) (omega arith) (omega arith) in
@@ -205,7 +205,7 @@ operand_again (operand.List xs) text more h e =
     ap (λ (t : List ℕ). t ++ more) g.parts ∙ append_assoc (field 7 (pos 1) ++ count) g.members more
     ∙ append_assoc (field 7 (pos 1)) count (g.members ++ more) ∙ ap (λ (t : List ℕ). t ++ (count ++ (g.members ++ more))) f.parts in
     ap operand_at parts
-    ∙ ap (λ (t : CompactTag). operand_of t f.first (f.bytes ++ (count ++ (g.members ++ more)))) (tag_is tag.Extended f.first f.tagged)
-    ∙ ap (λ (r : Result (ℤ × List ℕ) OperandFault). r >>= λ v. cond (is_one v.0) (list_at v.1) (one (extended_of v.0 v.1))) (f.again (count ++ (g.members ++ more)))
+    ∙ ap (λ (t : CompactTag). operand_of_tag t f.first (f.bytes ++ (count ++ (g.members ++ more)))) (tag_is tag.Extended f.first f.tagged)
+    ∙ ap (λ (r : Result (ℤ × List ℕ) OperandFault). r >>= λ v. cond (is_one v.0) (compact_list_at v.1) (as_operand (extended_of v.0 v.1))) (f.again (count ++ (g.members ++ more)))
     ∙ ap (λ (r : Result (ℕ × List ℕ) OperandFault). r >>= λ n. members_at n.0 n.1 >>= λ members. Ok (operand.List members.0, members.1)) (number_again (length xs) (g.members ++ more) g.short)
     ∙ ap (λ (r : Result (List Compact × List ℕ) OperandFault). r >>= λ members. Ok (operand.List members.0, members.1)) (members_again xs g.members more h g.spelled)

@@ -9,7 +9,7 @@ use Rattle.beam_model.specs.declared.compact.CompactTag.TheVariants as tag
 use Rattle.beam_model.specs.declared.compact.Compact.{Compact}
 use Rattle.beam_model.specs.declared.compact.Compact.TheVariants.{Number, Integer, X, Y, Label, Literal}
 use Rattle.beam_model.specs.declared.compact.CompactOperand.TheVariants as operand
-use Rattle.beam_model.specs.Compact.{OperandFault, truncated, unsupported_operand, integer_too_large, bad_sign, ◌>>=◌, tag_of, eleven_bits_at, wide_at, value_at, natural, is_small, natural_at, integer_at, number_at, atom_of, register_of, register_at, extended_of, single_of, single_at, members_at, list_at, one, is_one, operand_of, operand_at}
+use Rattle.beam_model.specs.Compact.{OperandFault, truncated, unsupported_operand, integer_too_large, bad_sign, ◌>>=◌, compact_tag, eleven_bits_at, wide_at, value_at, natural, is_small, natural_at, compact_integer_at, number_at, atom_or_nil, register_of_tag, register_at, extended_of, single_of_tag, single_at, members_at, compact_list_at, as_operand, is_one, operand_of_tag, operand_at}
 use Rattle.beam_operand.proofs.Prefix.{Reader, Took, IsPrefix, prefix_ok, prefix_err, prefix_if, prefix_bind, prefix_behind}
 
 -- a test that did not fail
@@ -61,8 +61,8 @@ pub prefix_natural : (first : ℕ) → IsPrefix (natural_at first)
 unfolding natural_at
 prefix_natural first = prefix_bind (value_at first) natural (prefix_value first) prefix_natural_of
 
-pub prefix_integer : (first : ℕ) → IsPrefix (integer_at first)
-unfolding integer_at
+pub prefix_integer : (first : ℕ) → IsPrefix (compact_integer_at first)
+unfolding compact_integer_at
 prefix_integer first =
     prefix_bind (value_at first) (λ z bytes. cond (is_small z) (Ok (z, bytes)) (Err integer_too_large)) (prefix_value first)
     (λ z. prefix_if (is_small z) (λ bytes. Ok (z, bytes)) (λ bytes. Err integer_too_large) (prefix_ok z) (prefix_err integer_too_large))
@@ -77,8 +77,8 @@ prefix_number =
 prefix_as : {B : Type 0} (f : ℕ → B) (first : ℕ) → IsPrefix (λ bytes. natural_at first bytes >>= λ n. Ok (f n.0, n.1))
 prefix_as f first = prefix_bind (natural_at first) (λ n bytes. Ok (f n, bytes)) (prefix_natural first) (λ n. prefix_ok (f n))
 
-pub prefix_register_of : (kind : CompactTag) (first : ℕ) → IsPrefix (register_of kind first)
-unfolding register_of
+pub prefix_register_of : (kind : CompactTag) (first : ℕ) → IsPrefix (register_of_tag kind first)
+unfolding register_of_tag
 prefix_register_of tag.X first = prefix_as X first
 prefix_register_of tag.Y first = prefix_as Y first
 prefix_register_of tag.Number first = prefix_err unsupported_operand
@@ -89,7 +89,7 @@ prefix_register_of tag.Character first = prefix_err unsupported_operand
 prefix_register_of tag.Extended first = prefix_err unsupported_operand
 
 pub prefix_register : IsPrefix register_at
-prefix_register = prefix_behind (λ first. register_of (tag_of first) first) (λ first. prefix_register_of (tag_of first) first)
+prefix_register = prefix_behind (λ first. register_of_tag (compact_tag first) first) (λ first. prefix_register_of (compact_tag first) first)
 
 pub prefix_extended : (z : ℤ) → IsPrefix (extended_of z)
 unfolding extended_of
@@ -102,11 +102,11 @@ prefix_extended (pos n) =
     (prefix_err unsupported_operand))
 prefix_extended (negsuc n) = prefix_err unsupported_operand
 
-pub prefix_single_of : (kind : CompactTag) (first : ℕ) → IsPrefix (single_of kind first)
-unfolding single_of
+pub prefix_single_of : (kind : CompactTag) (first : ℕ) → IsPrefix (single_of_tag kind first)
+unfolding single_of_tag
 prefix_single_of tag.Number first = prefix_as Number first
-prefix_single_of tag.Integer first = prefix_bind (integer_at first) (λ z bytes. Ok (Integer z, bytes)) (prefix_integer first) (λ z. prefix_ok (Integer z))
-prefix_single_of tag.Atom first = prefix_as atom_of first
+prefix_single_of tag.Integer first = prefix_bind (compact_integer_at first) (λ z bytes. Ok (Integer z, bytes)) (prefix_integer first) (λ z. prefix_ok (Integer z))
+prefix_single_of tag.Atom first = prefix_as atom_or_nil first
 prefix_single_of tag.X first = prefix_register_of tag.X first
 prefix_single_of tag.Y first = prefix_register_of tag.Y first
 prefix_single_of tag.Label first = prefix_as Label first
@@ -114,7 +114,7 @@ prefix_single_of tag.Character first = prefix_err unsupported_operand
 prefix_single_of tag.Extended first = prefix_bind (value_at first) extended_of (prefix_value first) prefix_extended
 
 pub prefix_single : IsPrefix single_at
-prefix_single = prefix_behind (λ first. single_of (tag_of first) first) (λ first. prefix_single_of (tag_of first) first)
+prefix_single = prefix_behind (λ first. single_of_tag (compact_tag first) first) (λ first. prefix_single_of (compact_tag first) first)
 
 pub prefix_members : (n : ℕ) → IsPrefix (members_at n)
 unfolding members_at
@@ -123,27 +123,27 @@ prefix_members (suc n) =
     prefix_bind single_at (λ member bytes. members_at n bytes >>= λ others. Ok (member ∷ others.0, others.1)) prefix_single
     (λ member. prefix_bind (members_at n) (λ others bytes. Ok (member ∷ others, bytes)) (prefix_members n) (λ others. prefix_ok (member ∷ others)))
 
-pub prefix_list : IsPrefix list_at
-unfolding list_at
+pub prefix_list : IsPrefix compact_list_at
+unfolding compact_list_at
 prefix_list =
     prefix_bind number_at (λ count bytes. members_at count bytes >>= λ members. Ok (operand.List members.0, members.1)) prefix_number
     (λ count. prefix_bind (members_at count) (λ members bytes. Ok (operand.List members, bytes)) (prefix_members count) (λ members. prefix_ok (operand.List members)))
 
-prefix_one : (r : Reader Compact) → IsPrefix r → IsPrefix (λ bytes. one (r bytes))
+prefix_one : (r : Reader Compact) → IsPrefix r → IsPrefix (λ bytes. as_operand (r bytes))
 prefix_one r h = prefix_bind r (λ x bytes. Ok (operand.One x, bytes)) h (λ x. prefix_ok (operand.One x))
 
-pub prefix_operand_of : (kind : CompactTag) (first : ℕ) → IsPrefix (operand_of kind first)
-unfolding operand_of
-prefix_operand_of tag.Number first = prefix_one (single_of tag.Number first) (prefix_single_of tag.Number first)
-prefix_operand_of tag.Integer first = prefix_one (single_of tag.Integer first) (prefix_single_of tag.Integer first)
-prefix_operand_of tag.Atom first = prefix_one (single_of tag.Atom first) (prefix_single_of tag.Atom first)
-prefix_operand_of tag.X first = prefix_one (single_of tag.X first) (prefix_single_of tag.X first)
-prefix_operand_of tag.Y first = prefix_one (single_of tag.Y first) (prefix_single_of tag.Y first)
-prefix_operand_of tag.Label first = prefix_one (single_of tag.Label first) (prefix_single_of tag.Label first)
-prefix_operand_of tag.Character first = prefix_one (single_of tag.Character first) (prefix_single_of tag.Character first)
+pub prefix_operand_of : (kind : CompactTag) (first : ℕ) → IsPrefix (operand_of_tag kind first)
+unfolding operand_of_tag
+prefix_operand_of tag.Number first = prefix_one (single_of_tag tag.Number first) (prefix_single_of tag.Number first)
+prefix_operand_of tag.Integer first = prefix_one (single_of_tag tag.Integer first) (prefix_single_of tag.Integer first)
+prefix_operand_of tag.Atom first = prefix_one (single_of_tag tag.Atom first) (prefix_single_of tag.Atom first)
+prefix_operand_of tag.X first = prefix_one (single_of_tag tag.X first) (prefix_single_of tag.X first)
+prefix_operand_of tag.Y first = prefix_one (single_of_tag tag.Y first) (prefix_single_of tag.Y first)
+prefix_operand_of tag.Label first = prefix_one (single_of_tag tag.Label first) (prefix_single_of tag.Label first)
+prefix_operand_of tag.Character first = prefix_one (single_of_tag tag.Character first) (prefix_single_of tag.Character first)
 prefix_operand_of tag.Extended first =
-    prefix_bind (value_at first) (λ z bytes. cond (is_one z) (list_at bytes) (one (extended_of z bytes))) (prefix_value first)
-    (λ z. prefix_if (is_one z) list_at (λ bytes. one (extended_of z bytes)) prefix_list (prefix_one (extended_of z) (prefix_extended z)))
+    prefix_bind (value_at first) (λ z bytes. cond (is_one z) (compact_list_at bytes) (as_operand (extended_of z bytes))) (prefix_value first)
+    (λ z. prefix_if (is_one z) compact_list_at (λ bytes. as_operand (extended_of z bytes)) prefix_list (prefix_one (extended_of z) (prefix_extended z)))
 
 pub prefix_operand : IsPrefix operand_at
-prefix_operand = prefix_behind (λ first. operand_of (tag_of first) first) (λ first. prefix_operand_of (tag_of first) first)
+prefix_operand = prefix_behind (λ first. operand_of_tag (compact_tag first) first) (λ first. prefix_operand_of (compact_tag first) first)

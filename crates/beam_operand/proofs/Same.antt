@@ -6,7 +6,7 @@ use Rattle.std.specs.Prelude.{slice_index, MatchResult}
 use Rattle.beam_model.specs.declared.compact.Compact.TheVariants.{Integer, Literal, X}
 use Rattle.beam_model.specs.declared.compact.CompactOperand.{CompactOperand}
 use Rattle.beam_model.specs.declared.compact.CompactOperand.TheVariants as operand
-use Rattle.beam_model.specs.Compact.{OperandFault, truncated, operand_at, Spells, IsOperand, spelling}
+use Rattle.beam_model.specs.Compact.{OperandFault, truncated, operand_at, SpellsOperand, HasOperandNumbers, spelling}
 use Rattle.beam_model.specs.CompactForm.{IsSpelling}
 use Rattle.beam_operand.proofs.Again.{operand_again}
 use Rattle.beam_operand.proofs.Fronts.{no_other, cut}
@@ -14,12 +14,12 @@ use Rattle.beam_operand.proofs.Shortest.{shortest}
 use Rattle.beam_operand.proofs.Spelled.{operand_spelled}
 use Rattle.beam_operand.proofs.Told.{operand_told}
 
-pub told_whole : (text : List ℕ) (v : CompactOperand) → Spells text v → IsSpelling v text
+pub told_whole : (text : List ℕ) (v : CompactOperand) → SpellsOperand text v → IsSpelling v text
 told_whole text v e =
     let t = operand_told text (v, []) e in
     subst (IsSpelling v) (sym (t.parts ∙ append-nil t.text)) t.is
 
-pub spelled_whole : (text : List ℕ) (v : CompactOperand) → IsSpelling v text → Spells text v
+pub spelled_whole : (text : List ℕ) (v : CompactOperand) → IsSpelling v text → SpellsOperand text v
 spelled_whole text v h = ap operand_at (sym (append-nil text)) ∙ operand_spelled v text [] h
 
 pub no_other_spelling : (text other more rest : List ℕ) (v w : CompactOperand) → IsSpelling v text → IsSpelling w other → text ++ more ≡ other ++ rest → (text ≡ other) × (v ≡ w)
@@ -28,7 +28,7 @@ no_other_spelling text other more rest v w s t e = no_other text other more rest
 pub cut_spelling : (text more : List ℕ) (v : CompactOperand) → more ≢ [] → IsSpelling v (text ++ more) → operand_at text ≡ Err truncated
 cut_spelling text more v ne s = cut text more v ne (spelled_whole (text ++ more) v s)
 
-pub written_spells : (v : CompactOperand) (text : List ℕ) → IsOperand v → spelling v ≡ Ok text → IsSpelling v text
+pub written_spells : (v : CompactOperand) (text : List ℕ) → HasOperandNumbers v → spelling v ≡ Ok text → IsSpelling v text
 written_spells v text h e = told_whole text v (ap operand_at (sym (append-nil text)) ∙ operand_again v text [] h e)
 
 pub shortest_spelling : (other : List ℕ) (v : CompactOperand) → ((i : ℕ) → slice_index other i < 256) → IsSpelling v other → (text : List ℕ) × (spelling v ≡ Ok text) × (length text ≤ length other)

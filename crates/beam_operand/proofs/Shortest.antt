@@ -12,7 +12,7 @@ use Rattle.beam_model.specs.declared.compact.Compact.{Compact}
 use Rattle.beam_model.specs.declared.compact.Compact.TheVariants.{Number, Integer, X, Y, Label, Literal}
 use Rattle.beam_model.specs.declared.compact.CompactOperand.{CompactOperand}
 use Rattle.beam_model.specs.declared.compact.CompactOperand.TheVariants as operand
-use Rattle.beam_model.specs.Compact.{OperandFault, truncated, unsupported_operand, integer_too_large, ◌>>=◌, tag_of, eleven_bits_at, wide_at, value_at, natural, is_small, natural_at, integer_at, number_at, atom_of, register_of, register_at, extended_of, single_of, single_at, members_at, list_at, one, is_one, operand_of, Spells, magnitude, wide_length, wide_of, field, single_spelling, members_spelling, spelling}
+use Rattle.beam_model.specs.Compact.{OperandFault, truncated, unsupported_operand, integer_too_large, ◌>>=◌, compact_tag, eleven_bits_at, wide_at, value_at, natural, is_small, natural_at, compact_integer_at, number_at, atom_or_nil, register_of_tag, register_at, extended_of, single_of_tag, single_at, members_at, compact_list_at, as_operand, is_one, operand_of_tag, SpellsOperand, magnitude, wide_length, wide_of, field, single_spelling, members_spelling, spelling}
 use Rattle.beam_operand.proofs.Prefix.{bind_ok, ok_is}
 
 abbrev pub IsBytes : List ℕ → Type 0
@@ -260,15 +260,15 @@ y_short : (size n : ℕ) (rest : List ℕ) → Natural size n rest → IsShort s
 unfolding single_spelling
 y_short size n rest h = record { text = field 4 (pos n); is = refl; no_longer = h.no_longer 4; fits = h.fits }
 
-atom_short : (size n : ℕ) (rest : List ℕ) → Natural size n rest → IsShort size (atom_of n, rest)
+atom_short : (size n : ℕ) (rest : List ℕ) → Natural size n rest → IsShort size (atom_or_nil n, rest)
 unfolding single_spelling
 atom_short size zero rest h = record { text = field 2 (pos 0); is = refl; no_longer = h.no_longer 2; fits = h.fits }
 atom_short size (suc n) rest h =
     let some : eqb (suc n) 0 ≡ false = ne_eqb _ _ (λ e. omega arith) in
     record { text = field 2 (pos (suc n)); is = rw some refl; no_longer = h.no_longer 2; fits = h.fits }
 
-integer_short : (first : ℕ) (bytes : List ℕ) (q : ℤ × List ℕ) → first < 256 → IsBytes bytes → integer_at first bytes ≡ Ok q → IsShort (suc (length bytes)) (Integer q.0, q.1)
-unfolding single_spelling integer_at
+integer_short : (first : ℕ) (bytes : List ℕ) (q : ℤ × List ℕ) → first < 256 → IsBytes bytes → compact_integer_at first bytes ≡ Ok q → IsShort (suc (length bytes)) (Integer q.0, q.1)
+unfolding single_spelling compact_integer_at
 integer_short first bytes q lt fits e =
     let b = bind_ok (value_at first bytes) (λ v. cond (is_small v.0) (Ok v) (Err integer_too_large)) q e in
     let f = value_field first bytes b.0 lt fits b.1 in
@@ -286,8 +286,8 @@ short_as f first bytes q lt fits short e =
     let b = bind_ok (natural_at first bytes) (λ n. Ok (f n.0, n.1)) q e in
     short_of_pair (suc (length bytes)) (f b.0.0, b.0.1) q b.2 (short (suc (length bytes)) b.0.0 b.0.1 (natural_field first bytes b.0 lt fits b.1))
 
-register_short : (kind : CompactTag) (first : ℕ) (bytes : List ℕ) (q : Compact × List ℕ) → first < 256 → IsBytes bytes → register_of kind first bytes ≡ Ok q → IsShort (suc (length bytes)) q
-unfolding register_of
+register_short : (kind : CompactTag) (first : ℕ) (bytes : List ℕ) (q : Compact × List ℕ) → first < 256 → IsBytes bytes → register_of_tag kind first bytes ≡ Ok q → IsShort (suc (length bytes)) q
+unfolding register_of_tag
 register_short tag.X first bytes q lt fits e = short_as X first bytes q lt fits x_short e
 register_short tag.Y first bytes q lt fits e = short_as Y first bytes q lt fits y_short e
 register_short tag.Number first bytes q lt fits e = absurd cc
@@ -299,7 +299,7 @@ register_short tag.Extended first bytes q lt fits e = absurd cc
 
 register_at_short : (bytes : List ℕ) (q : Compact × List ℕ) → IsBytes bytes → register_at bytes ≡ Ok q → IsShort (length bytes) q
 register_at_short [] q fits e = absurd cc
-register_at_short (first ∷ bytes) q fits e = register_short (tag_of first) first bytes q (fits 0) (rest_fits first bytes fits) e
+register_at_short (first ∷ bytes) q fits e = register_short (compact_tag first) first bytes q (fits 0) (rest_fits first bytes fits) e
 
 literal_short : (bytes : List ℕ) (q : Compact × List ℕ) → IsBytes bytes → (number_at bytes >>= λ index. Ok (Literal index.0, index.1)) ≡ Ok q → IsShort (suc (length bytes)) q
 unfolding single_spelling
@@ -333,13 +333,13 @@ extended_short (negsuc n) bytes q fits e = absurd cc
 shorter_size : (spelled : Result (List ℕ) OperandFault) (m n : ℕ) (rest : List ℕ) → m ≤ n → Shorter spelled m rest → Shorter spelled n rest
 shorter_size spelled m n rest le s = record { text = s.text; is = s.is; no_longer = omega (arith, s.no_longer); fits = s.fits }
 
-single_short : (kind : CompactTag) (first : ℕ) (bytes : List ℕ) (q : Compact × List ℕ) → first < 256 → IsBytes bytes → single_of kind first bytes ≡ Ok q → IsShort (suc (length bytes)) q
-unfolding single_of
+single_short : (kind : CompactTag) (first : ℕ) (bytes : List ℕ) (q : Compact × List ℕ) → first < 256 → IsBytes bytes → single_of_tag kind first bytes ≡ Ok q → IsShort (suc (length bytes)) q
+unfolding single_of_tag
 single_short tag.Number first bytes q lt fits e = short_as Number first bytes q lt fits number_short e
 single_short tag.Integer first bytes q lt fits e =
-    let b = bind_ok (integer_at first bytes) (λ z. Ok (Integer z.0, z.1)) q e in
+    let b = bind_ok (compact_integer_at first bytes) (λ z. Ok (Integer z.0, z.1)) q e in
     short_of_pair (suc (length bytes)) (Integer b.0.0, b.0.1) q b.2 (integer_short first bytes b.0 lt fits b.1)
-single_short tag.Atom first bytes q lt fits e = short_as atom_of first bytes q lt fits atom_short e
+single_short tag.Atom first bytes q lt fits e = short_as atom_or_nil first bytes q lt fits atom_short e
 single_short tag.X first bytes q lt fits e = register_short tag.X first bytes q lt fits e
 single_short tag.Y first bytes q lt fits e = register_short tag.Y first bytes q lt fits e
 single_short tag.Label first bytes q lt fits e = short_as Label first bytes q lt fits label_short e
@@ -352,7 +352,7 @@ single_short tag.Extended first bytes q lt fits e =
 
 single_at_short : (bytes : List ℕ) (q : Compact × List ℕ) → IsBytes bytes → single_at bytes ≡ Ok q → IsShort (length bytes) q
 single_at_short [] q fits e = absurd cc
-single_at_short (first ∷ bytes) q fits e = single_short (tag_of first) first bytes q (fits 0) (rest_fits first bytes fits) e
+single_at_short (first ∷ bytes) q fits e = single_short (compact_tag first) first bytes q (fits 0) (rest_fits first bytes fits) e
 
 record Members (n size : ℕ) (q : List Compact × List ℕ) : Type 0 where
   count : length q.0 ≡ n
@@ -379,8 +379,8 @@ members_short (suc n) bytes q fits e =
       };
     })
 
-list_short : (bytes : List ℕ) (q : CompactOperand × List ℕ) → IsBytes bytes → list_at bytes ≡ Ok q → Shorter (spelling q.0) (suc (length bytes)) q.1
-unfolding list_at spelling
+list_short : (bytes : List ℕ) (q : CompactOperand × List ℕ) → IsBytes bytes → compact_list_at bytes ≡ Ok q → Shorter (spelling q.0) (suc (length bytes)) q.1
+unfolding compact_list_at spelling
 list_short bytes q fits e =
     let a = bind_ok (number_at bytes) (λ count. members_at count.0 count.1 >>= λ members. Ok (operand.List members.0, members.1)) q e in
     let b = bind_ok (members_at a.0.0 a.0.1) (λ members. Ok (operand.List members.0, members.1)) q a.2 in
@@ -396,33 +396,33 @@ list_short bytes q fits e =
       fits = m.short.fits;
     })
 
-one_short : (r : Result (Compact × List ℕ) OperandFault) (size : ℕ) (q : CompactOperand × List ℕ) → ((p : Compact × List ℕ) → r ≡ Ok p → IsShort size p) → one r ≡ Ok q → Shorter (spelling q.0) size q.1
+one_short : (r : Result (Compact × List ℕ) OperandFault) (size : ℕ) (q : CompactOperand × List ℕ) → ((p : Compact × List ℕ) → r ≡ Ok p → IsShort size p) → as_operand r ≡ Ok q → Shorter (spelling q.0) size q.1
 unfolding spelling
 one_short (Ok p) size q short e = subst (λ (r : CompactOperand × List ℕ). Shorter (spelling r.0) size r.1) (ok_is {F = OperandFault} (operand.One p.0, p.1) q e) (short p refl)
 one_short (Err f) size q short e = absurd cc
 
-operand_short : (kind : CompactTag) (first : ℕ) (bytes : List ℕ) (q : CompactOperand × List ℕ) → first < 256 → IsBytes bytes → operand_of kind first bytes ≡ Ok q → Shorter (spelling q.0) (suc (length bytes)) q.1
-unfolding operand_of
-operand_short tag.Number first bytes q lt fits e = one_short (single_of tag.Number first bytes) (suc (length bytes)) q (λ p h. single_short tag.Number first bytes p lt fits h) e
-operand_short tag.Integer first bytes q lt fits e = one_short (single_of tag.Integer first bytes) (suc (length bytes)) q (λ p h. single_short tag.Integer first bytes p lt fits h) e
-operand_short tag.Atom first bytes q lt fits e = one_short (single_of tag.Atom first bytes) (suc (length bytes)) q (λ p h. single_short tag.Atom first bytes p lt fits h) e
-operand_short tag.X first bytes q lt fits e = one_short (single_of tag.X first bytes) (suc (length bytes)) q (λ p h. single_short tag.X first bytes p lt fits h) e
-operand_short tag.Y first bytes q lt fits e = one_short (single_of tag.Y first bytes) (suc (length bytes)) q (λ p h. single_short tag.Y first bytes p lt fits h) e
-operand_short tag.Label first bytes q lt fits e = one_short (single_of tag.Label first bytes) (suc (length bytes)) q (λ p h. single_short tag.Label first bytes p lt fits h) e
-operand_short tag.Character first bytes q lt fits e = one_short (single_of tag.Character first bytes) (suc (length bytes)) q (λ p h. single_short tag.Character first bytes p lt fits h) e
+operand_short : (kind : CompactTag) (first : ℕ) (bytes : List ℕ) (q : CompactOperand × List ℕ) → first < 256 → IsBytes bytes → operand_of_tag kind first bytes ≡ Ok q → Shorter (spelling q.0) (suc (length bytes)) q.1
+unfolding operand_of_tag
+operand_short tag.Number first bytes q lt fits e = one_short (single_of_tag tag.Number first bytes) (suc (length bytes)) q (λ p h. single_short tag.Number first bytes p lt fits h) e
+operand_short tag.Integer first bytes q lt fits e = one_short (single_of_tag tag.Integer first bytes) (suc (length bytes)) q (λ p h. single_short tag.Integer first bytes p lt fits h) e
+operand_short tag.Atom first bytes q lt fits e = one_short (single_of_tag tag.Atom first bytes) (suc (length bytes)) q (λ p h. single_short tag.Atom first bytes p lt fits h) e
+operand_short tag.X first bytes q lt fits e = one_short (single_of_tag tag.X first bytes) (suc (length bytes)) q (λ p h. single_short tag.X first bytes p lt fits h) e
+operand_short tag.Y first bytes q lt fits e = one_short (single_of_tag tag.Y first bytes) (suc (length bytes)) q (λ p h. single_short tag.Y first bytes p lt fits h) e
+operand_short tag.Label first bytes q lt fits e = one_short (single_of_tag tag.Label first bytes) (suc (length bytes)) q (λ p h. single_short tag.Label first bytes p lt fits h) e
+operand_short tag.Character first bytes q lt fits e = one_short (single_of_tag tag.Character first bytes) (suc (length bytes)) q (λ p h. single_short tag.Character first bytes p lt fits h) e
 operand_short tag.Extended first bytes q lt fits e =
-    let b = bind_ok (value_at first bytes) (λ v. cond (is_one v.0) (list_at v.1) (one (extended_of v.0 v.1))) q e in
+    let b = bind_ok (value_at first bytes) (λ v. cond (is_one v.0) (compact_list_at v.1) (as_operand (extended_of v.0 v.1))) q e in
     let f = value_field first bytes b.0 lt fits b.1 in
     let behind : length b.0.1 < suc (length bytes) = f.behind in
-    elim (chosen (is_one b.0.0) (list_at b.0.1) (one (extended_of b.0.0 b.0.1)) (Ok q) b.2) [
+    elim (chosen (is_one b.0.0) (compact_list_at b.0.1) (as_operand (extended_of b.0.0 b.0.1)) (Ok q) b.2) [
       | inl h ↦ shorter_size (spelling q.0) (suc (length b.0.1)) (suc (length bytes)) q.1 (omega arith) (list_short b.0.1 q f.fits h.1)
       | inr h ↦ shorter_size (spelling q.0) (suc (length b.0.1)) (suc (length bytes)) q.1 (omega arith)
           (one_short (extended_of b.0.0 b.0.1) (suc (length b.0.1)) q (λ p g. extended_short b.0.0 b.0.1 p f.fits g) h.1)
     ]
 
-shortest_by : (bytes : List ℕ) (v : CompactOperand) → IsBytes bytes → Spells bytes v → Shorter (spelling v) (length bytes) []
+shortest_by : (bytes : List ℕ) (v : CompactOperand) → IsBytes bytes → SpellsOperand bytes v → Shorter (spelling v) (length bytes) []
 shortest_by [] v fits e = absurd cc
-shortest_by (first ∷ bytes) v fits e = operand_short (tag_of first) first bytes (v, []) (fits 0) (rest_fits first bytes fits) e
+shortest_by (first ∷ bytes) v fits e = operand_short (compact_tag first) first bytes (v, []) (fits 0) (rest_fits first bytes fits) e
 
-pub shortest : (other : List ℕ) (v : CompactOperand) → ((i : ℕ) → get_or other i 0 < 256) → Spells other v → (text : List ℕ) × (spelling v ≡ Ok text) × (length text ≤ length other)
+pub shortest : (other : List ℕ) (v : CompactOperand) → ((i : ℕ) → get_or other i 0 < 256) → SpellsOperand other v → (text : List ℕ) × (spelling v ≡ Ok text) × (length text ≤ length other)
 shortest other v fits e = let s = shortest_by other v fits e in (s.text, s.is, omega (arith, s.no_longer))

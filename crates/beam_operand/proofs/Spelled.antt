@@ -12,8 +12,8 @@ use Rattle.beam_model.specs.declared.compact.Compact.{Compact}
 use Rattle.beam_model.specs.declared.compact.Compact.TheVariants.{Number, Integer, Nil, Atom, X, Y, Label, Literal}
 use Rattle.beam_model.specs.declared.compact.CompactOperand.{CompactOperand}
 use Rattle.beam_model.specs.declared.compact.CompactOperand.TheVariants as operand
-use Rattle.beam_model.specs.Compact.{OperandFault, ◌>>=◌, tag_of, tag_number, value_at, is_small, number_at, atom_of, register_of, register_at, extended_of, single_of, single_at, members_at, list_at, one, is_one, operand_of, operand_at}
-use Rattle.beam_model.specs.CompactForm.{IsFourBits, IsElevenBits, IsWide, IsValue, IsField, IsNumber, IsRegister, IsLiteral, IsTyped, IsSingle, AreMembers, IsListed, IsSpelling}
+use Rattle.beam_model.specs.Compact.{OperandFault, ◌>>=◌, compact_tag, tag_number, value_at, is_small, number_at, atom_or_nil, register_of_tag, register_at, extended_of, single_of_tag, single_at, members_at, compact_list_at, as_operand, is_one, operand_of_tag, operand_at}
+use Rattle.beam_model.specs.CompactForm.{IsFourBits, IsElevenBits, IsWide, IsValue, IsField, IsTaggedNumber, IsRegister, IsLiteralOperand, IsTyped, IsSingle, AreMembers, IsListed, IsSpelling}
 use Rattle.beam_operand.proofs.Again.{tag_is, natural_again, number_read, label_read, atom_read, x_read, y_read, integer_read, atom_not_nil, from_single}
 
 four_spelled : (first : ℕ) (z : ℤ) (rest more : List ℕ) → IsFourBits first rest z → value_at first (rest ++ more) ≡ Ok (z, more)
@@ -50,7 +50,7 @@ value_spelled first z rest more (inl f) = four_spelled first z rest more f
 value_spelled first z rest more (inr (inl f)) = eleven_spelled first z rest more f
 value_spelled first z rest more (inr (inr f)) = wide_spelled first z rest more f
 
-number_spelled : (n : ℕ) (text more : List ℕ) → IsNumber 0 n text → number_at (text ++ more) ≡ Ok (n, more)
+number_spelled : (n : ℕ) (text more : List ℕ) → IsTaggedNumber 0 n text → number_at (text ++ more) ≡ Ok (n, more)
 unfolding number_at
 number_spelled n [] more h = absurd h.0
 number_spelled n (first ∷ rest) more h =
@@ -58,14 +58,14 @@ number_spelled n (first ∷ rest) more h =
     rw untagged (natural_again first n (rest ++ more) more h.1 (value_spelled first (pos n) rest more h.0.1))
 
 register_spelled : (x : Compact) (text more : List ℕ) → IsRegister x text → register_at (text ++ more) ≡ Ok (x, more)
-unfolding register_of
+unfolding register_of_tag
 register_spelled (X n) [] more h = absurd h.0
 register_spelled (X n) (first ∷ rest) more h =
-    ap (λ (t : CompactTag). register_of t first (rest ++ more)) (tag_is tag.X first h.0.0)
+    ap (λ (t : CompactTag). register_of_tag t first (rest ++ more)) (tag_is tag.X first h.0.0)
     ∙ rw (natural_again first n (rest ++ more) more h.1 (value_spelled first (pos n) rest more h.0.1)) refl
 register_spelled (Y n) [] more h = absurd h.0
 register_spelled (Y n) (first ∷ rest) more h =
-    ap (λ (t : CompactTag). register_of t first (rest ++ more)) (tag_is tag.Y first h.0.0)
+    ap (λ (t : CompactTag). register_of_tag t first (rest ++ more)) (tag_is tag.Y first h.0.0)
     ∙ rw (natural_again first n (rest ++ more) more h.1 (value_spelled first (pos n) rest more h.0.1)) refl
 register_spelled (Number n) text more h = absurd h
 register_spelled (Integer z) text more h = absurd h
@@ -76,11 +76,11 @@ register_spelled (Literal n) text more h = absurd h
 
 -- an operand that the value of a field gives
 from_value : (kind : CompactTag) (z : ℤ) (x : Compact) (text more : List ℕ) → IsField (tag_number kind) z text
-    → ((first : ℕ) (bytes rest : List ℕ) → value_at first bytes ≡ Ok (z, rest) → single_of kind first bytes ≡ Ok (x, rest))
+    → ((first : ℕ) (bytes rest : List ℕ) → value_at first bytes ≡ Ok (z, rest) → single_of_tag kind first bytes ≡ Ok (x, rest))
     → single_at (text ++ more) ≡ Ok (x, more)
 from_value kind z x [] more h read = absurd h
 from_value kind z x (first ∷ rest) more h read =
-    ap (λ (t : CompactTag). single_of t first (rest ++ more)) (tag_is kind first h.0) ∙ read first (rest ++ more) more (value_spelled first z rest more h.1)
+    ap (λ (t : CompactTag). single_of_tag t first (rest ++ more)) (tag_is kind first h.0) ∙ read first (rest ++ more) more (value_spelled first z rest more h.1)
 
 is_in_range : (z : ℤ) → IsSmall z → is_small z ≡ true
 is_in_range (pos n) h = lt-ltb _ _ (omega (arith, ints, h.1))
@@ -88,15 +88,15 @@ is_in_range (negsuc n) h = lt-ltb _ _ (omega (arith, ints, h.0))
 
 -- an operand that begins with a field under z is read by the rest after it
 after_mark : (z : ℤ) (mark text more : List ℕ) (x : Compact) → IsField 7 z mark → extended_of z (text ++ more) ≡ Ok (x, more) → single_at ((mark ++ text) ++ more) ≡ Ok (x, more)
-unfolding single_of
+unfolding single_of_tag
 after_mark z [] text more x m e = absurd m
 after_mark z (first ∷ rest) text more x m e =
-    ap (λ (t : CompactTag). single_of t first ((rest ++ text) ++ more)) (tag_is tag.Extended first m.0)
-    ∙ ap (single_of tag.Extended first) (append_assoc rest text more)
+    ap (λ (t : CompactTag). single_of_tag t first ((rest ++ text) ++ more)) (tag_is tag.Extended first m.0)
+    ∙ ap (single_of_tag tag.Extended first) (append_assoc rest text more)
     ∙ ap (λ (r : Result (ℤ × List ℕ) OperandFault). r >>= λ v. extended_of v.0 v.1) (value_spelled first z rest (text ++ more) m.1)
     ∙ e
 
-literal_spelled : (n : ℕ) (text more : List ℕ) → IsLiteral n text → single_at (text ++ more) ≡ Ok (Literal n, more)
+literal_spelled : (n : ℕ) (text more : List ℕ) → IsLiteralOperand n text → single_at (text ++ more) ≡ Ok (Literal n, more)
 unfolding extended_of
 literal_spelled n text more l =
     let read : number_at (l.index ++ more) ≡ Ok (n, more) = number_spelled n l.index more l.is_index in
@@ -135,19 +135,19 @@ members_spelled (x ∷ xs) text more h =
 
 single_operand : (x : Compact) (bytes rest : List ℕ) → single_at bytes ≡ Ok (x, rest) → operand_at bytes ≡ Ok (operand.One x, rest)
 single_operand x [] rest e = absurd cc
-single_operand x (first ∷ bytes) rest e = from_single (tag_of first) first bytes x rest e
+single_operand x (first ∷ bytes) rest e = from_single (compact_tag first) first bytes x rest e
 
-list_after_mark : (xs : List Compact) (mark text more : List ℕ) → IsField 7 (pos 1) mark → list_at (text ++ more) ≡ Ok (operand.List xs, more) → operand_at ((mark ++ text) ++ more) ≡ Ok (operand.List xs, more)
-unfolding operand_of
+list_after_mark : (xs : List Compact) (mark text more : List ℕ) → IsField 7 (pos 1) mark → compact_list_at (text ++ more) ≡ Ok (operand.List xs, more) → operand_at ((mark ++ text) ++ more) ≡ Ok (operand.List xs, more)
+unfolding operand_of_tag
 list_after_mark xs [] text more m e = absurd m
 list_after_mark xs (first ∷ rest) text more m e =
-    ap (λ (t : CompactTag). operand_of t first ((rest ++ text) ++ more)) (tag_is tag.Extended first m.0)
-    ∙ ap (operand_of tag.Extended first) (append_assoc rest text more)
-    ∙ ap (λ (r : Result (ℤ × List ℕ) OperandFault). r >>= λ v. cond (is_one v.0) (list_at v.1) (one (extended_of v.0 v.1))) (value_spelled first (pos 1) rest (text ++ more) m.1)
+    ap (λ (t : CompactTag). operand_of_tag t first ((rest ++ text) ++ more)) (tag_is tag.Extended first m.0)
+    ∙ ap (operand_of_tag tag.Extended first) (append_assoc rest text more)
+    ∙ ap (λ (r : Result (ℤ × List ℕ) OperandFault). r >>= λ v. cond (is_one v.0) (compact_list_at v.1) (as_operand (extended_of v.0 v.1))) (value_spelled first (pos 1) rest (text ++ more) m.1)
     ∙ e
 
 list_spelled : (xs : List Compact) (text more : List ℕ) → IsListed xs text → operand_at (text ++ more) ≡ Ok (operand.List xs, more)
-unfolding list_at
+unfolding compact_list_at
 list_spelled xs text more l =
     let parts : (l.count ++ l.members) ++ more ≡ l.count ++ (l.members ++ more) = append_assoc l.count l.members more in
     let count : number_at (l.count ++ (l.members ++ more)) ≡ Ok (length xs, l.members ++ more) = number_spelled (length xs) l.count (l.members ++ more) l.is_count in

@@ -10,8 +10,8 @@ use Rattle.beam_model.specs.declared.compact.Compact.{Compact}
 use Rattle.beam_model.specs.declared.compact.Compact.TheVariants.{Number, Integer, Nil, Atom, X, Y, Label, Literal}
 use Rattle.beam_model.specs.declared.compact.CompactOperand.{CompactOperand}
 use Rattle.beam_model.specs.declared.compact.CompactOperand.TheVariants as operand
-use Rattle.beam_model.specs.Compact.{OperandFault, truncated, unsupported_operand, integer_too_large, ◌>>=◌, tag_of, tag_number, eleven_bits_at, wide_at, value_at, natural, is_small, natural_at, integer_at, number_at, atom_of, register_of, register_at, extended_of, single_of, single_at, members_at, list_at, one, is_one, operand_of, operand_at}
-use Rattle.beam_model.specs.CompactForm.{IsFourBits, IsElevenBits, IsWide, IsValue, IsField, IsNumber, IsRegister, IsLiteral, IsTyped, IsSingle, AreMembers, IsListed, IsSpelling}
+use Rattle.beam_model.specs.Compact.{OperandFault, truncated, unsupported_operand, integer_too_large, ◌>>=◌, compact_tag, tag_number, eleven_bits_at, wide_at, value_at, natural, is_small, natural_at, compact_integer_at, number_at, atom_or_nil, register_of_tag, register_at, extended_of, single_of_tag, single_at, members_at, compact_list_at, as_operand, is_one, operand_of_tag, operand_at}
+use Rattle.beam_model.specs.CompactForm.{IsFourBits, IsElevenBits, IsWide, IsValue, IsField, IsTaggedNumber, IsRegister, IsLiteralOperand, IsTyped, IsSingle, AreMembers, IsListed, IsSpelling}
 use Rattle.beam_operand.proofs.Prefix.{bind_ok, ok_is}
 use Rattle.beam_operand.proofs.Reading.{guard_ok}
 use Rattle.beam_operand.proofs.Small.{chosen, is_small_is}
@@ -116,8 +116,8 @@ natural_told first bytes q e =
       is = (subst (λ (z : ℤ). IsValue first z t.text) n.0 t.is, n.2);
     }
 
-integer_told : (first : ℕ) (bytes : List ℕ) (q : Value) → integer_at first bytes ≡ Ok q → Stands bytes q.1 (λ text. IsSingle (Integer q.0) (first ∷ text)) ⊎ (first % 8 ≢ 1)
-unfolding integer_at
+integer_told : (first : ℕ) (bytes : List ℕ) (q : Value) → compact_integer_at first bytes ≡ Ok q → Stands bytes q.1 (λ text. IsSingle (Integer q.0) (first ∷ text)) ⊎ (first % 8 ≢ 1)
+unfolding compact_integer_at
 integer_told first bytes q e =
     let b = bind_ok (value_at first bytes) (λ v. cond (is_small v.0) (Ok v) (Err integer_too_large)) q e in
     elim (chosen (is_small b.0.0) (Ok b.0) (Err integer_too_large) (Ok q) b.2) [
@@ -129,7 +129,7 @@ integer_told first bytes q e =
     go true r t small = inl (record { text = t.text; parts = t.parts; is = ((eqb-true _ _ r, t.is), is_small_is q.0 small) })
     go false r t small = inr (eqb-false _ _ r)
 
-number_told : (bytes : List ℕ) (q : ℕ × List ℕ) → number_at bytes ≡ Ok q → Stands bytes q.1 (IsNumber 0 q.0)
+number_told : (bytes : List ℕ) (q : ℕ × List ℕ) → number_at bytes ≡ Ok q → Stands bytes q.1 (IsTaggedNumber 0 q.0)
 unfolding number_at
 number_told [] q e = absurd cc
 number_told (first ∷ bytes) q e =
@@ -157,13 +157,13 @@ number_of_tag (suc (suc (suc (suc (suc (suc zero)))))) h = refl
 number_of_tag (suc (suc (suc (suc (suc (suc (suc zero))))))) h = refl
 number_of_tag (suc (suc (suc (suc (suc (suc (suc (suc m)))))))) h = absurd (omega arith)
 
-tagged : (first : ℕ) (kind : CompactTag) → tag_of first ≡ kind → first % 8 ≡ tag_number kind
+tagged : (first : ℕ) (kind : CompactTag) → compact_tag first ≡ kind → first % 8 ≡ tag_number kind
 tagged first kind e = sym (number_of_tag (first % 8) (omega arith)) ∙ ap tag_number e
 
 -- ---- operands that are no lists
 
 -- a number under a tag, as an operand
-named : (f : ℕ → Compact) (first : ℕ) (bytes : List ℕ) (q : Compact × List ℕ) (k : ℕ) → first % 8 ≡ k → ((n : ℕ) (text : List ℕ) → IsNumber k n text → IsSingle (f n) text)
+named : (f : ℕ → Compact) (first : ℕ) (bytes : List ℕ) (q : Compact × List ℕ) (k : ℕ) → first % 8 ≡ k → ((n : ℕ) (text : List ℕ) → IsTaggedNumber k n text → IsSingle (f n) text)
     → (natural_at first bytes >>= λ n. Ok (f n.0, n.1)) ≡ Ok q → Stands (first ∷ bytes) q.1 (IsSingle q.0)
 named f first bytes q k under is e =
     let b = bind_ok (natural_at first bytes) (λ n. Ok (f n.0, n.1)) q e in
@@ -171,11 +171,11 @@ named f first bytes q k under is e =
     subst (λ (p : Compact × List ℕ). Stands (first ∷ bytes) p.1 (IsSingle p.0)) (ok_is {F = OperandFault} (f b.0.0, b.0.1) q b.2)
     (record { text = first ∷ t.text; parts = ap (λ (bs : List ℕ). first ∷ bs) t.parts; is = is b.0.0 (first ∷ t.text) ((under, t.is.0), t.is.1) })
 
-atom_is : (n : ℕ) (text : List ℕ) → IsNumber 2 n text → IsSingle (atom_of n) text
+atom_is : (n : ℕ) (text : List ℕ) → IsTaggedNumber 2 n text → IsSingle (atom_or_nil n) text
 atom_is zero text h = h
 atom_is (suc n) text h = (h, λ e. absurd cc)
 
-register_as : (f : ℕ → Compact) (first : ℕ) (bytes : List ℕ) (q : Compact × List ℕ) (k : ℕ) → first % 8 ≡ k → ((n : ℕ) (text : List ℕ) → IsNumber k n text → IsRegister (f n) text)
+register_as : (f : ℕ → Compact) (first : ℕ) (bytes : List ℕ) (q : Compact × List ℕ) (k : ℕ) → first % 8 ≡ k → ((n : ℕ) (text : List ℕ) → IsTaggedNumber k n text → IsRegister (f n) text)
     → (natural_at first bytes >>= λ n. Ok (f n.0, n.1)) ≡ Ok q → Stands (first ∷ bytes) q.1 (IsRegister q.0)
 register_as f first bytes q k under is e =
     let b = bind_ok (natural_at first bytes) (λ n. Ok (f n.0, n.1)) q e in
@@ -183,8 +183,8 @@ register_as f first bytes q k under is e =
     subst (λ (p : Compact × List ℕ). Stands (first ∷ bytes) p.1 (IsRegister p.0)) (ok_is {F = OperandFault} (f b.0.0, b.0.1) q b.2)
     (record { text = first ∷ t.text; parts = ap (λ (bs : List ℕ). first ∷ bs) t.parts; is = is b.0.0 (first ∷ t.text) ((under, t.is.0), t.is.1) })
 
-register_of_told : (kind : CompactTag) (first : ℕ) (bytes : List ℕ) (q : Compact × List ℕ) → first % 8 ≡ tag_number kind → register_of kind first bytes ≡ Ok q → Stands (first ∷ bytes) q.1 (IsRegister q.0)
-unfolding register_of
+register_of_told : (kind : CompactTag) (first : ℕ) (bytes : List ℕ) (q : Compact × List ℕ) → first % 8 ≡ tag_number kind → register_of_tag kind first bytes ≡ Ok q → Stands (first ∷ bytes) q.1 (IsRegister q.0)
+unfolding register_of_tag
 register_of_told tag.X first bytes q under e = register_as X first bytes q 3 under (λ n text h. h) e
 register_of_told tag.Y first bytes q under e = register_as Y first bytes q 4 under (λ n text h. h) e
 register_of_told tag.Number first bytes q under e = absurd cc
@@ -196,7 +196,7 @@ register_of_told tag.Extended first bytes q under e = absurd cc
 
 register_told : (bytes : List ℕ) (q : Compact × List ℕ) → register_at bytes ≡ Ok q → Stands bytes q.1 (IsRegister q.0)
 register_told [] q e = absurd cc
-register_told (first ∷ bytes) q e = register_of_told (tag_of first) first bytes q (tagged first (tag_of first) refl) e
+register_told (first ∷ bytes) q e = register_of_told (compact_tag first) first bytes q (tagged first (compact_tag first) refl) e
 
 -- one text after another
 joined : (mark bytes text middle rest : List ℕ) → bytes ≡ mark ++ middle → middle ≡ text ++ rest → bytes ≡ (mark ++ text) ++ rest
@@ -259,20 +259,20 @@ extended_told (pos n) mark bytes middle q parts is_mark e =
     ]
 extended_told (negsuc n) mark bytes middle q parts is_mark e = absurd cc
 
-integer_single : (first : ℕ) (bytes : List ℕ) (q : Compact × List ℕ) → first % 8 ≡ 1 → (integer_at first bytes >>= λ z. Ok (Integer z.0, z.1)) ≡ Ok q → Stands (first ∷ bytes) q.1 (IsSingle q.0)
+integer_single : (first : ℕ) (bytes : List ℕ) (q : Compact × List ℕ) → first % 8 ≡ 1 → (compact_integer_at first bytes >>= λ z. Ok (Integer z.0, z.1)) ≡ Ok q → Stands (first ∷ bytes) q.1 (IsSingle q.0)
 integer_single first bytes q under e =
-    let b = bind_ok (integer_at first bytes) (λ z. Ok (Integer z.0, z.1)) q e in
+    let b = bind_ok (compact_integer_at first bytes) (λ z. Ok (Integer z.0, z.1)) q e in
     elim (integer_told first bytes b.0 b.1) [
       | inl t ↦ subst (λ (p : Compact × List ℕ). Stands (first ∷ bytes) p.1 (IsSingle p.0)) (ok_is {F = OperandFault} (Integer b.0.0, b.0.1) q b.2)
           (record { text = first ∷ t.text; parts = ap (λ (bs : List ℕ). first ∷ bs) t.parts; is = t.is })
       | inr other ↦ absurd (other under)
     ]
 
-single_of_told : (kind : CompactTag) (first : ℕ) (bytes : List ℕ) (q : Compact × List ℕ) → first % 8 ≡ tag_number kind → single_of kind first bytes ≡ Ok q → Stands (first ∷ bytes) q.1 (IsSingle q.0)
-unfolding single_of register_of
+single_of_told : (kind : CompactTag) (first : ℕ) (bytes : List ℕ) (q : Compact × List ℕ) → first % 8 ≡ tag_number kind → single_of_tag kind first bytes ≡ Ok q → Stands (first ∷ bytes) q.1 (IsSingle q.0)
+unfolding single_of_tag register_of_tag
 single_of_told tag.Number first bytes q under e = named Number first bytes q 0 under (λ n text h. h) e
 single_of_told tag.Integer first bytes q under e = integer_single first bytes q under e
-single_of_told tag.Atom first bytes q under e = named atom_of first bytes q 2 under atom_is e
+single_of_told tag.Atom first bytes q under e = named atom_or_nil first bytes q 2 under atom_is e
 single_of_told tag.X first bytes q under e = named X first bytes q 3 under (λ n text h. inl h) e
 single_of_told tag.Y first bytes q under e = named Y first bytes q 4 under (λ n text h. inl h) e
 single_of_told tag.Label first bytes q under e = named Label first bytes q 5 under (λ n text h. h) e
@@ -284,7 +284,7 @@ single_of_told tag.Extended first bytes q under e =
 
 single_told : (bytes : List ℕ) (q : Compact × List ℕ) → single_at bytes ≡ Ok q → Stands bytes q.1 (IsSingle q.0)
 single_told [] q e = absurd cc
-single_told (first ∷ bytes) q e = single_of_told (tag_of first) first bytes q (tagged first (tag_of first) refl) e
+single_told (first ∷ bytes) q e = single_of_told (compact_tag first) first bytes q (tagged first (compact_tag first) refl) e
 
 -- ---- lists
 
@@ -310,8 +310,8 @@ members_told (suc n) bytes q e =
       },
     )
 
-list_told : (mark bytes middle : List ℕ) (q : CompactOperand × List ℕ) → bytes ≡ mark ++ middle → IsField 7 (pos 1) mark → list_at middle ≡ Ok q → Stands bytes q.1 (IsSpelling q.0)
-unfolding list_at
+list_told : (mark bytes middle : List ℕ) (q : CompactOperand × List ℕ) → bytes ≡ mark ++ middle → IsField 7 (pos 1) mark → compact_list_at middle ≡ Ok q → Stands bytes q.1 (IsSpelling q.0)
+unfolding compact_list_at
 list_told mark bytes middle q parts is_mark e =
     let a = bind_ok (number_at middle) (λ count. members_at count.0 count.1 >>= λ members. Ok (operand.List members.0, members.1)) q e in
     let b = bind_ok (members_at a.0.0 a.0.1) (λ members. Ok (operand.List members.0, members.1)) q a.2 in
@@ -327,7 +327,7 @@ list_told mark bytes middle q parts is_mark e =
         members = m.1.text;
         parts = refl;
         is_mark = is_mark;
-        is_count = subst (λ (n : ℕ). IsNumber 0 n c.text) (sym m.0) c.is;
+        is_count = subst (λ (n : ℕ). IsTaggedNumber 0 n c.text) (sym m.0) c.is;
         are_members = m.1.is;
       };
     })
@@ -335,7 +335,7 @@ list_told mark bytes middle q parts is_mark e =
 -- ---- operands
 
 one_told : (bytes : List ℕ) (r : Result (Compact × List ℕ) OperandFault) (q : CompactOperand × List ℕ) → ((p : Compact × List ℕ) → r ≡ Ok p → Stands bytes p.1 (IsSingle p.0))
-    → one r ≡ Ok q → Stands bytes q.1 (IsSpelling q.0)
+    → as_operand r ≡ Ok q → Stands bytes q.1 (IsSpelling q.0)
 one_told bytes (Ok p) q told e =
     let t = told p refl in
     subst (λ (o : CompactOperand × List ℕ). Stands bytes o.1 (IsSpelling o.0)) (ok_is {F = OperandFault} (operand.One p.0, p.1) q e)
@@ -346,24 +346,24 @@ one_is : (z : ℤ) → is_one z ≡ true → z ≡ pos 1
 one_is (pos n) e = ap pos (eqb-true _ _ e)
 one_is (negsuc n) e = absurd cc
 
-operand_of_told : (kind : CompactTag) (first : ℕ) (bytes : List ℕ) (q : CompactOperand × List ℕ) → first % 8 ≡ tag_number kind → operand_of kind first bytes ≡ Ok q → Stands (first ∷ bytes) q.1 (IsSpelling q.0)
-unfolding operand_of
-operand_of_told tag.Number first bytes q under e = one_told (first ∷ bytes) (single_of tag.Number first bytes) q (λ p. single_of_told tag.Number first bytes p under) e
-operand_of_told tag.Integer first bytes q under e = one_told (first ∷ bytes) (single_of tag.Integer first bytes) q (λ p. single_of_told tag.Integer first bytes p under) e
-operand_of_told tag.Atom first bytes q under e = one_told (first ∷ bytes) (single_of tag.Atom first bytes) q (λ p. single_of_told tag.Atom first bytes p under) e
-operand_of_told tag.X first bytes q under e = one_told (first ∷ bytes) (single_of tag.X first bytes) q (λ p. single_of_told tag.X first bytes p under) e
-operand_of_told tag.Y first bytes q under e = one_told (first ∷ bytes) (single_of tag.Y first bytes) q (λ p. single_of_told tag.Y first bytes p under) e
-operand_of_told tag.Label first bytes q under e = one_told (first ∷ bytes) (single_of tag.Label first bytes) q (λ p. single_of_told tag.Label first bytes p under) e
-operand_of_told tag.Character first bytes q under e = one_told (first ∷ bytes) (single_of tag.Character first bytes) q (λ p. single_of_told tag.Character first bytes p under) e
+operand_of_told : (kind : CompactTag) (first : ℕ) (bytes : List ℕ) (q : CompactOperand × List ℕ) → first % 8 ≡ tag_number kind → operand_of_tag kind first bytes ≡ Ok q → Stands (first ∷ bytes) q.1 (IsSpelling q.0)
+unfolding operand_of_tag
+operand_of_told tag.Number first bytes q under e = one_told (first ∷ bytes) (single_of_tag tag.Number first bytes) q (λ p. single_of_told tag.Number first bytes p under) e
+operand_of_told tag.Integer first bytes q under e = one_told (first ∷ bytes) (single_of_tag tag.Integer first bytes) q (λ p. single_of_told tag.Integer first bytes p under) e
+operand_of_told tag.Atom first bytes q under e = one_told (first ∷ bytes) (single_of_tag tag.Atom first bytes) q (λ p. single_of_told tag.Atom first bytes p under) e
+operand_of_told tag.X first bytes q under e = one_told (first ∷ bytes) (single_of_tag tag.X first bytes) q (λ p. single_of_told tag.X first bytes p under) e
+operand_of_told tag.Y first bytes q under e = one_told (first ∷ bytes) (single_of_tag tag.Y first bytes) q (λ p. single_of_told tag.Y first bytes p under) e
+operand_of_told tag.Label first bytes q under e = one_told (first ∷ bytes) (single_of_tag tag.Label first bytes) q (λ p. single_of_told tag.Label first bytes p under) e
+operand_of_told tag.Character first bytes q under e = one_told (first ∷ bytes) (single_of_tag tag.Character first bytes) q (λ p. single_of_told tag.Character first bytes p under) e
 operand_of_told tag.Extended first bytes q under e =
-    let b = bind_ok (value_at first bytes) (λ v. cond (is_one v.0) (list_at v.1) (one (extended_of v.0 v.1))) q e in
+    let b = bind_ok (value_at first bytes) (λ v. cond (is_one v.0) (compact_list_at v.1) (as_operand (extended_of v.0 v.1))) q e in
     let t = value_told first bytes b.0 b.1 in
     let parts : first ∷ bytes ≡ (first ∷ t.text) ++ b.0.1 = ap (λ (bs : List ℕ). first ∷ bs) t.parts in
-    elim (chosen (is_one b.0.0) (list_at b.0.1) (one (extended_of b.0.0 b.0.1)) (Ok q) b.2) [
+    elim (chosen (is_one b.0.0) (compact_list_at b.0.1) (as_operand (extended_of b.0.0 b.0.1)) (Ok q) b.2) [
       | inl h ↦ list_told (first ∷ t.text) (first ∷ bytes) b.0.1 q parts (subst (λ (z : ℤ). IsField 7 z (first ∷ t.text)) (one_is b.0.0 h.0) (under, t.is)) h.1
       | inr h ↦ one_told (first ∷ bytes) (extended_of b.0.0 b.0.1) q (λ p. extended_told b.0.0 (first ∷ t.text) (first ∷ bytes) b.0.1 p parts (under, t.is)) h.1
     ]
 
 pub operand_told : (bytes : List ℕ) (q : CompactOperand × List ℕ) → operand_at bytes ≡ Ok q → Stands bytes q.1 (IsSpelling q.0)
 operand_told [] q e = absurd cc
-operand_told (first ∷ bytes) q e = operand_of_told (tag_of first) first bytes q (tagged first (tag_of first) refl) e
+operand_told (first ∷ bytes) q e = operand_of_told (compact_tag first) first bytes q (tagged first (compact_tag first) refl) e

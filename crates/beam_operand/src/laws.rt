@@ -4,7 +4,7 @@ ghost use Rattle.std.specs.Prelude.{◌≡◌, ◌≢◌, ◌<◌, ◌≤◌, �
 ghost use Rattle.beam_model.specs.declared.compact.Compact.TheVariants.{Integer, Literal, X};
 ghost use Rattle.beam_model.specs.declared.compact.CompactOperand.{CompactOperand};
 ghost use Rattle.beam_model.specs.declared.compact.CompactOperand.TheVariants.{List as ListOperand, One};
-ghost use Rattle.beam_model.specs.Compact.{OperandFault, truncated, operand_at, IsOperand, spelling};
+ghost use Rattle.beam_model.specs.Compact.{OperandFault, truncated, operand_at, HasOperandNumbers, spelling};
 ghost use Rattle.beam_model.specs.CompactForm.{IsSpelling};
 
 /// Reading from the left gives exactly the operand at the front by the format's definition: an operand is read, with any bytes after
@@ -40,8 +40,8 @@ pub fn faults_from_the_left()
 
 /// The bytes that are written for an operand spell it, and are read as it, whatever bytes follow.
 pub fn written_is_read()
-    ensures spells { (v : CompactOperand) (text : List ℕ) → IsOperand v → spelling v ≡ Ok text → IsSpelling v text }
-    ensures again { (v : CompactOperand) (text more : List ℕ) → IsOperand v → spelling v ≡ Ok text
+    ensures spells { (v : CompactOperand) (text : List ℕ) → HasOperandNumbers v → spelling v ≡ Ok text → IsSpelling v text }
+    ensures again { (v : CompactOperand) (text more : List ℕ) → HasOperandNumbers v → spelling v ≡ Ok text
         → operand_at (text ++ more) ≡ Ok (v, more) }
 {}
 

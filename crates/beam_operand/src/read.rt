@@ -2,7 +2,7 @@
 
 ghost use Rattle.std.specs.Prelude.{◌≡◌, ◌≢◌, ◌≤◌, ◌++◌, ℕ, List, IfOk, IfErr, MatchResult, length, take, drop};
 ghost use Rattle.beam_model.specs.declared.compact.CompactOperand.{CompactOperand};
-ghost use Rattle.beam_model.specs.Compact.{tag_of, value_at, natural, natural_at, integer_at, number_at, register_of, register_at, extended_of, single_of, single_at, members_at, list_at, operand_of, operand_at, HasSmall, HasSmallIntegers};
+ghost use Rattle.beam_model.specs.Compact.{compact_tag, value_at, natural, natural_at, compact_integer_at, number_at, register_of_tag, register_at, extended_of, single_of_tag, single_at, members_at, compact_list_at, operand_of_tag, operand_at, HasSmall, HasSmallIntegers};
 ghost use Rattle.beam_model.specs.CompactForm.{IsSpelling};
 ghost use Rattle.beam_operand.specs.Faults.{Gives};
 
@@ -13,7 +13,7 @@ use std::alloc::Global;
 
 #[inline]
 fn tag(first: u8) -> CompactTag
-    ensures { result ≡ tag_of first }
+    ensures { result ≡ compact_tag first }
 {
     match first % 8 {
         0 => CompactTag::Number,
@@ -69,9 +69,9 @@ fn natural_behind(first: u8, bytes: &[u8]) -> Result<(u32, &[u8]), OperandError>
 }
 
 #[inline]
-#[tactic(auto, unfolding(beam_model::specs::Compact::integer_at))]
+#[tactic(auto, unfolding(beam_model::specs::Compact::compact_integer_at))]
 fn integer_behind(first: u8, bytes: &[u8]) -> Result<(i64, &[u8]), OperandError>
-    ensures exact { Gives (λ r. (r.0, r.1.now)) result (integer_at first bytes.now) }
+    ensures exact { Gives (λ r. (r.0, r.1.now)) result (compact_integer_at first bytes.now) }
     ensures memory { IfErr result (λ e. e ≢ OperandError.NoMemory) }
 {
     let (value, rest) = value(first, bytes)?;
@@ -100,13 +100,13 @@ fn number(bytes: &[u8]) -> Result<(u32, &[u8]), OperandError>
 }
 
 #[inline]
-#[tactic(auto, unfolding(beam_model::specs::Compact::register_of))]
+#[tactic(auto, unfolding(beam_model::specs::Compact::register_of_tag))]
 fn register_behind(
     tag: CompactTag,
     first: u8,
     bytes: &[u8],
 ) -> Result<(Compact, &[u8]), OperandError>
-    ensures exact { Gives (λ r. (r.0, r.1.now)) result (register_of tag first bytes.now) }
+    ensures exact { Gives (λ r. (r.0, r.1.now)) result (register_of_tag tag first bytes.now) }
     ensures memory { IfErr result (λ e. e ≢ OperandError.NoMemory) }
 {
     match tag {
@@ -154,9 +154,9 @@ fn extended(value: i64, bytes: &[u8]) -> Result<(Compact, &[u8]), OperandError>
 }
 
 #[inline]
-#[tactic(auto, unfolding(beam_model::specs::Compact::single_of))]
+#[tactic(auto, unfolding(beam_model::specs::Compact::single_of_tag))]
 fn single_behind(tag: CompactTag, first: u8, bytes: &[u8]) -> Result<(Compact, &[u8]), OperandError>
-    ensures exact { Gives (λ r. (r.0, r.1.now)) result (single_of tag first bytes.now) }
+    ensures exact { Gives (λ r. (r.0, r.1.now)) result (single_of_tag tag first bytes.now) }
     ensures memory { IfErr result (λ e. e ≢ OperandError.NoMemory) }
 {
     match tag {
@@ -218,23 +218,23 @@ fn members(alloc: Global, count: u32, bytes: &[u8]) -> Result<(Vec<Compact>, &[u
     Ok((members, rest))
 }
 
-#[tactic(auto, unfolding(beam_model::specs::Compact::list_at))]
+#[tactic(auto, unfolding(beam_model::specs::Compact::compact_list_at))]
 fn list(alloc: Global, bytes: &[u8]) -> Result<(CompactOperand, &[u8]), OperandError>
-    ensures { Gives (λ r. (r.0, r.1.now)) result (list_at bytes.now) }
+    ensures { Gives (λ r. (r.0, r.1.now)) result (compact_list_at bytes.now) }
 {
     let (count, rest) = number(bytes)?;
     let (members, rest) = members(alloc, count, rest)?;
     Ok((CompactOperand::List(CompactList::new(members)), rest))
 }
 
-#[tactic(auto, unfolding(beam_model::specs::Compact::operand_of))]
+#[tactic(auto, unfolding(beam_model::specs::Compact::operand_of_tag))]
 fn operand_behind(
     alloc: Global,
     tag: CompactTag,
     first: u8,
     bytes: &[u8],
 ) -> Result<(CompactOperand, &[u8]), OperandError>
-    ensures { Gives (λ r. (r.0, r.1.now)) result (operand_of tag first bytes.now) }
+    ensures { Gives (λ r. (r.0, r.1.now)) result (operand_of_tag tag first bytes.now) }
 {
     if tag == CompactTag::Extended {
         let (value, rest) = value(first, bytes)?;

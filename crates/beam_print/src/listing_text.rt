@@ -2,7 +2,7 @@
 
 ghost use Rattle.std.specs.Prelude.{◌≡◌, ◌++◌, [], option_map, OnErr, OnOk};
 ghost use Rattle.std.specs.Option.{option_copied};
-ghost use Rattle.beam_model.specs.ListingText.{before_text, behind_lines, entry_in, export_text, exports_line, exports_text, function_line, function_text, informed_text, instruction_text, instructions_text, labels_lines, listing_text, module_line, stop};
+ghost use Rattle.beam_model.specs.ListingText.{before_text, after_leading_lines, front_label_or_zero, export_text, exports_line, exports_text, function_line, function_line_at, informed_text, instruction_text, instructions_text, labels_lines, listing_text, module_line, stop};
 ghost use Rattle.beam_model.specs.Loadable.{atom_in, number_in};
 ghost use Rattle.beam_print.specs.Begun.{IsBegun, IsWrittenUpTo};
 
@@ -39,7 +39,7 @@ fn number_in(operand: &Operand) -> Option<u32>
 }
 
 fn behind_lines(instructions: &[Instruction]) -> &[Instruction]
-    ensures { result.now ≡ behind_lines instructions.now }
+    ensures { result.now ≡ after_leading_lines instructions.now }
 {
     let mut rest = instructions;
     while let Some((first, others)) = rest.split_first() {
@@ -52,7 +52,7 @@ fn behind_lines(instructions: &[Instruction]) -> &[Instruction]
 }
 
 fn entry_in(instructions: &[Instruction]) -> u32
-    ensures { result ≡ entry_in instructions.now }
+    ensures { result ≡ front_label_or_zero instructions.now }
 {
     match instructions {
         [first, ..] => first.label().unwrap_or(0),
@@ -87,7 +87,7 @@ fn print_informed(operands: &[Operand], entry: u32, out: &mut Vec<u8>) -> Result
 
 // The line of a function whose func_info stands in front.
 fn print_head(instructions: &[Instruction], out: &mut Vec<u8>) -> Result<(), TextError>
-    ensures { OnOk result (out.new.items ≡ out.old.items ++ function_text instructions.now) }
+    ensures { OnOk result (out.new.items ≡ out.old.items ++ function_line_at instructions.now) }
 {
     match instructions {
         [first, rest @ ..] if matches!(first.opcode, Opcode::FuncInfo) => {

@@ -3,7 +3,7 @@ ghost use Rattle.std.specs.Prelude.{◌≡◌, ◌<◌, true, length, is_some, N
 ghost use Rattle.std.specs.Option.{option_copied};
 ghost use Rattle.beam_machine.specs.Process.{put_x, dropped, then_of, with_y};
 ghost use Rattle.beam_machine.specs.Row.{goes_on, raises, returns, answers};
-ghost use Rattle.beam_model.specs.Exception.{end_of};
+ghost use Rattle.beam_model.specs.Exception.{exit_reason};
 ghost use Rattle.beam_proc.specs.Prepared.{after_of, reason_of, IsPrepared, IsReturning};
 ghost use Rattle.beam_term.specs.TermValue.{TermValue};
 
@@ -168,7 +168,7 @@ impl Process {
     #[tactic(auto, using(crate::proofs::Tags::unwound_is))]
     fn raise_at_once(&mut self, raised: Raised, reason: Term) -> Then
         requires runs { self.old.status ≡ Status.Running }
-        requires reason { reason ≡ end_of raised }
+        requires reason { reason ≡ exit_reason raised }
         ensures process { self.new ≡ raises self.old raised }
         ensures then { result ≡ then_of self.new.status }
     {

@@ -5,7 +5,7 @@ ghost use Rattle.std.specs.List.{list_any};
 ghost use Rattle.std.specs.Option.{option_copied};
 ghost use Rattle.beam_machine.specs.Change.{lingers};
 ghost use Rattle.beam_machine.specs.Process.{is_running, is_waiting, is_ended};
-ghost use Rattle.beam_machine.specs.State.{watches};
+ghost use Rattle.beam_machine.specs.State.{monitors_process};
 ghost use Rattle.beam_proc.specs.Entry.{bare, end_of};
 ghost use Rattle.beam_proc.specs.Told.{told};
 
@@ -237,7 +237,7 @@ impl ProcessEntry {
 
     /// Whether it monitors the process of a number. It takes no memory.
     pub fn watches(&self, number: u32) -> bool
-        ensures { result ≡ list_any (watches number) self.now.monitors }
+        ensures { result ≡ list_any (monitors_process number) self.now.monitors }
     {
         match &self.kept {
             Kept::Living(process) => process.watches(number),
@@ -249,7 +249,7 @@ impl ProcessEntry {
     /// where it has such a monitor.
     pub fn downs(&self, number: u32, reason: &Term, sent: &mut Vec<Sent>) -> Result<(), AllocError>
         ensures ok { OnOk result (sent.new.items ≡ sent.old.items ++ told number reason.now self.now) }
-        ensures quiet { list_any (watches number) self.now.monitors ≡ false → OnErr result ⊥ }
+        ensures quiet { list_any (monitors_process number) self.now.monitors ≡ false → OnErr result ⊥ }
     {
         match &self.kept {
             Kept::Living(process) => process.downs(number, reason, sent),

@@ -2,7 +2,7 @@
 ghost use Rattle.std.specs.Prelude.{◌≡◌, ◌&&◌, not, true, false, Some, None, is_some, OnErr};
 ghost use Rattle.beam_model.specs.Mailbox.{message_at, with_next, with_removed, with_reset};
 ghost use Rattle.beam_machine.specs.Process.{then_of};
-ghost use Rattle.beam_machine.specs.Row.{waits, waits_for, finds_message, settled, stands_at};
+ghost use Rattle.beam_machine.specs.Row.{waits, waits_for, finds_message, waits_for_message, stands_at};
 ghost use Rattle.beam_machine.specs.Row as Row;
 ghost use Rattle.beam_machine.specs.Next.{deadline_at};
 ghost use Rattle.beam_proc.specs.Does.{Does, DoesOrAsks, IsLoud};
@@ -34,7 +34,7 @@ impl Process {
     /// Waits at the row of a place, unless that finds a message.
     fn settle_at(&mut self, place: Place) -> Then
         requires { self.old.status ≡ Status.Running }
-        ensures process { self.new ≡ settled self.old place }
+        ensures process { self.new ≡ waits_for_message self.old place }
         ensures then { result ≡ then_of self.new.status }
     {
         let finds_message = self.finds_message(place);
@@ -123,7 +123,7 @@ impl Process {
     /// `next`.
     pub fn sleep(&mut self, next: Place, at: usize, milliseconds: u32, clock: u64) -> Then
         requires { self.old.status ≡ Status.Running }
-        ensures process { self.new ≡ record (settled self.old (record { instance = next.instance; at = at }))
+        ensures process { self.new ≡ record (waits_for_message self.old (record { instance = next.instance; at = at }))
             { deadline = Some (deadline_at clock milliseconds next) } }
         ensures then { result ≡ then_of self.new.status }
     {

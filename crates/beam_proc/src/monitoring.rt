@@ -4,7 +4,7 @@ ghost use Rattle.std.specs.List.{list_any};
 ghost use Rattle.beam_term.specs.TermValue.{reference_term};
 ghost use Rattle.beam_machine.specs.declared.process.Signal.TheVariants.{Down};
 ghost use Rattle.beam_machine.specs.Row.{demonitored, flushed_if};
-ghost use Rattle.beam_machine.specs.State.{watches};
+ghost use Rattle.beam_machine.specs.State.{monitors_process};
 ghost use Rattle.beam_watches.specs.Kept.{AreBelow};
 ghost use Rattle.beam_proc.specs.References.{number_of_words, reference_number};
 ghost use Rattle.beam_proc.specs.Told.{told};
@@ -91,7 +91,7 @@ impl Process {
 
     /// Whether it monitors the process of a number. It takes no memory.
     pub fn watches(&self, number: u32) -> bool
-        ensures { result ≡ list_any (watches number) self.now.monitors }
+        ensures { result ≡ list_any (monitors_process number) self.now.monitors }
     {
         self.monitors.watches(number)
     }
@@ -100,7 +100,7 @@ impl Process {
     /// where it has such a monitor.
     pub fn downs(&self, number: u32, reason: &Term, sent: &mut Vec<Sent>) -> Result<(), AllocError>
         ensures ok { OnOk result (sent.new.items ≡ sent.old.items ++ told number reason.now self.now) }
-        ensures quiet { list_any (watches number) self.now.monitors ≡ false → OnErr result ⊥ }
+        ensures quiet { list_any (monitors_process number) self.now.monitors ≡ false → OnErr result ⊥ }
     {
         for (reference, pid) in self.monitors.iter() {
             if is_pid_of(number, pid) {

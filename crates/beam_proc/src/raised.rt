@@ -3,7 +3,7 @@ ghost use Rattle.std.specs.Prelude.{◌≡◌, ◌<◌, ◌≤◌, IfOk, MatchOp
 ghost use Rattle.beam_term.specs.TermValue.{nil_term, atom_term, depth_of};
 ghost use Rattle.beam_machine.specs.declared.event.Then.TheVariants as TheThen;
 ghost use Rattle.beam_model.specs.declared.exception.Class.TheVariants as class;
-ghost use Rattle.beam_model.specs.Exception.{reason_text, class_text, clause_text, class_term, class_of, value_of, end_by, end_of, caught, caught_by, clause_exception, trace_of, around, pair_of};
+ghost use Rattle.beam_model.specs.Exception.{reason_text, class_text, clause_text, class_term, class_of, value_of, exit_reason_by, exit_reason, caught, caught_by, clause_exception, trace_of, around, pair_of};
 
 use crate::terms::{atom, pair};
 use beam_machine::event::Then;
@@ -25,7 +25,7 @@ impl Model for Raised {
     ghost use Rattle.std.specs.Coded.{codes};
     ghost use Rattle.beam_term.specs.Coding.{term_code};
     ghost use Rattle.beam_model.specs.declared.exception.Exception.{Exception};
-    ghost use Rattle.beam_model.specs.Exception.{end_of};
+    ghost use Rattle.beam_model.specs.Exception.{exit_reason};
 
     ghost Value = { Exception };
 
@@ -33,7 +33,7 @@ impl Model for Raised {
 
     ghost view = { λ r. r.exception };
 
-    ghost invariant = { λ r. r.reason ≡ end_of r.exception };
+    ghost invariant = { λ r. r.reason ≡ exit_reason r.exception };
 }
 
 impl Raised {
@@ -47,14 +47,14 @@ impl Raised {
 
     /// A copy of the reason of the end.
     pub(crate) fn copy_reason(&self) -> Result<Term, AllocError>
-        ensures { IfOk result (λ reason. reason ≡ end_of self.now) }
+        ensures { IfOk result (λ reason. reason ≡ exit_reason self.now) }
     {
         self.reason.clone()
     }
 
     /// The end, for an exception that nothing catches.
     pub(crate) fn into_end(self) -> Then
-        ensures { result ≡ TheThen.Ended (end_of self) nil_term }
+        ensures { result ≡ TheThen.Ended (exit_reason self) nil_term }
     {
         let Raised {
             exception: _exception,
@@ -189,7 +189,7 @@ fn nocatch(alloc: Global, value: Term) -> Result<Option<Term>, AllocError>
 
 /// The reason of an end by an uncaught throw.
 fn end_by_throw(alloc: Global, value: &Term) -> Result<Term, AllocError>
-    ensures { IfOk result (λ t. t ≡ end_by class.Throw value.now) }
+    ensures { IfOk result (λ t. t ≡ exit_reason_by class.Throw value.now) }
 {
     if let Some(whole) = nocatch(alloc, value.clone()?)? {
         return Ok(whole);
@@ -202,7 +202,7 @@ fn end_by_throw(alloc: Global, value: &Term) -> Result<Term, AllocError>
 
 /// The reason of an end by an exception.
 fn end_of(alloc: Global, exception: &Exception) -> Result<Term, AllocError>
-    ensures { IfOk result (λ t. t ≡ end_of exception.now) }
+    ensures { IfOk result (λ t. t ≡ exit_reason exception.now) }
 {
     let value = value_of(alloc, exception)?;
     match class_of(exception) {

@@ -1,7 +1,7 @@
 //! The x registers.
 ghost use Rattle.std.specs.Prelude.{◌≡◌, ◌<◌, ◌≤◌, ◌+◌, ◌++◌, replicate, vec_len, vec_capacity, OnOk, OnErr};
 ghost use Rattle.beam_term.specs.TermValue.{nil_term};
-ghost use Rattle.beam_machine.specs.Process.{written};
+ghost use Rattle.beam_machine.specs.Process.{written_x};
 
 use beam_term::Term;
 use std::alloc::AllocError;
@@ -36,7 +36,7 @@ fn pad(x: &mut Vec<Term>, more: usize)
 /// Writes a register for which there is room.
 pub fn write(x: &mut Vec<Term>, register: u32, value: Term)
     requires { register < vec_capacity x.old }
-    ensures items { x.new.items ≡ written x.old.items register value }
+    ensures items { x.new.items ≡ written_x x.old.items register value }
     ensures capacity { vec_capacity x.new ≡ vec_capacity x.old }
 {
     let register = register as usize;
@@ -51,7 +51,7 @@ pub fn write(x: &mut Vec<Term>, register: u32, value: Term)
 
 /// Writes a register. Where memory is refused nothing changes.
 pub fn put(x: &mut Vec<Term>, register: u32, value: Term) -> Result<(), AllocError>
-    ensures ok { OnOk result (x.new.items ≡ written x.old.items register value) }
+    ensures ok { OnOk result (x.new.items ≡ written_x x.old.items register value) }
     ensures err { OnErr result (x.new.items ≡ x.old.items) }
 {
     reserve(x, register)?;
@@ -67,7 +67,7 @@ pub fn put_two(
     second: u32,
     other: Term,
 ) -> Result<(), AllocError>
-    ensures ok { OnOk result (x.new.items ≡ written (written x.old.items first value) second other) }
+    ensures ok { OnOk result (x.new.items ≡ written_x (written_x x.old.items first value) second other) }
     ensures err { OnErr result (x.new.items ≡ x.old.items) }
 {
     reserve(x, first)?;
@@ -84,7 +84,7 @@ pub fn put_three(
     first: Term,
     second: Term,
 ) -> Result<(), AllocError>
-    ensures ok { OnOk result (x.new.items ≡ written (written (written x.old.items 0 zeroth) 1 first) 2 second) }
+    ensures ok { OnOk result (x.new.items ≡ written_x (written_x (written_x x.old.items 0 zeroth) 1 first) 2 second) }
     ensures err { OnErr result (x.new.items ≡ x.old.items) }
 {
     reserve(x, 2)?;
@@ -102,7 +102,7 @@ pub fn put_four(
     first: Term,
     second: Term,
 ) -> Result<(), AllocError>
-    ensures ok { OnOk result (x.new.items ≡ written (written (written (written x.old.items register nil_term) 0 zeroth) 1 first) 2 second) }
+    ensures ok { OnOk result (x.new.items ≡ written_x (written_x (written_x (written_x x.old.items register nil_term) 0 zeroth) 1 first) 2 second) }
     ensures err { OnErr result (x.new.items ≡ x.old.items) }
 {
     reserve(x, register)?;

@@ -1,6 +1,6 @@
 //! Changes of a process that can be undone without memory.
 ghost use Rattle.std.specs.Prelude.{◌≡◌, slice_get, IfOk, OnOk, OnErr};
-ghost use Rattle.beam_machine.specs.Process.{put_x, written};
+ghost use Rattle.beam_machine.specs.Process.{put_x, written_x};
 ghost use Rattle.beam_machine.specs.Row.{goes_on};
 ghost use Rattle.beam_proc.specs.Undoing.{with_first, stepped_back};
 
@@ -20,7 +20,7 @@ pub struct Stepped {
 
 /// Writes x0, and answers its old value, if it was written before. Where memory is refused nothing changes.
 fn exchange_first(x: &mut Vec<Term>, value: Term) -> Result<Option<Term>, AllocError>
-    ensures ok { OnOk result (x.new.items ≡ written x.old.items 0 value) }
+    ensures ok { OnOk result (x.new.items ≡ written_x x.old.items 0 value) }
     ensures held { IfOk result (λ held. held ≡ slice_get x.old.items 0) }
     ensures err { OnErr result (x.new.items ≡ x.old.items) }
 {

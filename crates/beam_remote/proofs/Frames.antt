@@ -7,7 +7,7 @@ use Rattle.byteorder.specs.Endian.{big_number}
 use Rattle.beam_machine.specs.declared.command.CommandKind.{CommandKind}
 use Rattle.beam_machine.specs.declared.command.FrameFault.{FrameFault}
 use Rattle.beam_frame.proofs.Spelling.{read_is_spelled}
-use Rattle.beam_machine.specs.Frames.{Command, SpellsCommand, Found, none, one, fault, spelled, of_kind, command_in, kind_of, framed, after_length, frame_in, longest_frame, Stream, ended, end_of, at_fault, between_frames, with_command, goes_on, stream_within, stream_of}
+use Rattle.beam_machine.specs.Frames.{Command, SpellsCommand, FirstFrame, no_frame, one_frame, bad_frame, command_or_fault, of_kind, command_in, kind_of, frame_content, after_length, frame_in, longest_frame, Stream, empty_stream, stream_end, at_fault, between_frames, with_command, stream_by, stream_within, stream_of}
 use Rattle.beam_remote.specs.Serving.{IsFrame}
 
 -- the two outcomes of a test
@@ -17,52 +17,52 @@ cond_cases false x y z e = inr (refl, e)
 
 -- ---- a frame
 
-spelled_rest : (o : Option Command) (r : List ℕ) (c : Command) (r' : List ℕ) → spelled o r ≡ one c r' → r' ≡ r
+spelled_rest : (o : Option Command) (r : List ℕ) (c : Command) (r' : List ℕ) → command_or_fault o r ≡ one_frame c r' → r' ≡ r
 spelled_rest None r c r' e = cc
 spelled_rest (Some d) r c r' e = cc
 
-of_kind_rest : (o : Option CommandKind) (body r : List ℕ) (c : Command) (r' : List ℕ) → of_kind o body r ≡ one c r' → r' ≡ r
+of_kind_rest : (o : Option CommandKind) (body r : List ℕ) (c : Command) (r' : List ℕ) → of_kind o body r ≡ one_frame c r' → r' ≡ r
 of_kind_rest None body r c r' e = cc
 of_kind_rest (Some k) body r c r' e = spelled_rest (command_in k body) r c r' e
 
-framed_rest : (bytes r : List ℕ) (c : Command) (r' : List ℕ) → framed bytes r ≡ one c r' → r' ≡ r
+framed_rest : (bytes r : List ℕ) (c : Command) (r' : List ℕ) → frame_content bytes r ≡ one_frame c r' → r' ≡ r
 framed_rest [] r c r' e = cc
 framed_rest (k ∷ body) r c r' e = of_kind_rest (kind_of k) body r c r' e
 
-spelled_other : (o : Option Command) (r s : List ℕ) (c : Command) (r' : List ℕ) → spelled o r ≡ one c r' → spelled o s ≡ one c s
+spelled_other : (o : Option Command) (r s : List ℕ) (c : Command) (r' : List ℕ) → command_or_fault o r ≡ one_frame c r' → command_or_fault o s ≡ one_frame c s
 spelled_other None r s c r' e = cc
-spelled_other (Some d) r s c r' e = let same : d ≡ c = cc in ap (λ (x : Command). one x s) same
+spelled_other (Some d) r s c r' e = let same : d ≡ c = cc in ap (λ (x : Command). one_frame x s) same
 
-of_kind_other : (o : Option CommandKind) (body r s : List ℕ) (c : Command) (r' : List ℕ) → of_kind o body r ≡ one c r' → of_kind o body s ≡ one c s
+of_kind_other : (o : Option CommandKind) (body r s : List ℕ) (c : Command) (r' : List ℕ) → of_kind o body r ≡ one_frame c r' → of_kind o body s ≡ one_frame c s
 of_kind_other None body r s c r' e = cc
 of_kind_other (Some k) body r s c r' e = spelled_other (command_in k body) r s c r' e
 
 -- the command doesn't depend on the bytes after the frame
-framed_other : (bytes r s : List ℕ) (c : Command) (r' : List ℕ) → framed bytes r ≡ one c r' → framed bytes s ≡ one c s
+framed_other : (bytes r s : List ℕ) (c : Command) (r' : List ℕ) → frame_content bytes r ≡ one_frame c r' → frame_content bytes s ≡ one_frame c s
 framed_other [] r s c r' e = cc
 framed_other (k ∷ body) r s c r' e = of_kind_other (kind_of k) body r s c r' e
 
-spelled_some : (o : Option Command) (r : List ℕ) → spelled o r ≡ none → ⊥
+spelled_some : (o : Option Command) (r : List ℕ) → command_or_fault o r ≡ no_frame → ⊥
 spelled_some None r e = cc
 spelled_some (Some d) r e = cc
 
-of_kind_some : (o : Option CommandKind) (body r : List ℕ) → of_kind o body r ≡ none → ⊥
+of_kind_some : (o : Option CommandKind) (body r : List ℕ) → of_kind o body r ≡ no_frame → ⊥
 of_kind_some None body r e = cc
 of_kind_some (Some k) body r e = spelled_some (command_in k body) r e
 
-framed_some : (bytes r : List ℕ) → framed bytes r ≡ none → ⊥
+framed_some : (bytes r : List ℕ) → frame_content bytes r ≡ no_frame → ⊥
 framed_some [] r e = cc
 framed_some (k ∷ body) r e = of_kind_some (kind_of k) body r e
 
 -- ---- a length and the bytes after it
 
 -- a frame is whole and isn't too long
-pub record IsWhole (n : ℕ) (rest : List ℕ) (found : Found) : Type 0 where
+pub record IsWhole (n : ℕ) (rest : List ℕ) (found : FirstFrame) : Type 0 where
   pub short : nat_lt longest_frame n ≡ false
   pub whole : nat_lt (length rest) n ≡ false
-  pub is : framed (take n rest) (drop n rest) ≡ found
+  pub is : frame_content (take n rest) (drop n rest) ≡ found
 
-whole_if : (n : ℕ) (rest : List ℕ) (c : Command) (r : List ℕ) → after_length n rest ≡ one c r → IsWhole n rest (one c r)
+whole_if : (n : ℕ) (rest : List ℕ) (c : Command) (r : List ℕ) → after_length n rest ≡ one_frame c r → IsWhole n rest (one_frame c r)
 unfolding after_length
 whole_if n rest c r e =
     elim (cond_cases (nat_lt longest_frame n) _ _ _ e) [
@@ -73,29 +73,29 @@ whole_if n rest c r e =
       ]
     ]
 
-whole_is : (n : ℕ) (rest : List ℕ) → nat_lt longest_frame n ≡ false → nat_lt (length rest) n ≡ false → after_length n rest ≡ framed (take n rest) (drop n rest)
+whole_is : (n : ℕ) (rest : List ℕ) → nat_lt longest_frame n ≡ false → nat_lt (length rest) n ≡ false → after_length n rest ≡ frame_content (take n rest) (drop n rest)
 unfolding after_length
 whole_is n rest short whole = cond-false _ _ _ short ∙ cond-false _ _ _ whole
 
-after_more : (n : ℕ) (rest more : List ℕ) (c : Command) (r : List ℕ) → after_length n rest ≡ one c r → after_length n (rest ++ more) ≡ one c (r ++ more)
+after_more : (n : ℕ) (rest more : List ℕ) (c : Command) (r : List ℕ) → after_length n rest ≡ one_frame c r → after_length n (rest ++ more) ≡ one_frame c (r ++ more)
 after_more n rest more c r e =
     let w = whole_if n rest c r e in
     let fits : n ≤ length rest = ltb-false (length rest) n w.whole in
     let wider : n ≤ length (rest ++ more) = omega (arith, length-append rest more) in
     let is_rest : r ≡ drop n rest = framed_rest (take n rest) (drop n rest) c r w.is in
-    let other : framed (take n rest) (drop n rest ++ more) ≡ one c (drop n rest ++ more) = framed_other (take n rest) (drop n rest) (drop n rest ++ more) c r w.is in
+    let other : frame_content (take n rest) (drop n rest ++ more) ≡ one_frame c (drop n rest ++ more) = framed_other (take n rest) (drop n rest) (drop n rest ++ more) c r w.is in
     whole_is n (rest ++ more) w.short (le-ltb (length (rest ++ more)) n wider)
-    ∙ ap (λ (t : List ℕ). framed t (drop n (rest ++ more))) (take-append-le n rest more fits)
-    ∙ ap (λ (t : List ℕ). framed (take n rest) t) (drop-append-le n rest more fits)
-    ∙ other ∙ ap (λ (t : List ℕ). one c (t ++ more)) (sym is_rest)
+    ∙ ap (λ (t : List ℕ). frame_content t (drop n (rest ++ more))) (take-append-le n rest more fits)
+    ∙ ap (λ (t : List ℕ). frame_content (take n rest) t) (drop-append-le n rest more fits)
+    ∙ other ∙ ap (λ (t : List ℕ). one_frame c (t ++ more)) (sym is_rest)
 
-after_shorter : (n : ℕ) (rest : List ℕ) (c : Command) (r : List ℕ) → after_length n rest ≡ one c r → length r ≤ length rest
+after_shorter : (n : ℕ) (rest : List ℕ) (c : Command) (r : List ℕ) → after_length n rest ≡ one_frame c r → length r ≤ length rest
 after_shorter n rest c r e =
     let w = whole_if n rest c r e in
     let is_rest : r ≡ drop n rest = framed_rest (take n rest) (drop n rest) c r w.is in
     omega (arith, ap length is_rest, length-drop n rest)
 
-after_none : (n : ℕ) (rest : List ℕ) → after_length n rest ≡ none → length rest < longest_frame
+after_none : (n : ℕ) (rest : List ℕ) → after_length n rest ≡ no_frame → length rest < longest_frame
 unfolding after_length
 after_none n rest e =
     elim (cond_cases (nat_lt longest_frame n) _ _ _ e) [
@@ -108,7 +108,7 @@ after_none n rest e =
 
 -- ---- the front of bytes
 
-short_none : (bytes : List ℕ) → length bytes < 4 → frame_in bytes ≡ none
+short_none : (bytes : List ℕ) → length bytes < 4 → frame_in bytes ≡ no_frame
 unfolding frame_in
 short_none bytes short = cond-true _ _ _ (lt-ltb (length bytes) 4 short)
 
@@ -117,7 +117,7 @@ unfolding frame_in
 after_four a b c d rest = cond-false _ _ _ (le-ltb (length (a ∷ b ∷ c ∷ d ∷ rest)) 4 (omega arith))
 
 -- a frame that is found at the front of bytes is found there too when more bytes follow
-pub more_after : (bytes more : List ℕ) (c : Command) (r : List ℕ) → frame_in bytes ≡ one c r → frame_in (bytes ++ more) ≡ one c (r ++ more)
+pub more_after : (bytes more : List ℕ) (c : Command) (r : List ℕ) → frame_in bytes ≡ one_frame c r → frame_in (bytes ++ more) ≡ one_frame c (r ++ more)
 more_after [] more c r e = absurd (let n = short_none [] (omega arith) in cc)
 more_after (w ∷ []) more c r e = absurd (let n = short_none (w ∷ []) (omega arith) in cc)
 more_after (w ∷ x ∷ []) more c r e = absurd (let n = short_none (w ∷ x ∷ []) (omega arith) in cc)
@@ -126,7 +126,7 @@ more_after (w ∷ x ∷ y ∷ z ∷ rest) more c r e =
     let n : ℕ = big_number 4 (w ∷ x ∷ y ∷ z ∷ []) in
     after_four w x y z (rest ++ more) ∙ after_more n rest more c r (sym (after_four w x y z rest) ∙ e)
 
-pub rest_is_shorter : (bytes : List ℕ) (c : Command) (r : List ℕ) → frame_in bytes ≡ one c r → length r < length bytes
+pub rest_is_shorter : (bytes : List ℕ) (c : Command) (r : List ℕ) → frame_in bytes ≡ one_frame c r → length r < length bytes
 rest_is_shorter [] c r e = absurd (let n = short_none [] (omega arith) in cc)
 rest_is_shorter (w ∷ []) c r e = absurd (let n = short_none (w ∷ []) (omega arith) in cc)
 rest_is_shorter (w ∷ x ∷ []) c r e = absurd (let n = short_none (w ∷ x ∷ []) (omega arith) in cc)
@@ -137,7 +137,7 @@ rest_is_shorter (w ∷ x ∷ y ∷ z ∷ rest) c r e =
     omega arith
 
 -- bytes without a whole frame at their front are few
-pub none_is_short : (bytes : List ℕ) → frame_in bytes ≡ none → length bytes < 8388612
+pub none_is_short : (bytes : List ℕ) → frame_in bytes ≡ no_frame → length bytes < 8388612
 none_is_short [] e = omega arith
 none_is_short (w ∷ []) e = omega arith
 none_is_short (w ∷ x ∷ []) e = omega arith
@@ -149,23 +149,23 @@ none_is_short (w ∷ x ∷ y ∷ z ∷ rest) e =
 
 -- ---- the frame that is found
 
-spelled_is : (o : Option Command) (r : List ℕ) (c : Command) (r' : List ℕ) → spelled o r ≡ one c r' → o ≡ Some c
+spelled_is : (o : Option Command) (r : List ℕ) (c : Command) (r' : List ℕ) → command_or_fault o r ≡ one_frame c r' → o ≡ Some c
 spelled_is None r c r' e = cc
 spelled_is (Some d) r c r' e = cc
 
-of_kind_is : (o : Option CommandKind) (body r : List ℕ) (c : Command) (r' : List ℕ) → of_kind o body r ≡ one c r'
+of_kind_is : (o : Option CommandKind) (body r : List ℕ) (c : Command) (r' : List ℕ) → of_kind o body r ≡ one_frame c r'
     → option_and_then (λ k. command_in k body) o ≡ Some c
 of_kind_is None body r c r' e = cc
 of_kind_is (Some k) body r c r' e = spelled_is (command_in k body) r c r' e
 
 -- the body of a frame spells its command
-framed_spells : (bytes r : List ℕ) (c : Command) (r' : List ℕ) → framed bytes r ≡ one c r'
+framed_spells : (bytes r : List ℕ) (c : Command) (r' : List ℕ) → frame_content bytes r ≡ one_frame c r'
     → (kind : ℕ) × (body : List ℕ) × (bytes ≡ kind ∷ body) × SpellsCommand kind body c
 framed_spells [] r c r' e = cc
 framed_spells (k ∷ body) r c r' e = (k, body, refl, read_is_spelled k body c (of_kind_is (kind_of k) body r c r' e))
 
 -- a frame that is found is the front of the bytes
-pub frame_found : (bytes : List ℕ) (c : Command) (r : List ℕ) → frame_in bytes ≡ one c r → (frame : List ℕ) × (bytes ≡ frame ++ r) × IsFrame frame c
+pub frame_found : (bytes : List ℕ) (c : Command) (r : List ℕ) → frame_in bytes ≡ one_frame c r → (frame : List ℕ) × (bytes ≡ frame ++ r) × IsFrame frame c
 frame_found [] c r e = absurd (let n = short_none [] (omega arith) in cc)
 frame_found (w ∷ []) c r e = absurd (let n = short_none (w ∷ []) (omega arith) in cc)
 frame_found (w ∷ x ∷ []) c r e = absurd (let n = short_none (w ∷ x ∷ []) (omega arith) in cc)
@@ -194,16 +194,16 @@ frame_found (w ∷ x ∷ y ∷ z ∷ rest) c r e =
 
 -- ---- streams
 
-none_within : (n : ℕ) → stream_within n [] ≡ ended between_frames
+none_within : (n : ℕ) → stream_within n [] ≡ empty_stream between_frames
 unfolding stream_within
 none_within zero = refl
-none_within (suc n) = ap (goes_on (stream_within n) []) (short_none [] (omega arith))
+none_within (suc n) = ap (stream_by (stream_within n) []) (short_none [] (omega arith))
 
 -- how a stream goes on matters only for the bytes after a command
-goes_same : (f g : List ℕ → Stream) (bytes : List ℕ) (found : Found) → ((c : Command) (r : List ℕ) → found ≡ one c r → f r ≡ g r) → goes_on f bytes found ≡ goes_on g bytes found
-goes_same f g bytes none same = refl
-goes_same f g bytes (one c r) same = ap (with_command c) (same c r refl)
-goes_same f g bytes (fault x) same = refl
+goes_same : (f g : List ℕ → Stream) (bytes : List ℕ) (found : FirstFrame) → ((c : Command) (r : List ℕ) → found ≡ one_frame c r → f r ≡ g r) → stream_by f bytes found ≡ stream_by g bytes found
+goes_same f g bytes no_frame same = refl
+goes_same f g bytes (one_frame c r) same = ap (with_command c) (same c r refl)
+goes_same f g bytes (bad_frame x) same = refl
 
 none_left : (bytes : List ℕ) → length bytes ≤ 0 → bytes ≡ []
 none_left [] e = refl
@@ -223,20 +223,20 @@ within_enough (suc n) (suc m) bytes fits_n fits_m =
     within_enough n m r (omega arith) (omega arith))
 
 -- the stream of bytes is their first command, and then the stream of the bytes after its frame
-pub stream_after : (bytes : List ℕ) (c : Command) (r : List ℕ) → frame_in bytes ≡ one c r → stream_of bytes ≡ with_command c (stream_of r)
+pub stream_after : (bytes : List ℕ) (c : Command) (r : List ℕ) → frame_in bytes ≡ one_frame c r → stream_of bytes ≡ with_command c (stream_of r)
 unfolding stream_within
 stream_after [] c r e = absurd (let n = short_none [] (omega arith) in cc)
 stream_after (x ∷ bytes) c r e =
     let shorter = rest_is_shorter (x ∷ bytes) c r e in
-    ap (goes_on (stream_within (length bytes)) (x ∷ bytes)) e
+    ap (stream_by (stream_within (length bytes)) (x ∷ bytes)) e
     ∙ ap (with_command c) (within_enough (length bytes) (length r) r (omega arith) (omega arith))
 
-pub stream_fault : (bytes : List ℕ) (f : FrameFault) → frame_in bytes ≡ fault f → stream_of bytes ≡ ended (at_fault f)
+pub stream_fault : (bytes : List ℕ) (f : FrameFault) → frame_in bytes ≡ bad_frame f → stream_of bytes ≡ empty_stream (at_fault f)
 unfolding stream_within
 stream_fault [] f e = absurd (let n = short_none [] (omega arith) in cc)
-stream_fault (x ∷ bytes) f e = ap (goes_on (stream_within (length bytes)) (x ∷ bytes)) e
+stream_fault (x ∷ bytes) f e = ap (stream_by (stream_within (length bytes)) (x ∷ bytes)) e
 
-pub stream_none : (bytes : List ℕ) → frame_in bytes ≡ none → stream_of bytes ≡ ended (end_of bytes)
+pub stream_none : (bytes : List ℕ) → frame_in bytes ≡ no_frame → stream_of bytes ≡ empty_stream (stream_end bytes)
 unfolding stream_within
 stream_none [] e = refl
-stream_none (x ∷ bytes) e = ap (goes_on (stream_within (length bytes)) (x ∷ bytes)) e
+stream_none (x ∷ bytes) e = ap (stream_by (stream_within (length bytes)) (x ∷ bytes)) e

@@ -6,7 +6,7 @@ use Rattle.beam_machine.specs.declared.command.FrameFault.{FrameFault}
 use Rattle.beam_machine.specs.declared.command.FrameFault.TheVariants.{TooLong}
 use Rattle.beam_machine.specs.declared.command.Response.{Response}
 use Rattle.beam_machine.specs.declared.debug.DebugEvent.{DebugEvent}
-use Rattle.beam_machine.specs.Frames.{Command, frame_in, none, one, fault, Stream, ended, end_of, at_fault, stream_of, reply_body, longest_frame}
+use Rattle.beam_machine.specs.Frames.{Command, frame_in, no_frame, one_frame, bad_frame, Stream, empty_stream, stream_end, at_fault, stream_of, reply_body, longest_frame}
 use Rattle.beam_model.specs.Listing.{Listing}
 use Rattle.beam_remote.specs.declared.error.Why.{Why}
 use Rattle.beam_remote.specs.declared.error.Why.TheVariants.{ReadFailed, WriteFailed, CutFrame, BadFrame, NoMemory}
@@ -22,14 +22,14 @@ use Rattle.beam_remote.proofs.Moments.{more_since, none_since, same_since}
 -- bytes are the frames of these commands, one after another, and then the rest
 abbrev pub Reads : List ℕ → List Command → List ℕ → Type 0
 Reads bytes [] rest = rest ≡ bytes
-Reads bytes (c ∷ cs) rest = (next : List ℕ) × (frame_in bytes ≡ one c next) × Reads next cs rest
+Reads bytes (c ∷ cs) rest = (next : List ℕ) × (frame_in bytes ≡ one_frame c next) × Reads next cs rest
 
 reads_more : (bytes : List ℕ) (cs : List Command) (rest more : List ℕ) → Reads bytes cs rest → Reads (bytes ++ more) cs (rest ++ more)
 reads_more bytes [] rest more is = ap (λ (b : List ℕ). b ++ more) is
 reads_more bytes (c ∷ cs) rest more (next, first, others) = (next ++ more, more_after bytes more c next first, reads_more next cs rest more others)
 
-reads_one : (bytes : List ℕ) (cs : List Command) (rest : List ℕ) (c : Command) (after : List ℕ) → Reads bytes cs rest → frame_in rest ≡ one c after → Reads bytes (cs ++ c ∷ []) after
-reads_one bytes [] rest c after is first = (after, subst (λ (b : List ℕ). frame_in b ≡ one c after) is first, refl)
+reads_one : (bytes : List ℕ) (cs : List Command) (rest : List ℕ) (c : Command) (after : List ℕ) → Reads bytes cs rest → frame_in rest ≡ one_frame c after → Reads bytes (cs ++ c ∷ []) after
+reads_one bytes [] rest c after is first = (after, subst (λ (b : List ℕ). frame_in b ≡ one_frame c after) is first, refl)
 reads_one bytes (d ∷ cs) rest c after (next, here, others) first = (next, here, reads_one next cs rest c after others first)
 
 -- the commands of the bytes are those that were taken, and then those of the rest
@@ -68,15 +68,15 @@ frames_one (q ∷ rs) r = ap (λ (l : List ℕ). reply_frame q ++ l) (frames_one
 
 -- ---- why a session stops
 
-none_in : frame_in [] ≡ none
+none_in : frame_in [] ≡ no_frame
 unfolding frame_in
 none_in = refl
 
 -- a fault of the stream comes after all its commands
 fault_ends : (read : List ℕ) (cs : List Command) (pending : List ℕ) (done : ℕ) → Reads read cs pending → done ≡ length cs
-    → (f : FrameFault) → frame_in pending ≡ fault f → EndsAt (stream_of read) done [] f
+    → (f : FrameFault) → frame_in pending ≡ bad_frame f → EndsAt (stream_of read) done [] f
 fault_ends read cs pending done taken count f is =
-    let over : stream_of pending ≡ ended (at_fault f) = stream_fault pending f is in (
+    let over : stream_of pending ≡ empty_stream (at_fault f) = stream_fault pending f is in (
       end_is read cs pending taken ∙ ap (λ (x : Stream). x.end) over,
       count ∙ ap length (sym (all_taken read cs pending taken (ap (λ (x : Stream). x.commands) over))),
     )
@@ -96,7 +96,7 @@ stops_for : (read : List ℕ) (cs : List Command) (pending : List ℕ) (done : �
 stops_for read cs pending done taken count ReadFailed begun (is, empty) =
     (refl, empty, count ∙ ap length (sym (all_taken read cs pending taken (ap (λ (x : Stream). x.commands) (stream_none pending is)))))
 stops_for read cs pending done taken count CutFrame begun (is, cut, empty) =
-    let over : stream_of pending ≡ ended (end_of pending) = stream_none pending is in (
+    let over : stream_of pending ≡ empty_stream (stream_end pending) = stream_none pending is in (
       refl,
       empty,
       end_is read cs pending taken ∙ ap (λ (x : Stream). x.end) over ∙ cut,
@@ -174,7 +174,7 @@ module _ {S : Type 0} (answers : S → DebugEvent Listing → Response → S →
   pub tells_one : (s : S) (input output : Option (List ℕ)) (t : S) (input' output' : Option (List ℕ)) (pending : List ℕ) (done : ℕ)
       → Session s input output t input' output' pending done
       → (c : Command) (rest : List ℕ) (r : Response) (u : S) (output'' : Option (List ℕ))
-      → frame_in pending ≡ one c rest → Answered answers t c r u → output'' ≡ more output' (reply_frame r)
+      → frame_in pending ≡ one_frame c rest → Answered answers t c r u → output'' ≡ more output' (reply_frame r)
       → Session s input output u input' output'' rest (done + 1)
   tells_one s input output t input' output' pending done was c rest r u output'' found is written = record {
     read = was.read;
@@ -195,7 +195,7 @@ module _ {S : Type 0} (answers : S → DebugEvent Listing → Response → S →
   all_answered s input output t input' output' pending done was m needed =
       let taken : Reads (was.read ++ needed.read) was.commands (pending ++ needed.read) =
       reads_more was.read was.commands pending needed.read was.taken in
-      let over : stream_of (pending ++ needed.read) ≡ ended (end_of (pending ++ needed.read)) = stream_none (pending ++ needed.read) needed.none_left in
+      let over : stream_of (pending ++ needed.read) ≡ empty_stream (stream_end (pending ++ needed.read)) = stream_none (pending ++ needed.read) needed.none_left in
       let all : (stream_of (was.read ++ needed.read)).commands ≡ was.commands =
       all_taken (was.read ++ needed.read) was.commands (pending ++ needed.read) taken (ap (λ (x : Stream). x.commands) over) in
       record {
@@ -227,8 +227,8 @@ module _ {S : Type 0} (answers : S → DebugEvent Listing → Response → S →
       → (read written : List ℕ) × (input' ≡ more input read) × (output' ≡ more output written)
       × IsServed answers s read written (record { done = done; told = done }) t
   ends s input output t input' output' pending done was empty =
-      let none_found : frame_in pending ≡ none = ap frame_in empty ∙ none_in in
-      let over : stream_of pending ≡ ended (end_of pending) = stream_none pending none_found in
+      let none_found : frame_in pending ≡ no_frame = ap frame_in empty ∙ none_in in
+      let over : stream_of pending ≡ empty_stream (stream_end pending) = stream_none pending none_found in
       let all : (stream_of was.read).commands ≡ was.commands = all_taken was.read was.commands pending was.taken (ap (λ (x : Stream). x.commands) over) in
       let count : done ≡ length (stream_of was.read).commands = was.count ∙ ap length (sym all) in (
         was.read,
@@ -241,7 +241,7 @@ module _ {S : Type 0} (answers : S → DebugEvent Listing → Response → S →
               (frames_are was.read was.commands pending was.taken);
           answered = subst (λ (cs : List Command). Serves answers s cs was.responses t) (sym all) was.answered;
           is_written = refl;
-          ends = end_is was.read was.commands pending was.taken ∙ ap (λ (x : Stream). x.end) over ∙ ap end_of empty;
+          ends = end_is was.read was.commands pending was.taken ∙ ap (λ (x : Stream). x.end) over ∙ ap stream_end empty;
           done = count;
           told = count;
         },
@@ -277,7 +277,7 @@ module _ {S : Type 0} (answers : S → DebugEvent Listing → Response → S →
   -- the session stopped at a reply
   pub stops_telling : (s : S) (input output : Option (List ℕ)) (t : S) (input' output' : Option (List ℕ)) (pending : List ℕ) (done : ℕ)
       → Session s input output t input' output' pending done
-      → (c : Command) (rest : List ℕ) (r : Response) (u : S) → frame_in pending ≡ one c rest → Answered answers t c r u
+      → (c : Command) (rest : List ℕ) (r : Response) (u : S) → frame_in pending ≡ one_frame c rest → Answered answers t c r u
       → (why : Why) (output'' : Option (List ℕ)) (begun : List ℕ) → output'' ≡ more output' begun → StopsTelling r why begun
       → (read written : List ℕ) × (input' ≡ more input read) × (output'' ≡ more output written)
       × IsStopped answers s read written (record { why = why; done = done + 1; told = done }) u
@@ -312,7 +312,7 @@ module _ {S : Type 0} (answers : S → DebugEvent Listing → Response → S →
   pub goes_on : (s : S) (input output : Option (List ℕ)) (t : S) (input₁ output₁ : Option (List ℕ)) (pending : List ℕ) (done : ℕ)
       → Session s input output t input₁ output₁ pending done
       → (input₂ output₂ : Option (List ℕ)) (read begun : List ℕ) → input₂ ≡ more input₁ read → output₂ ≡ more output₁ begun
-      → (c : Command) (rest : List ℕ) → (frame_in (pending ++ read) ≡ one c rest) × (begun ≡ [])
+      → (c : Command) (rest : List ℕ) → (frame_in (pending ++ read) ≡ one_frame c rest) × (begun ≡ [])
       → (r : Response) (u : S) → Answered answers t c r u
       → (input₃ output₃ : Option (List ℕ)) → input₃ ≡ input₂ → output₃ ≡ more output₂ (reply_frame r)
       → Session s input output u input₃ output₃ rest (done + 1)
@@ -351,7 +351,7 @@ module _ {S : Type 0} (answers : S → DebugEvent Listing → Response → S →
   pub stops_telling_with : (s : S) (input output : Option (List ℕ)) (t : S) (input₁ output₁ : Option (List ℕ)) (pending : List ℕ) (done : ℕ)
       → Session s input output t input₁ output₁ pending done
       → (input₂ output₂ : Option (List ℕ)) (read begun : List ℕ) → input₂ ≡ more input₁ read → output₂ ≡ more output₁ begun
-      → (c : Command) (rest : List ℕ) → (frame_in (pending ++ read) ≡ one c rest) × (begun ≡ [])
+      → (c : Command) (rest : List ℕ) → (frame_in (pending ++ read) ≡ one_frame c rest) × (begun ≡ [])
       → (r : Response) (u : S) → Answered answers t c r u
       → (input₃ output₃ : Option (List ℕ)) → input₃ ≡ input₂
       → (why : Why) (told : List ℕ) → output₃ ≡ more output₂ told → StopsTelling r why told

@@ -3,7 +3,7 @@ use Rattle.std.proofs.Common.{◌≡◌, ◌≤◌, ◌∙◌, ℕ, List, [], �
 use Rattle.std.proofs.Math.Seq.{take-length}
 use Rattle.std.proofs.lemmas.List.{map-append, take-append-le}
 use Rattle.std.proofs.lemmas.List.Elements.{All-nil, All-append, All-cons, All-weaker}
-use Rattle.beam_machine.specs.Frames.{frame_in, none}
+use Rattle.beam_machine.specs.Frames.{frame_in, no_frame}
 use Rattle.beam_remote.specs.declared.memory.Counts.{Counts}
 use Rattle.beam_remote.specs.Found.{IsNeeded}
 use Rattle.beam_remote.specs.Tape.{AreTaken, Tape, moment_of, moments_of, with_read}
@@ -31,12 +31,12 @@ module _ (P : Moment → Type 0) where
 -- one more read began, at a moment at which the bytes had no whole frame
 pub read_needed : (bytes pending read : List ℕ) (input output input' output' : Option (List ℕ)) (old mid new : Option (List Moment))
     → EachRead (IsNeeded bytes input output) old mid → new ≡ one_read mid input' output'
-    → input' ≡ more input read → pending ≡ bytes ++ read → frame_in pending ≡ none → output' ≡ output → EachRead (IsNeeded bytes input output) old new
+    → input' ≡ more input read → pending ≡ bytes ++ read → frame_in pending ≡ no_frame → output' ≡ output → EachRead (IsNeeded bytes input output) old new
 read_needed bytes pending read input output input' output' old mid new was one is_read is_pending none_left is_written =
     one_since (IsNeeded bytes input output) old mid new input' output' was one (record {
       read = read;
       is_read = is_read;
-      none_left = subst (λ (b : List ℕ). frame_in b ≡ none) is_pending none_left;
+      none_left = subst (λ (b : List ℕ). frame_in b ≡ no_frame) is_pending none_left;
       is_written = is_written;
     })
 

@@ -5,7 +5,7 @@ use Rattle.beam_frame.specs.declared.error.FrameError.TheVariants as frame
 use Rattle.beam_machine.specs.declared.command.FrameFault.{FrameFault}
 use Rattle.beam_machine.specs.declared.command.FrameFault.TheVariants.{TooLong, BadKind, BadCommand}
 use Rattle.beam_machine.specs.declared.command.Response.{Response}
-use Rattle.beam_machine.specs.Frames.{Command, frame_in, none, one, fault, end_of, inside_frame, number_of_fault, fault_frame, reply_body, longest_frame}
+use Rattle.beam_machine.specs.Frames.{Command, frame_in, no_frame, one_frame, bad_frame, stream_end, inside_frame, number_of_fault, fault_frame, reply_body, longest_frame}
 use Rattle.beam_remote.specs.declared.stop.Stop.{Stop}
 use Rattle.beam_remote.specs.declared.stop.Stop.TheVariants as stop
 use Rattle.beam_remote.specs.declared.error.Why.{Why}
@@ -25,18 +25,18 @@ stop_of frame.Failed = stop.NoMemory
 
 -- what is found at the front of bytes of which no command was taken, and the bytes after it
 abbrev pub IsFound : List ℕ → Result (Option Command) Stop → List ℕ → Type 0
-IsFound bytes (Ok (Some c)) rest = frame_in bytes ≡ one c rest
+IsFound bytes (Ok (Some c)) rest = frame_in bytes ≡ one_frame c rest
 IsFound bytes (Ok None) rest = bytes ≡ []
-IsFound bytes (Err stop.ReadFailed) rest = frame_in bytes ≡ none
-IsFound bytes (Err stop.CutFrame) rest = (frame_in bytes ≡ none) × (end_of bytes ≡ inside_frame)
-IsFound bytes (Err (stop.Fault f)) rest = frame_in bytes ≡ fault f
+IsFound bytes (Err stop.ReadFailed) rest = frame_in bytes ≡ no_frame
+IsFound bytes (Err stop.CutFrame) rest = (frame_in bytes ≡ no_frame) × (stream_end bytes ≡ inside_frame)
+IsFound bytes (Err (stop.Fault f)) rest = frame_in bytes ≡ bad_frame f
 IsFound bytes (Err stop.NoMemory) rest = Unit {0}
 
 -- a read began when these bytes, with those read since, had no whole frame, and nothing had been written since
 pub record IsNeeded (bytes : List ℕ) (input output : Option (List ℕ)) (m : Moment) : Type 0 where
   pub read : List ℕ
   pub is_read : m.read ≡ more input read
-  pub none_left : frame_in (bytes ++ read) ≡ none
+  pub none_left : frame_in (bytes ++ read) ≡ no_frame
   pub is_written : m.written ≡ output
 
 -- a statement, where reading came to the end of the input
@@ -82,14 +82,14 @@ failures_telling (Err why) n = failures_after why n
 
 -- why no further command is read, and what was written then
 abbrev pub StopsReading : List ℕ → Why → List ℕ → Type 0
-StopsReading bytes ReadFailed begun = (frame_in bytes ≡ none) × (begun ≡ [])
-StopsReading bytes CutFrame begun = (frame_in bytes ≡ none) × (end_of bytes ≡ inside_frame) × (begun ≡ [])
-StopsReading bytes (BadFrame n) begun = (f : FrameFault) × (frame_in bytes ≡ fault f) × (n ≡ number_of_fault f) × (begun ≡ fault_frame f)
-StopsReading bytes WriteFailed begun = (f : FrameFault) × (frame_in bytes ≡ fault f) × ((left : List ℕ) × (begun ++ left ≡ fault_frame f))
+StopsReading bytes ReadFailed begun = (frame_in bytes ≡ no_frame) × (begun ≡ [])
+StopsReading bytes CutFrame begun = (frame_in bytes ≡ no_frame) × (stream_end bytes ≡ inside_frame) × (begun ≡ [])
+StopsReading bytes (BadFrame n) begun = (f : FrameFault) × (frame_in bytes ≡ bad_frame f) × (n ≡ number_of_fault f) × (begun ≡ fault_frame f)
+StopsReading bytes WriteFailed begun = (f : FrameFault) × (frame_in bytes ≡ bad_frame f) × ((left : List ℕ) × (begun ++ left ≡ fault_frame f))
 StopsReading bytes NoMemory begun = begun ≡ []
 
 abbrev pub IsReceived : List ℕ → Result (Option Command) Why → List ℕ → List ℕ → Type 0
-IsReceived bytes (Ok (Some c)) rest begun = (frame_in bytes ≡ one c rest) × (begun ≡ [])
+IsReceived bytes (Ok (Some c)) rest begun = (frame_in bytes ≡ one_frame c rest) × (begun ≡ [])
 IsReceived bytes (Ok None) rest begun = (bytes ≡ []) × (begun ≡ [])
 IsReceived bytes (Err why) rest begun = StopsReading bytes why begun
 

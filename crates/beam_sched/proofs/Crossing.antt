@@ -68,11 +68,11 @@ use Rattle.beam_machine.specs.contracts.debug.DebugEvent as DebugEvent
 use Rattle.beam_machine.specs.contracts.event.Event as Event
 use Rattle.beam_machine.specs.contracts.event.Images as Images
 use Rattle.beam_machine.specs.contracts.event.Images.TheInside as Images_inside
-use Rattle.beam_machine.specs.contracts.event.Terms as Terms
-use Rattle.beam_machine.specs.contracts.event.Terms.TheInside as Terms_inside
+use Rattle.beam_machine.specs.contracts.event.SpawnArguments as SpawnArguments
+use Rattle.beam_machine.specs.contracts.event.SpawnArguments.TheInside as Terms_inside
 use Rattle.beam_machine.specs.contracts.lent.Constant as Constant
 use Rattle.beam_machine.specs.contracts.lent.Constant.TheInside as Constant_inside
-use Rattle.beam_machine.specs.contracts.lent.Kept as ConstantKept
+use Rattle.beam_machine.specs.contracts.lent.MaybeOwned as ConstantKept
 use Rattle.beam_machine.specs.contracts.process.Signal as Signal
 use Rattle.beam_machine.specs.contracts.process.Status as Status
 use Rattle.beam_mailbox.specs.contracts.Mailbox as Mailbox
@@ -351,7 +351,7 @@ Core_send = view_send _ _ _ _ _ (declared_send Core_inside.the_type (Global.the_
 pub Debugger_send : IsSend Debugger.the_row
 Debugger_send = view_send _ _ _ _ _ (declared_send Debugger_inside.the_type (Global.the_send, (Core_send, (Marks_crossing.the_send, tt))))
 
-pub Terms_send : IsSend Terms.the_row
+pub Terms_send : IsSend SpawnArguments.the_row
 Terms_send = view_send _ _ _ _ _ (declared_send Terms_inside.the_type ((Vec-send _ Term_send), tt))
 
 pub Images_send : (I : RattleType) → IsSend I → IsSend (Images.the_row I)

@@ -19,10 +19,10 @@ use Rattle.beam_model.specs.declared.native.Unary.{Unary}
 use Rattle.beam_model.specs.declared.native.Unary.TheVariants as unary
 use Rattle.beam_model.specs.declared.native.Binary.{Binary}
 use Rattle.beam_model.specs.declared.native.Binary.TheVariants as binary
-use Rattle.beam_model.specs.Framed.{Shape, bare, sized, any, is_there as is_there_in, put_ys, put_all, made, trims as trims_by, is_total}
+use Rattle.beam_model.specs.Framed.{Shape, bare, sized, any, is_there as is_there_in, put_ys, put_all, after_effect, trims as trims_by, is_total}
 use Rattle.beam_model.specs.Listing.{row_of_label}
 use Rattle.beam_model.specs.Mailbox.{Mailbox}
-use Rattle.beam_model.specs.Native.{compares, is_of_type, is_equal, made as made_term, nullary_value, unary_value, binary_value, native_value, truth, is_exit}
+use Rattle.beam_model.specs.Native.{compares, is_of_type, is_equal, limited_term as made_term, nullary_value, unary_value, binary_value, native_value, truth, is_exit}
 use Rattle.beam_model.specs.declared.native.ProcessNative.{ProcessNative}
 use Rattle.beam_laws.proofs.Demonitoring.{answers_keep}
 use Rattle.beam_model.specs.Place.{Place}
@@ -46,7 +46,7 @@ use Rattle.beam_machine.specs.declared.process.Slot.TheVariants.{Value, Tag as T
 use Rattle.beam_machine.specs.declared.process.Status.TheVariants.{Running}
 use Rattle.beam_machine.specs.Code.{Code, entry_of}
 use Rattle.beam_machine.specs.Process.{Process, normal, read, read_x, put, put_x, put_y, with_slots, dropped, words_of, own_pid, bared, with_y}
-use Rattle.beam_machine.specs.Row.{Outcome, makes, sends, asks, sleeps, goes_on, goes_to, changes, stores, stores_made, stores_second, stores_two, decides, has_size, is_tagged, with_one, with_two, tests, fails, stores_computed, splits, opens, put_elements, stores_tuple, updates_record, allocates_in, trims_in, trims, cleared, tags, raises_again, raises_raw, catches, handles, raises, faults, illegal, returns_to, returns_from, returns, follows, answers, changed_by, answers_true, arguments_of, enters, framed, pushes, calls, calls_only, after_dropping, applies, chosen, selects, size_chosen, selects_size, own_number, sends_own, sends_to, peeks, with_message_at, waits, Duration, forever, milliseconds, duration_of, sleeps_at, sleeps_for, waits_for, waits_with, finds_message, exits}
+use Rattle.beam_machine.specs.Row.{Outcome, makes, sends, asks, sleeps, goes_on, goes_to, changes, stores, stores_made, stores_second, stores_two, decides, has_size, is_tagged, with_one, with_two, tests, fails, stores_computed, splits, opens, put_elements, stores_tuple, updates_record, allocates_in, trims_in, trims_newest, cleared, tags, raises_again, raises_raw, catches, handles, raises, faults, illegal, returns_to, returns_from, returns, follows, answers, changed_by, answers_true, arguments_of, enters, with_new_frame, pushes, calls, calls_only, after_dropping, applies, chosen, selects, size_chosen, selects_size, own_number, sends_own, sends_to, peeks, with_message_at, waits, Duration, forever, milliseconds, duration_of, sleeps_at, sleeps_for, waits_for, waits_with, finds_message, exits}
 use Rattle.beam_shape_laws.specs.Finds.{newest, is_bare, HasValue, test_reads}
 use Rattle.beam_shape_laws.specs.Shaped.{HasShape, Fits, Catches, Wait, WaitBehind, IsShaped}
 use Rattle.beam_shape_laws.proofs.Exits.{exit_gives}
@@ -444,7 +444,7 @@ module _ (row : Row) where
   allocated n h on c = allocated_in n p.frames h behind on c
 
   trimmed_slots : (m n : ℕ) (frame : Frame) (older : List Frame) (t : Shape) (y : Option (List Slot)) → HasShape instance instrs t y → Wait code frame.back older
-      → is_some (made (trims_by m n) t) ≡ true → ((u : Shape) → made (trims_by m n) t ≡ Some u → On u) → Right (trims_in m n next_place p frame older y)
+      → is_some (after_effect (trims_by m n) t) ≡ true → ((u : Shape) → after_effect (trims_by m n) t ≡ Some u → On u) → Right (trims_in m n next_place p frame older y)
   trimmed_slots m n frame older bare y h w e on = absurd (true≢false (sym e))
   trimmed_slots m n frame older any y h w e on = absurd (true≢false (sym e))
   trimmed_slots m n frame older (sized ts) None h w e on = absurd h
@@ -455,11 +455,11 @@ module _ (row : Row) where
       (running code q run (on (sized (drop m ts)) (ap (λ b. cond b (Some (sized (drop m ts))) None) many) (Some (drop m y)) (drop_held instance instrs m ts y h), w))
 
   trimmed_in : (m n : ℕ) (frames : List Frame) → HasShape instance instrs s (newest frames) → WaitBehind code frames
-      → is_some (made (trims_by m n) s) ≡ true → ((u : Shape) → made (trims_by m n) s ≡ Some u → On u) → Right (trims m n next_place p frames)
+      → is_some (after_effect (trims_by m n) s) ≡ true → ((u : Shape) → after_effect (trims_by m n) s ≡ Some u → On u) → Right (trims_newest m n next_place p frames)
   trimmed_in m n [] h w e on = absurd w
   trimmed_in m n (frame ∷ older) h w e on = trimmed_slots m n frame older s frame.y h w e on
 
-  pub trimmed : (m n : ℕ) → is_some (made (trims_by m n) s) ≡ true → ((u : Shape) → made (trims_by m n) s ≡ Some u → On u) → Right (trims m n next_place p p.frames)
+  pub trimmed : (m n : ℕ) → is_some (after_effect (trims_by m n) s) ≡ true → ((u : Shape) → after_effect (trims_by m n) s ≡ Some u → On u) → Right (trims_newest m n next_place p p.frames)
   trimmed m n e on = trimmed_in m n p.frames has behind e on
 
   pub dropped_bare : (n : ℕ) → has_many n p.frames ≡ true → StandsIf code instance instrs bare (dropped n p p.frames)
@@ -532,8 +532,8 @@ module _ (row : Row) where
 
   pub pushed : (does : Process → Process) → Caught → On s → ((q : Process) → IsBare code q → Right (does q)) → Right (pushes p does next_place)
   pushed does c on k =
-      elim (nat_lt (words_of p.frames) 65536) as (λ b. Right (cond b (does (framed p next_place)) (faults p SystemLimit))) [
-        | true ↦ k (framed p next_place) (refl, waits_from code next_place p.frames (on (newest p.frames) has) c behind, run)
+      elim (nat_lt (words_of p.frames) 65536) as (λ b. Right (cond b (does (with_new_frame p next_place)) (faults p SystemLimit))) [
+        | true ↦ k (with_new_frame p next_place) (refl, waits_from code next_place p.frames (on (newest p.frames) has) c behind, run)
         | false ↦ faulted c SystemLimit
       ]
 

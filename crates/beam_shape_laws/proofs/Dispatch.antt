@@ -25,7 +25,7 @@ use Rattle.beam_model.specs.declared.native.Unary.TheVariants as unary
 use Rattle.beam_model.specs.declared.opcode.Kind.TheVariants as kind
 use Rattle.beam_model.specs.declared.opcode.Opcode.{Opcode}
 use Rattle.beam_model.specs.declared.opcode.Opcode.TheVariants as op
-use Rattle.beam_model.specs.Framed.{bare, ys_in, is_value, put_all, made, keeps, wants_bare, drops, exits_by, exits, labels_in as labels_named, label_in as label_named, in_list, number, may_have, begins_bare, never_returns}
+use Rattle.beam_model.specs.Framed.{bare, ys_in, is_value, put_all, after_effect, keeps, wants_bare, drops, calls_exit_by, calls_exit, labels_in as labels_named, label_in as label_named, in_list, number, may_have, begins_bare, never_returns}
 use Rattle.beam_model.specs.Listing.{next_row, is_row_by}
 use Rattle.beam_model.specs.Mailbox.{message_at, with_next, with_removed, with_reset}
 use Rattle.beam_model.specs.Native.{class_in, is_exit}
@@ -41,7 +41,7 @@ use Rattle.beam_machine.specs.declared.action.Source.TheVariants as source
 use Rattle.beam_machine.specs.declared.action.Test.TheVariants as test
 use Rattle.beam_machine.specs.declared.callee.After.TheVariants.{NextRow}
 use Rattle.beam_machine.specs.declared.callee.Callee.TheVariants as callee
-use Rattle.beam_machine.specs.Action.{number_in, given, target_of, has_size, is_tagged, to_label, local_call, call_last, external_call, call_ext_last, with_number, with_numbers, with_register, reads, reads_both, peek, wait_timeout, action_by}
+use Rattle.beam_machine.specs.Action.{number_in, given, target_of, test_of_size, test_of_tag, to_label, local_call, call_last, external_call, call_ext_last, with_number, with_numbers, with_register, reads, reads_both, peek, wait_timeout, action_by}
 use Rattle.beam_machine.specs.Callee.{erlang_callee, node_callee, process_callee, callee_named, callee_of}
 use Rattle.beam_machine.specs.Process.{read, read_x, put_x, dropped, bared, own_pid}
 use Rattle.beam_machine.specs.Row.{goes_to, calls, calls_only, after_dropping, arguments_of, callee_at, exits as exits_here}
@@ -107,7 +107,7 @@ either_of true b e f g = f refl
 either_of false b e f g = g e
 
 -- a callee never returns exactly if its native is one of these
-same_exits : (i : Import) → exits_here (callee_of i) ≡ exits (operand.Import i)
+same_exits : (i : Import) → exits_here (callee_of i) ≡ calls_exit (operand.Import i)
 unfolding callee_named
 same_exits i = at (is_erlang i.«module»)
   where
@@ -119,11 +119,11 @@ same_exits i = at (is_erlang i.«module»)
     of_node (Some f) = refl
     of_node None = of_process (process_native_named i.function i.arity)
 
-    of_native : (o : Option Native) → exits_here (erlang_callee i.function i.arity o) ≡ exits_by o
+    of_native : (o : Option Native) → exits_here (erlang_callee i.function i.arity o) ≡ calls_exit_by o
     of_native (Some f) = refl
     of_native None = of_node (node_native_named i.function i.arity)
 
-    at : (b : Bool) → exits_here (cond b (erlang_callee i.function i.arity (native_named i.function i.arity)) (callee.Function i.«module» i.function i.arity)) ≡ (b && exits_by (native_named i.function i.arity))
+    at : (b : Bool) → exits_here (cond b (erlang_callee i.function i.arity (native_named i.function i.arity)) (callee.Function i.«module» i.function i.arity)) ≡ (b && calls_exit_by (native_named i.function i.arity))
     at true = of_native (native_named i.function i.arity)
     at false = refl
 
@@ -174,8 +174,8 @@ module _ (here : rows.Before) where
   external_row i false e c on = ((tt, tt, refl, tt), called row (callee_of i) enter c (rows.on_same here on))
 
   -- a call in a frame without y registers, which it gives up
-  bare_call : (i : Instruction) → rows.LeavesOn here i (made wants_bare s) → s ≡ bare
-  bare_call i on = rows.wants_bare_is here s (rows.made_some here i (put_all None []) (made wants_bare s) on)
+  bare_call : (i : Instruction) → rows.LeavesOn here i (after_effect wants_bare s) → s ≡ bare
+  bare_call i on = rows.wants_bare_is here s (rows.made_some here i (put_all None []) (after_effect wants_bare s) on)
 
   is_bare_here : s ≡ bare → is_bare p.frames ≡ true
   is_bare_here e = bare_there code instance l.instructions p.frames (rows.has_bare here e) behind
@@ -189,7 +189,7 @@ module _ (here : rows.Before) where
       (λ n b. ((tt, tt, refl, (rows.has_entry here n (rows.begins here n b), tt)), pushed row (λ q. goes_to q instance (target_of l.instructions n)) c (rows.on_same here on) (λ q k. bare_goes row q (target_of l.instructions n) k (rows.begins here n b))))
       f gf.0 b
 
-  called_only_row : (i : Instruction) (arity f : Operand) → IsGood defined kind.Label f → Begun f → rows.LeavesOn here i (made wants_bare s)
+  called_only_row : (i : Instruction) (arity f : Operand) → IsGood defined kind.Label f → Begun f → rows.LeavesOn here i (after_effect wants_bare s)
       → Result (local_call l.instructions (λ t. Control (control.Jump t)) (arity ∷ f ∷ []))
   called_only_row i arity f gf b on =
       as_label (λ f. Begun f → Result (local_call l.instructions (λ t. Control (control.Jump t)) (arity ∷ f ∷ [])))
@@ -197,41 +197,41 @@ module _ (here : rows.Before) where
       f gf.0 b
 
   -- a row that drops n y registers finds n of them
-  has_dropped : (i : Instruction) (n : ℕ) → rows.LeavesOn here i (made (drops n) s) → has_many n p.frames ≡ true
-  has_dropped i n on = size_there code instance l.instructions s p.frames n has (rows.made_some here i (put_all None []) (made (drops n) s) on)
+  has_dropped : (i : Instruction) (n : ℕ) → rows.LeavesOn here i (after_effect (drops n) s) → has_many n p.frames ≡ true
+  has_dropped i n on = size_there code instance l.instructions s p.frames n has (rows.made_some here i (put_all None []) (after_effect (drops n) s) on)
 
   called_last_row : (i : Instruction) (arity f o : Operand) → IsGood defined kind.Label f → IsGood defined kind.Number o → Begun f
-      → rows.LeavesOn here i (made (drops (number o)) s) → Result (call_last l.instructions (arity ∷ f ∷ o ∷ []))
+      → rows.LeavesOn here i (after_effect (drops (number o)) s) → Result (call_last l.instructions (arity ∷ f ∷ o ∷ []))
   called_last_row i arity f o gf go b on =
       as_label (λ f. Begun f → Result (call_last l.instructions (arity ∷ f ∷ o ∷ [])))
-      (λ m b. as_number (λ o. rows.LeavesOn here i (made (drops (number o)) s) → Result (call_last l.instructions (arity ∷ operand.One (argument.Label m) ∷ o ∷ [])))
+      (λ m b. as_number (λ o. rows.LeavesOn here i (after_effect (drops (number o)) s) → Result (call_last l.instructions (arity ∷ operand.One (argument.Label m) ∷ o ∷ [])))
       (λ n on. ((tt, tt, dropped_some row n (has_dropped i n on), (rows.has_entry here m (rows.begins here m b), tt)), after_drop row (dropped n p p.frames) _ (dropped_bare row n (has_dropped i n on)) (λ q k. bare_goes row q (target_of l.instructions m) k (rows.begins here m b))))
       o go.0 on)
       f gf.0 b
 
-  last_row : (i : Instruction) (n : ℕ) (c : Import) (b : Bool) → exits_here (callee_of c) ≡ b → rows.LeavesOn here i (made (cond b keeps (drops n)) s)
+  last_row : (i : Instruction) (n : ℕ) (c : Import) (b : Bool) → exits_here (callee_of c) ≡ b → rows.LeavesOn here i (after_effect (cond b keeps (drops n)) s)
       → Result (Control (control.CallExternalLast n (callee_of c)))
   last_row i n c b e on = ((tt, tt, wants b e on, tt), subst (λ b. Comes code (cond b (calls_only code (callee_of c) (bared p)) (after_dropping p (dropped n p p.frames) (calls_only code (callee_of c))))) (sym e) (comes b e on))
     where
-      wants : (b : Bool) → exits_here (callee_of c) ≡ b → rows.LeavesOn here i (made (cond b keeps (drops n)) s) → (exits_here (callee_of c) || has_slots n p) ≡ true
+      wants : (b : Bool) → exits_here (callee_of c) ≡ b → rows.LeavesOn here i (after_effect (cond b keeps (drops n)) s) → (exits_here (callee_of c) || has_slots n p) ≡ true
       wants true e on = ap (λ b. b || has_slots n p) e
       wants false e on = ap (λ b. b || has_slots n p) e ∙ dropped_some row n (has_dropped i n on)
 
-      comes : (b : Bool) → exits_here (callee_of c) ≡ b → rows.LeavesOn here i (made (cond b keeps (drops n)) s)
+      comes : (b : Bool) → exits_here (callee_of c) ≡ b → rows.LeavesOn here i (after_effect (cond b keeps (drops n)) s)
           → Comes code (cond b (calls_only code (callee_of c) (bared p)) (after_dropping p (dropped n p p.frames) (calls_only code (callee_of c))))
       comes true e on = exited row (callee_of c) e
       comes false e on = after_drop row (dropped n p p.frames) _ (dropped_bare row n (has_dropped i n on)) (λ q k. called_only code (callee_of c) q enter k)
 
   external_last_row : (i : Instruction) (arity e o : Operand) → IsGood defined kind.Import e → IsGood defined kind.Number o
-      → rows.LeavesOn here i (made (cond (exits e) keeps (drops (number o))) s) → Result (call_ext_last (arity ∷ e ∷ o ∷ []))
+      → rows.LeavesOn here i (after_effect (cond (calls_exit e) keeps (drops (number o))) s) → Result (call_ext_last (arity ∷ e ∷ o ∷ []))
   external_last_row i arity e o ge go on =
-      as_import (λ e. rows.LeavesOn here i (made (cond (exits e) keeps (drops (number o))) s) → Result (call_ext_last (arity ∷ e ∷ o ∷ [])))
-      (λ c on. as_number (λ o. rows.LeavesOn here i (made (cond (exits (operand.Import c)) keeps (drops (number o))) s) → Result (call_ext_last (arity ∷ operand.Import c ∷ o ∷ [])))
-      (λ n on. last_row i n c (exits (operand.Import c)) (same_exits c) on)
+      as_import (λ e. rows.LeavesOn here i (after_effect (cond (calls_exit e) keeps (drops (number o))) s) → Result (call_ext_last (arity ∷ e ∷ o ∷ [])))
+      (λ c on. as_number (λ o. rows.LeavesOn here i (after_effect (cond (calls_exit (operand.Import c)) keeps (drops (number o))) s) → Result (call_ext_last (arity ∷ operand.Import c ∷ o ∷ [])))
+      (λ n on. last_row i n c (calls_exit (operand.Import c)) (same_exits c) on)
       o go.0 on)
       e ge.0 on
 
-  external_only_row : (i : Instruction) (arity e : Operand) → IsGood defined kind.Import e → rows.LeavesOn here i (made wants_bare s)
+  external_only_row : (i : Instruction) (arity e : Operand) → IsGood defined kind.Import e → rows.LeavesOn here i (after_effect wants_bare s)
       → Result (external_call (λ c. Control (control.CallExternalOnly c)) (arity ∷ e ∷ []))
   external_only_row i arity e ge on =
       as_import (λ e. Result (external_call (λ c. Control (control.CallExternalOnly c)) (arity ∷ e ∷ [])))
@@ -242,14 +242,14 @@ module _ (here : rows.Before) where
   applied_row a ga c on = given_arity Result a (λ n. Control (control.Apply n)) ga.0 (λ n. ((tt, tt, refl, tt), applied row (callee_at p n) enter c (rows.on_same here on)))
 
   applied_last_row : (i : Instruction) (a o : Operand) → IsGood defined kind.Arity a → IsGood defined kind.Number o
-      → rows.LeavesOn here i (made (drops (number o)) s) → Result (with_numbers (λ m n. Control (control.ApplyLast m n)) (a ∷ o ∷ []))
+      → rows.LeavesOn here i (after_effect (drops (number o)) s) → Result (with_numbers (λ m n. Control (control.ApplyLast m n)) (a ∷ o ∷ []))
   applied_last_row i a o ga go on =
       given_arity Result a _ ga.0
-      (λ m. as_number (λ o. rows.LeavesOn here i (made (drops (number o)) s) → Result (given (number_in o) (λ n. Control (control.ApplyLast m n))))
+      (λ m. as_number (λ o. rows.LeavesOn here i (after_effect (drops (number o)) s) → Result (given (number_in o) (λ n. Control (control.ApplyLast m n))))
       (λ n on. ((tt, tt, dropped_some row n (has_dropped i n on), tt), after_drop row (dropped n p p.frames) _ (dropped_bare row n (has_dropped i n on)) (λ q k. applied_only code q (callee_at q m) enter k)))
       o go.0 on)
 
-  returned_row : (i : Instruction) → rows.LeavesOn here i (made wants_bare s) → Result (Control control.Return)
+  returned_row : (i : Instruction) → rows.LeavesOn here i (after_effect wants_bare s) → Result (Control control.Return)
   returned_row i on = ((tt, tt, is_bare_here (bare_call i on), tt), returned code p (is_bare_here (bare_call i on)) run behind)
 
   -- ---- jumps and messages
@@ -290,13 +290,13 @@ module _ (here : rows.Before) where
   -- ---- tests of sizes
 
   sized_row : (f a n : Operand) → IsGood defined kind.Label f → IsGood defined kind.Source a → IsGood defined kind.Number n → list_all (is_value s) (ys_in a ++ []) ≡ true
-      → list_all (rows.reach here) (labels_named f ++ []) ≡ true → rows.NoneWritten here → Result (has_size l.instructions (f ∷ a ∷ n ∷ []))
+      → list_all (rows.reach here) (labels_named f ++ []) ≡ true → rows.NoneWritten here → Result (test_of_size l.instructions (f ∷ a ∷ n ∷ []))
   sized_row f a n gf ga gn v j on =
       rows.with_label here f [] _ gf j (λ t r _. rows.with_source here a [] _ ga v (λ x hx _. rows.with_count here n _ gn (λ m.
       (((hx, tt), tt, refl, (rows.has_row here t r, tt)), tested row (test.HasSize x m) (target_of l.instructions t) (hx, tt) r (rows.on_same here on)))))
 
   tagged_row : (f a n o : Operand) → IsGood defined kind.Label f → IsGood defined kind.Source a → IsGood defined kind.Number n → IsGood defined kind.Atom o → list_all (is_value s) (ys_in a ++ []) ≡ true
-      → list_all (rows.reach here) (labels_named f ++ []) ≡ true → rows.NoneWritten here → Result (is_tagged l.instructions (f ∷ a ∷ n ∷ o ∷ []))
+      → list_all (rows.reach here) (labels_named f ++ []) ≡ true → rows.NoneWritten here → Result (test_of_tag l.instructions (f ∷ a ∷ n ∷ o ∷ []))
   tagged_row f a n o gf ga gn go v j on =
       rows.with_label here f [] _ gf j (λ t r _. rows.with_source here a [] _ ga v (λ x hx _. rows.with_count here n _ gn (λ m. given_atom Result o _ go.0 (λ text.
       (((hx, tt), tt, refl, (rows.has_row here t r, tt)), tested row (test.IsTagged x m text) (target_of l.instructions t) (hx, tt) r (rows.on_same here on))))))

@@ -26,7 +26,7 @@ use Rattle.beam_machine.specs.declared.process.Status.{Status}
 use Rattle.beam_machine.specs.declared.process.Status.TheVariants.{Running, Waiting, Ended}
 use Rattle.beam_machine.specs.Change.{current_of, old_of, deleted, purged, lingers_at, lingers_in_old, lingers_in_olds, killing}
 use Rattle.beam_machine.specs.Code.{Code}
-use Rattle.beam_machine.specs.Next.{Next, refused, replied, raised, continues, deadline_at, done_by, row, Rows, running as running_one, row_and, steps, ran_to, ran, next_steps, signalled, notified, arrived, delivered, is_nothing, next_deliver, timed_out, next_timeout, next_spawn, sent_to, next_send, end_old, load_new, has_room, next_load, next_load_strict, next_delete, is_lingered_in, next_soft_purge, are_apart, stands_in_way, end_olds, load_each, upgraded, next_atomic, next}
+use Rattle.beam_machine.specs.Next.{Next, refused, replied, raised, continues, deadline_at, done_by, row, Rows, running as running_one, row_and, steps, ran_to, ran, next_steps, signalled, notified, arrived, delivered, is_nothing, next_deliver, timed_out, next_timeout, next_spawn, sent_to, next_send, end_old, load_new, has_instances_left, next_load, next_load_strict, next_delete, is_lingered_in, next_soft_purge, are_apart, stands_in_way, end_olds, load_each, upgraded, next_atomic, next}
 use Rattle.beam_machine.specs.NodeNative.{Answered, answer_of, most_processes}
 use Rattle.beam_machine.specs.Process.{Process, is_running, is_ended, is_waiting, started, ended, killed, monitor_of}
 use Rattle.beam_machine.specs.Row.{Outcome, makes, sends, asks, sleeps, answers, arguments_of, outcome, goes_on}
@@ -184,7 +184,7 @@ load_new_kept s l w h = (loaded_lawful s.code (s.instances + 1) l w h.0, loaded_
 
 load_kept : (s : State) (l : Listing) → IsWellFormed l → Framing s → Kept (next_load s l).state
 load_kept s l w h =
-    either Kept (is_erlang l.name) (refused s Sticky) _ (h.0, h.2) (either Kept (has_room s) (load_new (end_old s l.name) l) (refused s TooMany) (load_new_kept s l w h) (h.0, h.2))
+    either Kept (is_erlang l.name) (refused s Sticky) _ (h.0, h.2) (either Kept (has_instances_left s) (load_new (end_old s l.name) l) (refused s TooMany) (load_new_kept s l w h) (h.0, h.2))
 
 strict_kept : (s : State) (l : Listing) → IsWellFormed l → Framing s → Kept (next_load_strict s l).state
 strict_kept s l w h = either Kept (is_erlang l.name) (refused s Sticky) _ (h.0, h.2) (go (is_some (old_of s.code l.name)) refl)
@@ -194,9 +194,9 @@ strict_kept s l w h = either Kept (is_erlang l.name) (refused s Sticky) _ (h.0, 
         subst (λ (ps : List Process). Kept (load_new (record s { processes = ps }) l).state)
         (ap (λ o. killing (lingers_at o) s.processes) e ∙ nobody_ends (lingers_at None) s.processes (nobody_at s.processes)) (load_new_kept s l w h)
 
-    go : (b : Bool) → is_some (old_of s.code l.name) ≡ b → Kept (cond {A = Next} b (refused s NotPurged) (cond (has_room s) (load_new s l) (refused s TooMany))).state
+    go : (b : Bool) → is_some (old_of s.code l.name) ≡ b → Kept (cond {A = Next} b (refused s NotPurged) (cond (has_instances_left s) (load_new s l) (refused s TooMany))).state
     go true e = (h.0, h.2)
-    go false e = either Kept (has_room s) (load_new s l) (refused s TooMany) (over_none (none_is (old_of s.code l.name) e)) (h.0, h.2)
+    go false e = either Kept (has_instances_left s) (load_new s l) (refused s TooMany) (over_none (none_is (old_of s.code l.name) e)) (h.0, h.2)
 
 each_kept : (s : State) (ls : List Listing) → AllByRecursion IsWellFormed ls → Framing s → Kept (load_each s ls)
 each_kept s [] w h = (h.0, h.2)

@@ -7,10 +7,10 @@ use Rattle.std.specs.List.{list_all}
 use Rattle.std.specs.Prelude.{Option, Some, None, is_some, option_and_then}
 use Rattle.beam_model.specs.declared.instruction.Instruction.{Instruction}
 use Rattle.beam_model.specs.Fetch.{end_of_code}
-use Rattle.beam_model.specs.Framed.{Shape, bare, sized, any, Assignment, first_tag, may_have, is_bare as is_bare_in, shape_of_label, begins_bare, in_list, row_at, targets, jumps, may_raise, leads, finds, fits, fits_if, leads_on, left, read_ys, written_ys, is_value, is_there as is_there_in, tags_a_y, tag as tag_by_row, called}
+use Rattle.beam_model.specs.Framed.{Shape, bare, sized, any, Assignment, first_tag, may_have, is_bare as is_bare_in, shape_of_label, begins_bare, in_list, row_at, targets, jumps, may_raise, leads, finds, fits, fits_if, leads_on, shape_after, read_ys, written_ys, is_value, is_there as is_there_in, tags_a_y, tag as tag_by_row, called}
 use Rattle.beam_model.specs.Heads.{IsWellFormed}
-use Rattle.beam_model.specs.Listing.{Listing, label_of, is_row, is_number, passed, row_of_label, next_row}
-use Rattle.beam_model.specs.Loadable.{is_among, in_front, labels_in}
+use Rattle.beam_model.specs.Listing.{Listing, label_of, is_row, is_this_number, gap_before_row, row_of_label, next_row}
+use Rattle.beam_model.specs.Loadable.{is_among, with_label, defined_labels}
 use Rattle.beam_model.specs.Place.{Place}
 use Rattle.beam_machine.specs.declared.process.Slot.{Slot}
 use Rattle.beam_machine.specs.Code.{Code, listing_of}
@@ -28,13 +28,13 @@ IsRowAt is at = (at ≤ length is) × (is_row (row_at is at) ≡ true)
 plus_one : (n : ℕ) → n + 1 ≡ suc n
 plus_one n = omega arith
 
-passed_row : (is : List Instruction) → IsRowAt is (passed is)
+passed_row : (is : List Instruction) → IsRowAt is (gap_before_row is)
 passed_row [] = (omega arith, refl)
 passed_row (i ∷ rest) = go (is_row i) refl (passed_row rest)
   where
-    go : (b : Bool) → is_row i ≡ b → IsRowAt rest (passed rest) → IsRowAt (i ∷ rest) (cond b 0 (passed rest + 1))
+    go : (b : Bool) → is_row i ≡ b → IsRowAt rest (gap_before_row rest) → IsRowAt (i ∷ rest) (cond b 0 (gap_before_row rest + 1))
     go true e k = (omega arith, e)
-    go false e k = subst (IsRowAt (i ∷ rest)) (sym (plus_one (passed rest))) (omega (arith, k.0), k.1)
+    go false e k = subst (IsRowAt (i ∷ rest)) (sym (plus_one (gap_before_row rest))) (omega (arith, k.0), k.1)
 
 -- k, counted from at, is the position of a row in the list
 abbrev IsRowBehind : ℕ → List Instruction → ℕ → Type 0
@@ -42,13 +42,13 @@ IsRowBehind at is k = (j : ℕ) × (k ≡ at + j) × IsRowAt is j
 
 label_behind : (label at : ℕ) (is : List Instruction) (k : ℕ) → row_of_label label at is ≡ Some k → IsRowBehind at is k
 label_behind label at [] k e = cc
-label_behind label at (i ∷ rest) k e = go (label_behind label (at + 1) rest k) (is_number label (label_of i)) e
+label_behind label at (i ∷ rest) k e = go (label_behind label (at + 1) rest k) (is_this_number label (label_of i)) e
   where
-    go : (row_of_label label (at + 1) rest ≡ Some k → IsRowBehind (at + 1) rest k) → (b : Bool) → cond b (Some (at + 1 + passed rest)) (row_of_label label (at + 1) rest) ≡ Some k → IsRowBehind at (i ∷ rest) k
+    go : (row_of_label label (at + 1) rest ≡ Some k → IsRowBehind (at + 1) rest k) → (b : Bool) → cond b (Some (at + 1 + gap_before_row rest)) (row_of_label label (at + 1) rest) ≡ Some k → IsRowBehind at (i ∷ rest) k
     go more true e =
         let row = passed_row rest in
-        let is : at + 1 + passed rest ≡ k = some_is (at + 1 + passed rest) k e in
-        (suc (passed rest), omega (arith, is), (omega (arith, row.0), row.1))
+        let is : at + 1 + gap_before_row rest ≡ k = some_is (at + 1 + gap_before_row rest) k e in
+        (suc (gap_before_row rest), omega (arith, is), (omega (arith, row.0), row.1))
     go more false e =
         let later = more e in
         (suc later.0, omega (arith, later.1), (omega (arith, later.2.0), later.2.1))
@@ -65,7 +65,7 @@ pub next_is_row : (is : List Instruction) (at : ℕ) → at < length is → IsRo
 next_is_row is at within =
     let row = passed_row (drop (at + 1) is) in
     let most : length (drop (at + 1) is) ≡ length is - (at + 1) = length-drop (at + 1) is in
-    (omega (arith, row.0, most, within), ap is_row (sym (row_behind is (at + 1) (passed (drop (at + 1) is)))) ∙ row.1)
+    (omega (arith, row.0, most, within), ap is_row (sym (row_behind is (at + 1) (gap_before_row (drop (at + 1) is)))) ∙ row.1)
 
 -- ---- labels that are defined
 
@@ -73,17 +73,17 @@ same_number : (n m : ℕ) (b : Bool) → (n == m) ≡ b → (m == n) ≡ b
 same_number n m true e = grind (arith, nat_tests)
 same_number n m false e = grind (arith, nat_tests)
 
-among_front : (label at : ℕ) (i : Instruction) (rest : List Instruction) (o : Option ℕ) → label_of i ≡ o → is_among label (in_front o (labels_in rest)) ≡ true
-    → (is_among label (labels_in rest) ≡ true → is_some (row_of_label label (at + 1) rest) ≡ true) → is_some (row_of_label label at (i ∷ rest)) ≡ true
-among_front label at i rest None e h k = ap (λ o. is_some (cond (is_number label o) (Some (at + 1 + passed rest)) (row_of_label label (at + 1) rest))) e ∙ k h
+among_front : (label at : ℕ) (i : Instruction) (rest : List Instruction) (o : Option ℕ) → label_of i ≡ o → is_among label (with_label o (defined_labels rest)) ≡ true
+    → (is_among label (defined_labels rest) ≡ true → is_some (row_of_label label (at + 1) rest) ≡ true) → is_some (row_of_label label at (i ∷ rest)) ≡ true
+among_front label at i rest None e h k = ap (λ o. is_some (cond (is_this_number label o) (Some (at + 1 + gap_before_row rest)) (row_of_label label (at + 1) rest))) e ∙ k h
 among_front label at i rest (Some n) e h k =
-    ap (λ o. is_some (cond (is_number label o) (Some (at + 1 + passed rest)) (row_of_label label (at + 1) rest))) e ∙ go (label == n) refl h
+    ap (λ o. is_some (cond (is_this_number label o) (Some (at + 1 + gap_before_row rest)) (row_of_label label (at + 1) rest))) e ∙ go (label == n) refl h
   where
-    go : (b : Bool) → (label == n) ≡ b → (b || is_among label (labels_in rest)) ≡ true → is_some (cond (n == label) (Some (at + 1 + passed rest)) (row_of_label label (at + 1) rest)) ≡ true
-    go true f h = ap (λ b. is_some (cond b (Some (at + 1 + passed rest)) (row_of_label label (at + 1) rest))) (same_number label n true f)
-    go false f h = ap (λ b. is_some (cond b (Some (at + 1 + passed rest)) (row_of_label label (at + 1) rest))) (same_number label n false f) ∙ k h
+    go : (b : Bool) → (label == n) ≡ b → (b || is_among label (defined_labels rest)) ≡ true → is_some (cond (n == label) (Some (at + 1 + gap_before_row rest)) (row_of_label label (at + 1) rest)) ≡ true
+    go true f h = ap (λ b. is_some (cond b (Some (at + 1 + gap_before_row rest)) (row_of_label label (at + 1) rest))) (same_number label n true f)
+    go false f h = ap (λ b. is_some (cond b (Some (at + 1 + gap_before_row rest)) (row_of_label label (at + 1) rest))) (same_number label n false f) ∙ k h
 
-pub defined_row : (label at : ℕ) (is : List Instruction) → is_among label (labels_in is) ≡ true → is_some (row_of_label label at is) ≡ true
+pub defined_row : (label at : ℕ) (is : List Instruction) → is_among label (defined_labels is) ≡ true → is_some (row_of_label label at is) ≡ true
 defined_row label at [] h = absurd (true≢false (sym h))
 defined_row label at (i ∷ rest) h = among_front label at i rest (label_of i) refl h (defined_row label (at + 1) rest)
 
@@ -143,12 +143,12 @@ module _ (code : Code) (instance : ℕ) (l : Listing) (found : listing_of code i
     pub begins : list_all (begins_bare shapes l.instructions) (in_list (called i)) ≡ true
     pub raises : may_raise i ≡ true → Catches code y
     pub jumps : list_all (λ label. may_have s (shape_of_label shapes l.instructions label)) (jumps i) ≡ true
-    pub on : leads_on shapes i (next_row at l.instructions) (left i s) ≡ true
+    pub on : leads_on shapes i (next_row at l.instructions) (shape_after i s) ≡ true
 
   pub facts_of : (i : Instruction) (at : ℕ) (s : Shape) (y : Option (List Slot)) → HasShape instance l.instructions s y → fits shapes l.instructions i (next_row at l.instructions) s ≡ true → Facts i at s y
   facts_of i at s y has e =
       let next = next_row at l.instructions in
-      let whole = and_parts (finds i s && leads shapes l.instructions i s) (leads_on shapes i next (left i s)) e in
+      let whole = and_parts (finds i s && leads shapes l.instructions i s) (leads_on shapes i next (shape_after i s)) e in
       let parts = and_parts (finds i s) (leads shapes l.instructions i s) whole.0 in
       let found = and_parts (list_all (is_value s) (read_ys i) && list_all (is_there_in s) (written_ys i)) (tags_a_y (tag_by_row i) (written_ys i)) parts.0 in
       let registers = and_parts (list_all (is_value s) (read_ys i)) (list_all (is_there_in s) (written_ys i)) found.0 in

@@ -19,8 +19,8 @@ use Rattle.beam_machine.specs.declared.action.Step.{Step}
 use Rattle.beam_machine.specs.declared.process.Goes.{Goes}
 use Rattle.beam_machine.specs.declared.process.Goes.TheVariants.{At, Enter, Nowhere}
 use Rattle.beam_machine.specs.Code.{Code, step_of}
-use Rattle.beam_machine.specs.Debug.{Debugged, DebugAnswer, DebugNext, debug_next, rows_told, steps_of, erased, erase}
-use Rattle.beam_machine.specs.DebugRun.{debug_cut, DebugAnswers}
+use Rattle.beam_machine.specs.Debug.{Debugged, DebugAnswer, DebugNext, debug_next, rows_of_answer, steps_of, erased, erase}
+use Rattle.beam_machine.specs.DebugRun.{debug_cut_event, DebugAnswers}
 use Rattle.beam_machine.specs.Next.{Answer, Next, steps, next}
 use Rattle.beam_machine.specs.Private.{Private, private_by, private_rows, private_to_spot, stops, after_row}
 use Rattle.beam_machine.specs.Process.{Process, is_running}
@@ -154,20 +154,20 @@ steps_lawful pid zero = tt
 steps_lawful pid (suc n) = (tt, tt)
 
 erased_lawful : (e : DebugEvent Listing) (a : DebugAnswer) → DebugLoadsFramed e → LoadFramed (erased e a ++ [])
-erased_lawful (NodeEvent (event.Steps pid n)) a w = steps_lawful pid (rows_told a)
+erased_lawful (NodeEvent (event.Steps pid n)) a w = steps_lawful pid (rows_of_answer a)
 erased_lawful (NodeEvent e) a w = (w, tt)
-erased_lawful (StepOne pid) a w = steps_lawful pid (rows_told a)
+erased_lawful (StepOne pid) a w = steps_lawful pid (rows_of_answer a)
 erased_lawful _ a w = tt
 
 pub debug_framed : (d : Debugged) (e : DebugEvent Listing) → DebugLoadsFramed e → IsFramedNode d.node → IsFramedNode (debug_next d e).state.node
 debug_framed d e w h = subst IsFramedNode (run_erased d (e ∷ [])) (run_framed d.node (erase d (e ∷ [])) (erased_lawful e (debug_next d e).answer w) h)
 
-cut_lawful : (e : DebugEvent Listing) (a : DebugAnswer) → DebugLoadsFramed e → DebugLoadsFramed (debug_cut e a)
+cut_lawful : (e : DebugEvent Listing) (a : DebugAnswer) → DebugLoadsFramed e → DebugLoadsFramed (debug_cut_event e a)
 cut_lawful (NodeEvent (event.Steps pid n)) (Ok (Node (Ran count after))) w = tt
 cut_lawful (NodeEvent (event.Steps pid n)) a w = tt
 cut_lawful e a w = w
 
 pub debug_answered_framed : (d new : Debugged) (e : DebugEvent Listing) (a : DebugAnswer) → DebugAnswers d e a new → DebugLoadsFramed e → IsFramedNode d.node → IsFramedNode new.node
 debug_answered_framed d new e (Err NoMemory) h w k = subst (λ (x : Debugged). IsFramedNode x.node) (sym h) k
-debug_answered_framed d new e (Ok reply) h w k = subst (λ (x : DebugNext). IsFramedNode x.state.node) h (debug_framed d (debug_cut e (Ok reply)) (cut_lawful e (Ok reply) w) k)
-debug_answered_framed d new e (Err refusal) h w k = subst (λ (x : DebugNext). IsFramedNode x.state.node) h (debug_framed d (debug_cut e (Err refusal)) (cut_lawful e (Err refusal) w) k)
+debug_answered_framed d new e (Ok reply) h w k = subst (λ (x : DebugNext). IsFramedNode x.state.node) h (debug_framed d (debug_cut_event e (Ok reply)) (cut_lawful e (Ok reply) w) k)
+debug_answered_framed d new e (Err refusal) h w k = subst (λ (x : DebugNext). IsFramedNode x.state.node) h (debug_framed d (debug_cut_event e (Err refusal)) (cut_lawful e (Err refusal) w) k)

@@ -16,10 +16,10 @@ use Rattle.beam_model.specs.declared.native.Native.TheVariants as native
 use Rattle.beam_model.specs.declared.native.TypeTest.{TypeTest}
 use Rattle.beam_model.specs.declared.opcode.Kind.TheVariants as kind
 use Rattle.beam_model.specs.Exception.{clause_exception}
-use Rattle.beam_model.specs.Framed.{Shape, bare, sized, any, Assignment, y_in, ys_in, is_value, is_there as is_there_in, put_all, made, wants_bare, allocates, drops, trims as trims_by, labels_in as labels_named, label_of_argument, label_in as label_named, is_total, may_fail, may_have, shape_of_label, begins_bare, leads_on, goes_on as goes_on_row, tags_a_y, is_choice, is_size, are_choices, is_register as is_register_in, built_in as native_in}
+use Rattle.beam_model.specs.Framed.{Shape, bare, sized, any, Assignment, y_in, ys_in, is_value, is_there as is_there_in, put_all, after_effect, wants_bare, allocates, drops, trims as trims_by, labels_in as labels_named, label_of_argument, label_in as label_named, is_total, may_fail, may_have, shape_of_label, begins_bare, leads_on, may_fall_through as goes_on_row, tags_a_y, is_choice, is_size, are_choices, is_register as is_register_in, built_in as native_in}
 use Rattle.beam_model.specs.Heads.{IsWellFormed}
 use Rattle.beam_model.specs.Listing.{Listing, row_of_label, next_row}
-use Rattle.beam_model.specs.Loadable.{labels_in, is_among}
+use Rattle.beam_model.specs.Loadable.{defined_labels, is_among}
 use Rattle.beam_machine.specs.declared.action.Action.{Action}
 use Rattle.beam_machine.specs.declared.action.Action.TheVariants.{Stack, Catching, Control}
 use Rattle.beam_machine.specs.declared.action.Catching.TheVariants as catching
@@ -35,7 +35,7 @@ use Rattle.beam_machine.specs.declared.action.Stack.TheVariants as stack
 use Rattle.beam_machine.specs.declared.action.Test.TheVariants as test
 use Rattle.beam_machine.specs.declared.process.Slot.TheVariants.{Value}
 use Rattle.beam_machine.specs.declared.process.Status.TheVariants.{Running}
-use Rattle.beam_machine.specs.Action.{source_in, register_in, label_in, number_in, given, illegal, target_of, on_fault, is_type, compares, computes_0, computes_1, computes_2, bif0, of_one, of_two, from_to, swap, get_list, get_element, put_list, put_tuple, update_record, select_value, select_size, clear, catch', with_register, raise_clause, raise_again, choices_in, size_choices_in}
+use Rattle.beam_machine.specs.Action.{source_in, register_in, label_in, number_in, given, illegal_action, target_of, on_fault, test_of_type, test_of_comparison, computes_0, computes_1, computes_2, bif0, of_one, of_two, from_to, swap, get_list, get_element, put_list, put_tuple, update_record, select_value, select_size, clear, catch', with_register, raise_clause, raise_again, choices_in, size_choices_in}
 use Rattle.beam_machine.specs.Code.{Code, listing_of}
 use Rattle.beam_machine.specs.Process.{Process, read, read_all, put_y, dropped}
 use Rattle.beam_machine.specs.Row.{held_in, perform, chosen, decides}
@@ -78,7 +78,7 @@ module _ (here : Before) where
   next = next_row at instrs
 
   abbrev pub defined : List ℕ
-  defined = labels_in instrs
+  defined = defined_labels instrs
 
   abbrev pub row : Row
   row = record { code = code; instance = instance; instrs = instrs; next = next; s = s; p = p; has = has; behind = behind; run = run }
@@ -151,7 +151,7 @@ module _ (here : Before) where
   read_first : (d : Register) (ds rest : List ℕ) → ds ≡ y_of d → list_all (is_value s) (ds ++ rest) ≡ true → HasValue p (held_in d) × (list_all (is_value s) rest ≡ true)
   read_first d ds rest e h = register_read d rest (subst (λ ns. list_all (is_value s) (ns ++ rest) ≡ true) e h)
 
-  pub wrong_shape : Caught row → Result illegal
+  pub wrong_shape : Caught row → Result illegal_action
   wrong_shape c = ((tt, tt, refl, tt), faulted row c IllegalOperand)
 
   -- ---- tests
@@ -160,19 +160,19 @@ module _ (here : Before) where
   NoneWritten = may_have (put_all None [] s) (shapes next) ≡ true
 
   pub compared : (comparison : Comparison) (f a b : Operand) → IsGood defined kind.Label f → IsGood defined kind.Source a → IsGood defined kind.Source b
-      → list_all (is_value s) (ys_in a ++ (ys_in b ++ [])) ≡ true → list_all reach (labels_named f ++ []) ≡ true → NoneWritten → Result (compares instrs comparison (f ∷ a ∷ b ∷ []))
+      → list_all (is_value s) (ys_in a ++ (ys_in b ++ [])) ≡ true → list_all reach (labels_named f ++ []) ≡ true → NoneWritten → Result (test_of_comparison instrs comparison (f ∷ a ∷ b ∷ []))
   compared comparison f a b gf ga gb v j on =
       with_label f [] _ gf j (λ n k e. with_source a (ys_in b ++ []) _ ga v (λ x hx v. with_source b [] _ gb v (λ y hy e.
       (((hx, (hy, tt)), tt, refl, (has_row n k, tt)), tested row (test.Compare comparison x y) (target_of instrs n) (hx, (hy, tt)) k (on_same on)))))
 
   pub of_type : (type : TypeTest) (f a : Operand) → IsGood defined kind.Label f → IsGood defined kind.Source a
-      → list_all (is_value s) (ys_in a ++ []) ≡ true → list_all reach (labels_named f ++ []) ≡ true → NoneWritten → Result (is_type instrs type (f ∷ a ∷ []))
+      → list_all (is_value s) (ys_in a ++ []) ≡ true → list_all reach (labels_named f ++ []) ≡ true → NoneWritten → Result (test_of_type instrs type (f ∷ a ∷ []))
   of_type type f a gf ga v j on =
       with_label f [] _ gf j (λ n k e. with_source a [] _ ga v (λ x hx e. (((hx, tt), tt, refl, (has_row n k, tt)), tested row (test.IsOfType type x) (target_of instrs n) (hx, tt) k (on_same on))))
 
   -- a test of a type that no term has goes to its label
   pub of_no_type : (type : TypeTest) (f a : Operand) → ((t : TermValue) → is_of_type type t ≡ false) → IsGood defined kind.Label f → IsGood defined kind.Source a
-      → list_all (is_value s) (ys_in a ++ []) ≡ true → list_all reach (labels_named f ++ []) ≡ true → Result (is_type instrs type (f ∷ a ∷ []))
+      → list_all (is_value s) (ys_in a ++ []) ≡ true → list_all reach (labels_named f ++ []) ≡ true → Result (test_of_type instrs type (f ∷ a ∷ []))
   of_no_type type f a none gf ga v j =
       with_label f [] _ gf j (λ n k e. with_source a [] _ ga v (λ x hx e. (
         ((hx, tt), tt, refl, (has_row n k, tt)),
@@ -337,17 +337,17 @@ module _ (here : Before) where
       let on : may_have (put_all None [] u) (shapes next) ≡ true = ap (λ b. not b || may_have (put_all None [] u) (shapes next)) (sym g) ∙ e in
       subst (λ t. may_have t (shapes next) ≡ true) (put_none u ∙ some_is u t is) on
 
-  pub wants_bare_is : (t : Shape) → is_some (made wants_bare t) ≡ true → t ≡ bare
+  pub wants_bare_is : (t : Shape) → is_some (after_effect wants_bare t) ≡ true → t ≡ bare
   wants_bare_is bare e = refl
   wants_bare_is (sized ts) e = absurd (true≢false (sym e))
   wants_bare_is any e = absurd (true≢false (sym e))
 
-  allocates_is : (n : ℕ) (t : Shape) → is_some (made (allocates n) t) ≡ true → t ≡ bare
+  allocates_is : (n : ℕ) (t : Shape) → is_some (after_effect (allocates n) t) ≡ true → t ≡ bare
   allocates_is n bare e = refl
   allocates_is n (sized ts) e = absurd (true≢false (sym e))
   allocates_is n any e = absurd (true≢false (sym e))
 
-  pub drops_to : (n : ℕ) (t : Shape) → is_some (made (drops n) t) ≡ true → made (drops n) t ≡ Some bare
+  pub drops_to : (n : ℕ) (t : Shape) → is_some (after_effect (drops n) t) ≡ true → after_effect (drops n) t ≡ Some bare
   drops_to n bare e = absurd (true≢false (sym e))
   drops_to n any e = absurd (true≢false (sym e))
   drops_to n (sized ts) e = go (length ts == n) e
@@ -362,22 +362,22 @@ module _ (here : Before) where
   pub no_slots : s ≡ bare → newest p.frames ≡ None
   no_slots e = bare_slots code instance instrs (newest p.frames) (has_bare e)
 
-  pub allocated_row : (i : Instruction) (n : ℕ) → LeavesOn i (made (allocates n) s) → goes_on_row i ≡ true → Caught row → Result (Stack (stack.Allocate n))
+  pub allocated_row : (i : Instruction) (n : ℕ) → LeavesOn i (after_effect (allocates n) s) → goes_on_row i ≡ true → Caught row → Result (Stack (stack.Allocate n))
   allocated_row i n on g c =
-      let is = allocates_is n s (made_some i (put_all None []) (made (allocates n) s) on) in
+      let is = allocates_is n s (made_some i (put_all None []) (after_effect (allocates n) s) on) in
       let h = has_bare is in
-      ((tt, tt, bare_there code instance instrs p.frames h behind, tt), allocated row n h (on_of (sized (replicate n None)) (left_fits i (made (allocates n) s) on g (sized (replicate n None)) (ap (made (allocates n)) is))) c)
+      ((tt, tt, bare_there code instance instrs p.frames h behind, tt), allocated row n h (on_of (sized (replicate n None)) (left_fits i (after_effect (allocates n) s) on g (sized (replicate n None)) (ap (after_effect (allocates n)) is))) c)
 
-  pub deallocated_row : (i : Instruction) (n : ℕ) → LeavesOn i (made (drops n) s) → goes_on_row i ≡ true → Result (Stack (stack.Deallocate n))
+  pub deallocated_row : (i : Instruction) (n : ℕ) → LeavesOn i (after_effect (drops n) s) → goes_on_row i ≡ true → Result (Stack (stack.Deallocate n))
   deallocated_row i n on g =
-      let some = made_some i (put_all None []) (made (drops n) s) on in
+      let some = made_some i (put_all None []) (after_effect (drops n) s) on in
       let size = size_there code instance instrs s p.frames n has some in
-      ((tt, tt, dropped_some row n size, tt), changed row bare (dropped n p p.frames) (dropped_bare row n size) (on_of bare (left_fits i (made (drops n) s) on g bare (drops_to n s some))))
+      ((tt, tt, dropped_some row n size, tt), changed row bare (dropped n p p.frames) (dropped_bare row n size) (on_of bare (left_fits i (after_effect (drops n) s) on g bare (drops_to n s some))))
 
-  pub trimmed_row : (i : Instruction) (m n : ℕ) → LeavesOn i (made (trims_by m n) s) → goes_on_row i ≡ true → Result (Stack (stack.Trim m n))
+  pub trimmed_row : (i : Instruction) (m n : ℕ) → LeavesOn i (after_effect (trims_by m n) s) → goes_on_row i ≡ true → Result (Stack (stack.Trim m n))
   trimmed_row i m n on g =
-      let some = made_some i (put_all None []) (made (trims_by m n) s) on in
-      ((tt, tt, dropped_some row (m + n) (trim_there code instance instrs s p.frames m n has some), tt), trimmed row m n some (λ u e. on_of u (left_fits i (made (trims_by m n) s) on g u e)))
+      let some = made_some i (put_all None []) (after_effect (trims_by m n) s) on in
+      ((tt, tt, dropped_some row (m + n) (trim_there code instance instrs s p.frames m n has some), tt), trimmed row m n some (λ u e. on_of u (left_fits i (after_effect (trims_by m n) s) on g u e)))
 
   pub cleared_row : (as' : List Argument) → list_all (is_there_in s) (flat_map y_in as' ++ []) ≡ true → may_have (put_all None (flat_map y_in as' ++ []) s) (shapes next) ≡ true
       → (not (list_all is_register_in as') ≡ true → Caught row) → Result (clear (operand.List as' ∷ []))

@@ -19,7 +19,7 @@ use Rattle.beam_model.specs.declared.native.Unary.{Unary}
 use Rattle.beam_model.specs.declared.opcode.Kind.{Kind}
 use Rattle.beam_model.specs.Framed.{Shape, is_value, y_in, ys_in, labels_in as labels_named, label_of_argument, is_choice, is_size, are_choices, is_register as is_register_in}
 use Rattle.beam_model.specs.Listing.{row_of_label}
-use Rattle.beam_model.specs.Loadable.{is_among, is_within, is_known, is_native, is_defined, is_defined_in, is_argument_defined, is_label_operand, is_source, is_register, is_number, is_arity, is_frame_size, is_atom, is_import, is_list, all_operands}
+use Rattle.beam_model.specs.Loadable.{is_among, is_within, is_known, is_native, is_defined, is_defined_in, is_argument_defined, is_label_operand, is_source_operand, is_register_operand, is_number_operand, is_arity, is_frame_size, is_atom_operand, is_import_operand, is_list_operand, all_operands}
 use Rattle.beam_model.specs.NativeNames.{look_up, nullary_names, unary_names, binary_names, native_named, is_built_in, allowed, is_erlang, built_in_of}
 use Rattle.beam_machine.specs.declared.action.Action.{Action}
 use Rattle.beam_machine.specs.declared.action.Choice.{Choice}
@@ -29,7 +29,7 @@ use Rattle.beam_machine.specs.declared.action.SizeChoice.{SizeChoice}
 use Rattle.beam_machine.specs.declared.action.Source.{Source}
 use Rattle.beam_machine.specs.declared.action.Source.TheVariants as source
 use Rattle.beam_machine.specs.declared.action.Update.{Update}
-use Rattle.beam_machine.specs.Action.{source_by, source_in, register_by, register_in, label_in, number_in, atom_in, import_in, before, all_by, choices_in, size_choices_in, choice, update, updates_in, given, illegal}
+use Rattle.beam_machine.specs.Action.{source_by, source_in, register_by, register_in, label_in, number_in, atom_in, import_in, before, all_by, choices_in, size_choices_in, choice, update, updates_in, given, illegal_action}
 use Rattle.beam_machine.specs.Process.{Process}
 use Rattle.beam_shape_laws.specs.Finds.{newest, HasValue}
 use Rattle.beam_shape_laws.specs.Shaped.{HasShape}
@@ -108,7 +108,7 @@ module _ (defined : List ℕ) where
 
 -- ---- numbers, atoms, imports, lists, registers
 
-pub as_number : (P : Operand → Type 0) → ((n : ℕ) → P (operand.One (argument.Number n))) → (o : Operand) → is_number o ≡ true → P o
+pub as_number : (P : Operand → Type 0) → ((n : ℕ) → P (operand.One (argument.Number n))) → (o : Operand) → is_number_operand o ≡ true → P o
 as_number P k (operand.One (argument.Number n)) e = k n
 as_number P k _ e = absurd (true≢false (sym e))
 
@@ -120,11 +120,11 @@ pub as_arity : (P : Operand → Type 0) → ((n : ℕ) → P (operand.One (argum
 as_arity P k (operand.One (argument.Number n)) e = k n
 as_arity P k _ e = absurd (true≢false (sym e))
 
-pub as_import : (P : Operand → Type 0) → ((i : Import) → P (operand.Import i)) → (o : Operand) → is_import o ≡ true → P o
+pub as_import : (P : Operand → Type 0) → ((i : Import) → P (operand.Import i)) → (o : Operand) → is_import_operand o ≡ true → P o
 as_import P k (operand.Import i) e = k i
 as_import P k _ e = absurd (true≢false (sym e))
 
-pub as_list : (P : Operand → Type 0) → ((as' : List Argument) → P (operand.List as')) → (o : Operand) → is_list o ≡ true → P o
+pub as_list : (P : Operand → Type 0) → ((as' : List Argument) → P (operand.List as')) → (o : Operand) → is_list_operand o ≡ true → P o
 as_list P k (operand.List as') e = k as'
 as_list P k _ e = absurd (true≢false (sym e))
 
@@ -132,20 +132,20 @@ pub as_label : (P : Operand → Type 0) → ((n : ℕ) → P (operand.One (argum
 as_label P k (operand.One (argument.Label n)) e = k n
 as_label P k _ e = absurd (true≢false (sym e))
 
-pub given_number : (R : Action → Type 0) (o : Operand) (does : ℕ → Action) → is_number o ≡ true → ((n : ℕ) → R (does n)) → R (given (number_in o) does)
+pub given_number : (R : Action → Type 0) (o : Operand) (does : ℕ → Action) → is_number_operand o ≡ true → ((n : ℕ) → R (does n)) → R (given (number_in o) does)
 given_number R o does e k = as_number (λ o. R (given (number_in o) does)) k o e
 
 pub given_arity : (R : Action → Type 0) (o : Operand) (does : ℕ → Action) → is_arity o ≡ true → ((n : ℕ) → R (does n)) → R (given (number_in o) does)
 given_arity R o does e k = as_arity (λ o. R (given (number_in o) does)) k o e
 
-pub given_atom : (R : Action → Type 0) (o : Operand) (does : List ℕ → Action) → is_atom o ≡ true → ((text : List ℕ) → R (does text)) → R (given (atom_in o) does)
+pub given_atom : (R : Action → Type 0) (o : Operand) (does : List ℕ → Action) → is_atom_operand o ≡ true → ((text : List ℕ) → R (does text)) → R (given (atom_in o) does)
 given_atom R (operand.One (argument.Term (atom_term text))) does e k = k text
 given_atom R _ does e k = absurd (true≢false (sym e))
 
-pub given_import : (R : Action → Type 0) (o : Operand) (does : Import → Action) → is_import o ≡ true → ((i : Import) → R (does i)) → R (given (import_in o) does)
+pub given_import : (R : Action → Type 0) (o : Operand) (does : Import → Action) → is_import_operand o ≡ true → ((i : Import) → R (does i)) → R (given (import_in o) does)
 given_import R o does e k = as_import (λ o. R (given (import_in o) does)) k o e
 
-pub given_register : (R : Action → Type 0) (o : Operand) (does : Register → Action) → is_register o ≡ true → ((d : Register) → ys_in o ≡ y_of d → R (does d)) → R (given (register_in o) does)
+pub given_register : (R : Action → Type 0) (o : Operand) (does : Register → Action) → is_register_operand o ≡ true → ((d : Register) → ys_in o ≡ y_of d → R (does d)) → R (given (register_in o) does)
 given_register R (operand.One (argument.X n)) does e k = k (register.X n) refl
 given_register R (operand.One (argument.Y n)) does e k = k (register.Y n) refl
 given_register R _ does e k = absurd (true≢false (sym e))
@@ -158,7 +158,7 @@ module _ (instance : ℕ) (instrs : List Instruction) (s : Shape) (p : Process) 
       let both = and_parts (is_value s n) (list_all (is_value s) rest) e in
       (read_there instance instrs s p.frames n has both.0, both.1)
 
-  pub given_source : (R : Action → Type 0) (o : Operand) (rest : List ℕ) (does : Source → Action) → is_source o ≡ true → list_all (is_value s) (ys_in o ++ rest) ≡ true
+  pub given_source : (R : Action → Type 0) (o : Operand) (rest : List ℕ) (does : Source → Action) → is_source_operand o ≡ true → list_all (is_value s) (ys_in o ++ rest) ≡ true
       → ((v : Source) → HasValue p v → list_all (is_value s) rest ≡ true → R (does v)) → R (given (source_in o) does)
   given_source R (operand.One (argument.Term t)) rest does e h k = k (source.Constant t) refl h
   given_source R (operand.One (argument.X n)) rest does e h k = k (source.X n) refl h
@@ -196,7 +196,7 @@ module _ (instance : ℕ) (instrs : List Instruction) (s : Shape) (p : Process) 
       let this = argument_read a (flat_map y_in as' ++ rest) (subst (λ ns. list_all (is_value s) ns ≡ true) (append_assoc (y_in a) (flat_map y_in as') rest) h) in
       read_before (source_by a) (all_by source_by as') this.0 (all_read as' rest this.1)
 
-  pub given_elements : (R : Action → Type 0) (as' : List Argument) (rest : List ℕ) (does : List Source → Action) → R illegal → list_all (is_value s) (flat_map y_in as' ++ rest) ≡ true
+  pub given_elements : (R : Action → Type 0) (as' : List Argument) (rest : List ℕ) (does : List Source → Action) → R illegal_action → list_all (is_value s) (flat_map y_in as' ++ rest) ≡ true
       → ((vs : List Source) → AreRead vs → R (does vs)) → R (given (all_by source_by as') does)
   given_elements R as' rest does w h k = go (all_by source_by as') (all_read as' rest h)
     where
@@ -222,7 +222,7 @@ module _ (instance : ℕ) (instrs : List Instruction) (s : Shape) (p : Process) 
       update_before n (source_by a) (updates_in as') this.0 (updates_read as' rest this.1)
   updates_read _ rest h = tt
 
-  pub given_updates : (R : Action → Type 0) (as' : List Argument) (rest : List ℕ) (does : List Update → Action) → R illegal → list_all (is_value s) (flat_map y_in as' ++ rest) ≡ true
+  pub given_updates : (R : Action → Type 0) (as' : List Argument) (rest : List ℕ) (does : List Update → Action) → R illegal_action → list_all (is_value s) (flat_map y_in as' ++ rest) ≡ true
       → ((us : List Update) → AreRead (map (λ u. u.value) us) → R (does us)) → R (given (updates_in as') does)
   given_updates R as' rest does w h k = go (updates_in as') (updates_read as' rest h)
     where
@@ -294,7 +294,7 @@ module _ (instrs : List Instruction) (defined : List ℕ) (reach : ℕ → Bool)
         some_before n (source_by a) (choices_in instrs as') (some_source a both.0) (some_choices as' both.1)
     some_choices _ e = absurd (true≢false (sym e))
 
-    pub given_choices : (R : Action → Type 0) (as' : List Argument) (rest more : List ℕ) (does : List Choice → Action) → (not (are_choices is_choice as') ≡ true → R illegal)
+    pub given_choices : (R : Action → Type 0) (as' : List Argument) (rest more : List ℕ) (does : List Choice → Action) → (not (are_choices is_choice as') ≡ true → R illegal_action)
         → list_all (is_argument_defined defined) as' ≡ true → list_all (is_value s) (flat_map y_in as' ++ rest) ≡ true
         → list_all reach (flat_map label_of_argument as' ++ more) ≡ true → ((cs : List Choice) → AreChoices cs → R (does cs)) → R (given (choices_in instrs as') does)
     given_choices R as' rest more does w d h r k = go (choices_in instrs as') (choices_read as' rest more d h r) (some_choices as') (are_choices is_choice as') refl
@@ -335,7 +335,7 @@ module _ (instrs : List Instruction) (defined : List ℕ) (reach : ℕ → Bool)
   some_sizes (a ∷ argument.Label n ∷ as') e = absurd (true≢false (sym e))
   some_sizes _ e = absurd (true≢false (sym e))
 
-  pub given_sizes : (R : Action → Type 0) (as' : List Argument) (more : List ℕ) (does : List SizeChoice → Action) → (not (are_choices is_size as') ≡ true → R illegal)
+  pub given_sizes : (R : Action → Type 0) (as' : List Argument) (more : List ℕ) (does : List SizeChoice → Action) → (not (are_choices is_size as') ≡ true → R illegal_action)
       → list_all (is_argument_defined defined) as' ≡ true → list_all reach (flat_map label_of_argument as' ++ more) ≡ true → ((cs : List SizeChoice) → AreSizes cs → R (does cs))
       → R (given (size_choices_in instrs as') does)
   given_sizes R as' more does w d r k = go (size_choices_in instrs as') (sizes_read as' more d r) (some_sizes as') (are_choices is_size as') refl
@@ -390,7 +390,7 @@ registers_are (argument.Term t ∷ as') = refl
 registers_are (argument.Label n ∷ as') = refl
 registers_are (argument.Number n ∷ as') = refl
 
-pub given_registers : (R : Action → Type 0) (as' : List Argument) (does : List Register → Action) → (not (list_all is_register_in as') ≡ true → R illegal)
+pub given_registers : (R : Action → Type 0) (as' : List Argument) (does : List Register → Action) → (not (list_all is_register_in as') ≡ true → R illegal_action)
     → ((rs : List Register) → flat_map y_in as' ≡ flat_map y_of rs → R (does rs)) → R (given (all_by register_by as') does)
 given_registers R as' does w k = go (all_by register_by as') (registers_are as')
   where

@@ -11,7 +11,7 @@ use Rattle.beam_model.specs.Fetch.{end_of_code}
 use Rattle.beam_model.specs.Framed.{Shape, row_at}
 use Rattle.beam_model.specs.Heads.{IsWellFormed}
 use Rattle.beam_model.specs.Listing.{Listing, is_row, next_row}
-use Rattle.beam_model.specs.Loadable.{labels_in, are_new, are_targets, all_operands, is_within, is_known}
+use Rattle.beam_model.specs.Loadable.{defined_labels, are_new, are_targets, all_operands, is_within, is_known}
 use Rattle.beam_model.specs.Opcodes.{kinds_of}
 use Rattle.beam_model.specs.Place.{Place}
 use Rattle.beam_machine.specs.declared.action.Step.{Step}
@@ -19,7 +19,7 @@ use Rattle.beam_machine.specs.declared.process.Frame.{Frame}
 use Rattle.beam_machine.specs.declared.process.Goes.{Goes}
 use Rattle.beam_machine.specs.declared.process.Goes.TheVariants.{At, Enter, Nowhere}
 use Rattle.beam_machine.specs.declared.process.Status.TheVariants.{Running}
-use Rattle.beam_machine.specs.Action.{illegal, action_by, action_of, step_at}
+use Rattle.beam_machine.specs.Action.{illegal_action, action_by, action_of, step_at}
 use Rattle.beam_machine.specs.Callee.{callee_named}
 use Rattle.beam_machine.specs.Code.{Code, listing_of, step_of}
 use Rattle.beam_machine.specs.Process.{Process, is_ended}
@@ -44,13 +44,13 @@ module _ (code : Code) (enter : Enters code) where
     abbrev is : List Instruction
     is = l.instructions
 
-    good_operands : (i : Instruction) → slice_get is at ≡ Some i → AreGood (labels_in is) (kinds_of i.opcode) i.operands
+    good_operands : (i : Instruction) → slice_get is at ≡ Some i → AreGood (defined_labels is) (kinds_of i.opcode) i.operands
     good_operands i e =
-        let labels = and_parts (are_new [] (labels_in is) && list_all (λ n. nat_lt n l.label_count) (labels_in is)) (list_all (are_targets (labels_in is)) is) w.labels in
-        all_good (labels_in is) (kinds_of i.opcode) i.operands
+        let labels = and_parts (are_new [] (defined_labels is) && list_all (λ n. nat_lt n l.label_count) (defined_labels is)) (list_all (are_targets (defined_labels is)) is) w.labels in
+        all_good (defined_labels is) (kinds_of i.opcode) i.operands
         (all_at (λ i. all_operands is_within (kinds_of i.opcode) i.operands) is at i w.limits e)
         (all_at (λ i. all_operands is_known (kinds_of i.opcode) i.operands) is at i w.natives e)
-        (all_at (are_targets (labels_in is)) is at i labels.1 e)
+        (all_at (are_targets (defined_labels is)) is at i labels.1 e)
 
     abbrev done : Instruction → Option Step
     done i = Some (record { action = action_of is i; next = next_row at is })
@@ -73,7 +73,7 @@ module _ (code : Code) (enter : Enters code) where
           run = run;
         } in
         let within : all_operands is_within (kinds_of i.opcode) i.operands ≡ true = all_at (λ i. all_operands is_within (kinds_of i.opcode) i.operands) is at i w.limits e in
-        subst (λ b. Steps instance (Some (record { action = cond b (action_by is i.opcode i.operands) illegal; next = next_row at is })) p) (sym within)
+        subst (λ b. Steps instance (Some (record { action = cond b (action_by is i.opcode i.operands) illegal_action; next = next_row at is })) p) (sym within)
         (fits_right here i.opcode i.operands r (good_operands i e) h)
 
     at_row : (o : Option Instruction) → slice_get is at ≡ o → is_row (row_at is at) ≡ true → Facts code instance l found w (row_at is at) at s (newest p.frames)

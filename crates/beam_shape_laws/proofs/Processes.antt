@@ -11,7 +11,7 @@ use Rattle.beam_model.specs.Native.{elements_in}
 use Rattle.beam_machine.specs.declared.process.Signal.{Signal}
 use Rattle.beam_machine.specs.declared.process.Signal.TheVariants.{Message, Exit as ExitSignal, Down}
 use Rattle.beam_machine.specs.Code.{Code}
-use Rattle.beam_machine.specs.NodeNative.{Answered, answer, fault, most_processes, spawns_with, names, registers, unnames, unregisters, is_alive, signalled, sends_named, most_references, makes_reference, or_noproc, watching, monitored, answer_of}
+use Rattle.beam_machine.specs.NodeNative.{Answered, answer, fault, most_processes, spawns_with, names, registers, unnames, unregisters, is_alive, posted_if_own, sends_named, most_references, makes_reference, or_noproc, put_monitor, monitored, answer_of}
 use Rattle.beam_machine.specs.Process.{Process, is_ended, started, own_pid}
 use Rattle.beam_machine.specs.Row.{own_number}
 use Rattle.beam_machine.specs.State.{process_of, alive, live_process, registered, posted_to, posted}
@@ -132,7 +132,7 @@ module _ (code : Code) where
   unregisters_apart i ps None h = h
   unregisters_apart i ps (Some pid) h = unnames_apart i ps pid (live_process ps pid) refl h
 
-  signalled_apart : (i : ℕ) (ps : List Process) (o : Option ℕ) (signal : Signal) → AllBut i ps → AllBut i (signalled ps o signal)
+  signalled_apart : (i : ℕ) (ps : List Process) (o : Option ℕ) (signal : Signal) → AllBut i ps → AllBut i (posted_if_own ps o signal)
   signalled_apart i ps None signal h = h
   signalled_apart i ps (Some pid) signal h = posted_apart i ps pid signal (live_process ps pid) refl h
 
@@ -140,7 +140,7 @@ module _ (code : Code) where
   sends_apart i ps None message h = h
   sends_apart i ps (Some pid) message h = posted_apart i ps pid (Message message) (live_process ps pid) refl h
 
-  watching_apart : (i : ℕ) (ps : List Process) (caller n : ℕ) (watched : TermValue) (o : Option Process) → live_process ps caller ≡ o → AllBut i ps → AllBut i (watching ps caller n watched o)
+  watching_apart : (i : ℕ) (ps : List Process) (caller n : ℕ) (watched : TermValue) (o : Option Process) → live_process ps caller ≡ o → AllBut i ps → AllBut i (put_monitor ps caller n watched o)
   watching_apart i ps caller n watched None e h = h
   watching_apart i ps caller n watched (Some x) e h = set_other i ps (caller - 1) x (record x { monitors = _ }) (there ps caller x e) (λ k. k) h
 

@@ -4,8 +4,8 @@ use Rattle.std.specs.Prelude.{Option, Some, None, is_some, slice_set, drop}
 use Rattle.beam_term.specs.TermValue.{TermValue, nil_term}
 use Rattle.beam_model.specs.declared.exception.Exception.{Exception}
 use Rattle.beam_model.specs.declared.instruction.Instruction.{Instruction}
-use Rattle.beam_model.specs.Exception.{end_of}
-use Rattle.beam_model.specs.Framed.{Shape, bare, sized, any, is_value, is_there as is_there_in, put_all, made, drops, trims}
+use Rattle.beam_model.specs.Exception.{exit_reason}
+use Rattle.beam_model.specs.Framed.{Shape, bare, sized, any, is_value, is_there as is_there_in, put_all, after_effect, drops, trims}
 use Rattle.beam_machine.specs.declared.process.Frame.{Frame}
 use Rattle.beam_machine.specs.declared.process.Slot.{Slot}
 use Rattle.beam_machine.specs.declared.process.Status.TheVariants.{Running}
@@ -35,7 +35,7 @@ caught code p e frame older otherwise None r c w k = k
 caught code p e frame older otherwise (Some tag) r c w k = running code (caught_at p e (frame ∷ older) otherwise (Some tag)) r (c tag refl, w)
 
 unwound_behind : (code : Code) (p : Process) (e : Exception) (back : Option Place) (older : List Frame) → p.status ≡ Running → Wait code back older → IsShaped code (unwound p e older)
-unwound_behind code p e None [] r w = over code p (end_of e) nil_term
+unwound_behind code p e None [] r w = over code p (exit_reason e) nil_term
 unwound_behind code p e (Some place) [] r w = absurd w
 unwound_behind code p e None (frame ∷ older) r w = absurd w
 unwound_behind code p e (Some place) (frame ∷ older) r w =
@@ -121,22 +121,22 @@ module _ (code : Code) (instance : ℕ) (instrs : List Instruction) where
 
   -- ---- dropping
 
-  many : (s : Shape) (y : Option (List Slot)) (n : ℕ) → HasShape instance instrs s y → is_some (made (drops n) s) ≡ true → are_many n y ≡ true
+  many : (s : Shape) (y : Option (List Slot)) (n : ℕ) → HasShape instance instrs s y → is_some (after_effect (drops n) s) ≡ true → are_many n y ≡ true
   many bare y n h e = absurd (true≢false (sym e))
   many any y n h e = absurd (true≢false (sym e))
   many (sized ts) None n h e = absurd h
   many (sized ts) (Some y) n h e = ap (λ m. m == n) (sym (same_length instance instrs ts y h)) ∙ chosen_some (length ts == n) bare e
 
-  pub size_there : (s : Shape) (frames : List Frame) (n : ℕ) → HasShape instance instrs s (newest frames) → is_some (made (drops n) s) ≡ true → has_many n frames ≡ true
+  pub size_there : (s : Shape) (frames : List Frame) (n : ℕ) → HasShape instance instrs s (newest frames) → is_some (after_effect (drops n) s) ≡ true → has_many n frames ≡ true
   size_there s frames n h e = many s (newest frames) n h e
 
-  many_trim : (s : Shape) (y : Option (List Slot)) (m n : ℕ) → HasShape instance instrs s y → is_some (made (trims m n) s) ≡ true → are_many (m + n) y ≡ true
+  many_trim : (s : Shape) (y : Option (List Slot)) (m n : ℕ) → HasShape instance instrs s y → is_some (after_effect (trims m n) s) ≡ true → are_many (m + n) y ≡ true
   many_trim bare y m n h e = absurd (true≢false (sym e))
   many_trim any y m n h e = absurd (true≢false (sym e))
   many_trim (sized ts) None m n h e = absurd h
   many_trim (sized ts) (Some y) m n h e = ap (λ k. k == m + n) (sym (same_length instance instrs ts y h)) ∙ chosen_some (length ts == m + n) (sized (drop m ts)) e
 
-  pub trim_there : (s : Shape) (frames : List Frame) (m n : ℕ) → HasShape instance instrs s (newest frames) → is_some (made (trims m n) s) ≡ true → has_many (m + n) frames ≡ true
+  pub trim_there : (s : Shape) (frames : List Frame) (m n : ℕ) → HasShape instance instrs s (newest frames) → is_some (after_effect (trims m n) s) ≡ true → has_many (m + n) frames ≡ true
   trim_there s frames m n h e = many_trim s (newest frames) m n h e
 
   without_slots_stands : (p : Process) (frame : Frame) (older : List Frame) (y : Option (List Slot)) (n : ℕ) → are_many n y ≡ true → Wait code frame.back older → p.status ≡ Running

@@ -8,7 +8,7 @@ use Rattle.std.proofs.lemmas.Option.{slice_get_past}
 use Rattle.beam_model.specs.declared.instruction.Instruction.{Instruction}
 use Rattle.beam_model.specs.Fetch.{end_of_code}
 use Rattle.beam_model.specs.Listing.{is_row, next_row}
-use Rattle.beam_model.specs.Framed.{Shape, Assignment, may_have, finds, left, targets, goes_on, leads, leads_on, fits, fits_if, row_at, begins_bare, entries, AreFramed}
+use Rattle.beam_model.specs.Framed.{Shape, Assignment, may_have, finds, shape_after, targets, may_fall_through, leads, leads_on, fits, fits_if, row_at, begins_bare, entries, AreFramed}
 use Rattle.beam_shapes.specs.Forced.{Stand, assigned, LiesUnder, IsBelow, Forces, Refuses, Fails, Does, NeverLeaves, MayGo, Flows, FitsAt, IsAssignment, Settles}
 use Rattle.beam_shapes.specs.declared.error.FrameError.{FrameError}
 use Rattle.beam_shapes.specs.declared.error.FrameError.TheVariants.{FrameMismatch, NoMemory}
@@ -24,9 +24,9 @@ leaves a i next (Some s) e = refl
 -- a row that doesn't find its registers or its frame fits in no assignment
 pub never_fits : (code : List Instruction) (i : Instruction) (next : ℕ) (s : Shape) (k : Stand) (e : FrameError) → NeverLeaves e i s → Fails e (λ a. fits a code i next s ≡ true) k
 never_fits code i next s k FrameMismatch never = λ a below h.
-    let p = and_parts (finds i s && leads a code i s) (leads_on a i next (left i s)) h in
+    let p = and_parts (finds i s && leads a code i s) (leads_on a i next (shape_after i s)) h in
     let q = and_parts (finds i s) (leads a code i s) p.0 in
-    both_ways (finds i s && is_some (left i s)) never (and_from (finds i s) (is_some (left i s)) q.0 (leaves a i next (left i s) p.1))
+    both_ways (finds i s && is_some (shape_after i s)) never (and_from (finds i s) (is_some (shape_after i s)) q.0 (leaves a i next (shape_after i s) p.1))
 never_fits code i next s k NoMemory never = tt
 
 goes_back : (g : Bool) (b : Bool) → b ≡ true → (not g || b) ≡ true
@@ -37,16 +37,16 @@ stays : (g : Bool) (b : Bool) → g ≡ false → (not g || b) ≡ true
 stays true b e = absurd (true≢false e)
 stays false b e = refl
 
-module _ (code : List Instruction) (i : Instruction) (next : ℕ) (s l : Shape) (found : finds i s ≡ true) (is : left i s ≡ Some l) where
-  apart : (a : Assignment) → fits a code i next s ≡ true → (leads a code i s ≡ true) × ((not (goes_on i) || may_have l (a next)) ≡ true)
+module _ (code : List Instruction) (i : Instruction) (next : ℕ) (s l : Shape) (found : finds i s ≡ true) (is : shape_after i s ≡ Some l) where
+  apart : (a : Assignment) → fits a code i next s ≡ true → (leads a code i s ≡ true) × ((not (may_fall_through i) || may_have l (a next)) ≡ true)
   apart a h =
-      let p = and_parts (finds i s && leads a code i s) (leads_on a i next (left i s)) h in
+      let p = and_parts (finds i s && leads a code i s) (leads_on a i next (shape_after i s)) h in
       let q = and_parts (finds i s) (leads a code i s) p.0 in
       (q.1, ap (leads_on a i next) (sym is) ∙ p.1)
 
-  joint : (a : Assignment) → leads a code i s ≡ true → (not (goes_on i) || may_have l (a next)) ≡ true → fits a code i next s ≡ true
+  joint : (a : Assignment) → leads a code i s ≡ true → (not (may_fall_through i) || may_have l (a next)) ≡ true → fits a code i next s ≡ true
   joint a led on =
-      and_from (finds i s && leads a code i s) (leads_on a i next (left i s)) (and_from (finds i s) (leads a code i s) found led) (ap (leads_on a i next) is ∙ on)
+      and_from (finds i s && leads a code i s) (leads_on a i next (shape_after i s)) (and_from (finds i s) (leads a code i s) found led) (ap (leads_on a i next) is ∙ on)
 
   module _ (old mid : Stand) (known : mid.known ≡ old.known) (waiting : mid.waiting ≡ old.waiting) where
     -- a row that can't lead to its labels doesn't fit
@@ -56,21 +56,21 @@ module _ (code : List Instruction) (i : Instruction) (next : ℕ) (s l : Shape) 
         (fails_from (λ a. leads a code i s ≡ true) old mid e known refusal)
 
     -- a row that doesn't go to the next row fits where it leads to its labels
-    pub fits_alone : (new : Stand) → goes_on i ≡ false → Forces (λ a. leads a code i s ≡ true) mid new → Forces (λ a. fits a code i next s ≡ true) old new
+    pub fits_alone : (new : Stand) → may_fall_through i ≡ false → Forces (λ a. leads a code i s ≡ true) mid new → Forces (λ a. fits a code i next s ≡ true) old new
     fits_alone new off led =
         forces_as (λ a. leads a code i s ≡ true) (λ a. fits a code i next s ≡ true) old new (λ a below h. (apart a h).0)
-        (λ h. joint (assigned old.known) h (stays (goes_on i) (may_have l (assigned old.known next)) off))
+        (λ h. joint (assigned old.known) h (stays (may_fall_through i) (may_have l (assigned old.known next)) off))
         (forces_from (λ a. leads a code i s ≡ true) old mid new known waiting led)
 
-    module _ (then : Stand) (on : goes_on i ≡ true) (led : Forces (λ a. leads a code i s ≡ true) mid then) where
+    module _ (then : Stand) (on : may_fall_through i ≡ true) (led : Forces (λ a. leads a code i s ≡ true) mid then) where
       both_of : (a : Assignment) → fits a code i next s ≡ true → (leads a code i s ≡ true) × (may_have l (a next) ≡ true)
-      both_of a h = let p = apart a h in (p.0, goes (goes_on i) (may_have l (a next)) on p.1)
+      both_of a h = let p = apart a h in (p.0, goes (may_fall_through i) (may_have l (a next)) on p.1)
 
       -- a row that goes to the next row fits where the next row may have the shape too
       pub fits_on : (new : Stand) → Forces (λ a. may_have l (a next) ≡ true) then new → Forces (λ a. fits a code i next s ≡ true) old new
       fits_on new come =
           forces_as (λ a. (leads a code i s ≡ true) × (may_have l (a next) ≡ true)) (λ a. fits a code i next s ≡ true) old new (λ a below h. both_of a h)
-          (λ h. joint (assigned old.known) h.0 (goes_back (goes_on i) (may_have l (assigned old.known next)) h.1))
+          (λ h. joint (assigned old.known) h.0 (goes_back (may_fall_through i) (may_have l (assigned old.known next)) h.1))
           (forces_both (λ a. leads a code i s ≡ true) (λ a. may_have l (a next) ≡ true) old then
           (forces_from (λ a. leads a code i s ≡ true) old mid then known waiting led) new come)
 
@@ -81,29 +81,29 @@ module _ (code : List Instruction) (i : Instruction) (next : ℕ) (s l : Shape) 
           (forces_from (λ a. leads a code i s ≡ true) old mid then known waiting led) e refusal)
 
 -- the step of a row, where it goes to no next row and where it does
-module _ (a : Assignment) (code : List Instruction) (i : Instruction) (next : ℕ) (s l : Shape) (found : finds i s ≡ true) (is : left i s ≡ Some l) (led : MayGo a code s (targets i s)) where
-  pub flows_alone : goes_on i ≡ false → Flows a code i next s
+module _ (a : Assignment) (code : List Instruction) (i : Instruction) (next : ℕ) (s l : Shape) (found : finds i s ≡ true) (is : shape_after i s ≡ Some l) (led : MayGo a code s (targets i s)) where
+  pub flows_alone : may_fall_through i ≡ false → Flows a code i next s
   flows_alone off = record {
     found = found;
     goes = led;
-    on = ap (leads_on a i next) is ∙ stays (goes_on i) (may_have l (a next)) off;
+    on = ap (leads_on a i next) is ∙ stays (may_fall_through i) (may_have l (a next)) off;
   }
 
   pub flows_on : may_have l (a next) ≡ true → Flows a code i next s
   flows_on come = record {
     found = found;
     goes = led;
-    on = ap (leads_on a i next) is ∙ goes_back (goes_on i) (may_have l (a next)) come;
+    on = ap (leads_on a i next) is ∙ goes_back (may_fall_through i) (may_have l (a next)) come;
   }
 
 -- the end of the code goes to no next row
-pub on_within : (code : List Instruction) (at : ℕ) → goes_on (row_at code at) ≡ true → at < length code
+pub on_within : (code : List Instruction) (at : ℕ) → may_fall_through (row_at code at) ≡ true → at < length code
 on_within code at on =
     ⊎_elim
     (λ (h : at < length code). h)
     (λ (h : length code ≤ at).
     let none : row_at code at ≡ end_of_code = ap (λ (o : Option Instruction). unwrap_or o end_of_code) (slice_get_past code at h) in
-    absurd (true≢false (sym on ∙ ap goes_on none)))
+    absurd (true≢false (sym on ∙ ap may_fall_through none)))
     (cases_lt at (length code))
 
 -- ---- the row at a position

@@ -8,7 +8,7 @@ use Rattle.std.proofs.lemmas.Option.{slice_get_past}
 use Rattle.beam_model.specs.declared.instruction.Instruction.{Instruction}
 use Rattle.beam_model.specs.Fetch.{end_of_code}
 use Rattle.beam_model.specs.Listing.{is_row, row_of_label, next_row}
-use Rattle.beam_model.specs.Framed.{Shape, Assignment, may_have, shape_of_label, in_list, called, targets, finds, left, goes_on, leads, leads_on, fits, fits_if, row_at, begins_bare, AreFramed}
+use Rattle.beam_model.specs.Framed.{Shape, Assignment, may_have, shape_of_label, in_list, called, targets, finds, shape_after, may_fall_through, leads, leads_on, fits, fits_if, row_at, begins_bare, AreFramed}
 use Rattle.beam_shapes.specs.Forced.{Stand, assigned, Waits, Rises, Spreads, Forces, Fails, IsAssignment, MayGo, Flows, FlowsIf, FlowsAt, AreLookedAt, BeginsIf, BeginsAt, BeginBelow, BeginBare}
 use Rattle.beam_shapes.specs.declared.error.FrameError.{FrameError}
 use Rattle.beam_shapes.proofs.Forced.{spreads_none, spreads_from, forces_both, forces_as, fails_both, fails_as}
@@ -38,13 +38,13 @@ module _ (a b : Assignment) (up : (at : ℕ) → Rises (a at) (b at)) where
 
     on_up : (i : Instruction) (next : ℕ) (o : Option Shape) → leads_on a i next o ≡ true → leads_on b i next o ≡ true
     on_up i next None e = e
-    on_up i next (Some s) e = or_up (not (goes_on i)) (may_have s (a next)) (may_have s (b next)) (up next s) e
+    on_up i next (Some s) e = or_up (not (may_fall_through i)) (may_have s (a next)) (may_have s (b next)) (up next s) e
 
     flows_up : (i : Instruction) (next : ℕ) (s : Shape) → Flows a code i next s → Flows b code i next s
     flows_up i next s f = record {
       found = f.found;
       goes = labels_up s (targets i s) f.goes;
-      on = on_up i next (left i s) f.on;
+      on = on_up i next (shape_after i s) f.on;
     }
 
     pub flows_if_up : (i : Instruction) (next : ℕ) (o : Option Shape) → FlowsIf a code i next o → FlowsIf b code i next o
@@ -145,7 +145,7 @@ module _ (a : Assignment) (code : List Instruction) where
   begins_fit : (i : Instruction) (next : ℕ) (o : Option Shape) → fits_if a code i next o ≡ true → BeginsIf a code i o
   begins_fit i next None h = tt
   begins_fit i next (Some s) h = λ row.
-      let p = and_parts (finds i s && leads a code i s) (leads_on a i next (left i s)) (goes (is_row i) (fits a code i next s) row h) in
+      let p = and_parts (finds i s && leads a code i s) (leads_on a i next (shape_after i s)) (goes (is_row i) (fits a code i next s) row h) in
       let q = and_parts (finds i s) (leads a code i s) p.0 in
       (and_parts (list_all (begins_bare a code) (in_list (called i))) (list_all (λ label. may_have s (shape_of_label a code label)) (targets i s)) q.1).0
 
@@ -160,7 +160,7 @@ module _ (a : Assignment) (code : List Instruction) where
       (λ (row : is_row i ≡ true).
       let g = f row in
       or_right (not (is_row i)) (fits a code i next s)
-      (and_from (finds i s && leads a code i s) (leads_on a i next (left i s))
+      (and_from (finds i s && leads a code i s) (leads_on a i next (shape_after i s))
       (and_from (finds i s) (leads a code i s) g.found
       (and_from (list_all (begins_bare a code) (in_list (called i))) (list_all (λ label. may_have s (shape_of_label a code label)) (targets i s)) (b row) g.goes)) g.on))
       (λ (other : is_row i ≡ false). or_left (not (is_row i)) (fits a code i next s) (ap not other))

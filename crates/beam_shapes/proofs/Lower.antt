@@ -6,7 +6,7 @@ use Rattle.std.specs.Option.{option_eq}
 use Rattle.std.specs.Cmp.Lexicographic.{pointwise, pointwise_decides}
 use Rattle.std.proofs.lemmas.Bool.{true≢false, and_parts, and_from, eqb-true, eq-eqb}
 use Rattle.beam_model.specs.declared.instruction.Instruction.{Instruction}
-use Rattle.beam_model.specs.Framed.{Shape, bare, sized, any, Assignment, first_tag, same_shape, may_have, is_value, is_there, put_all, Making, keeps, wants_bare, allocates, drops, trims, made, making, tag, tags_a_y, read_ys, written_ys, may_raise, in_list, jumps, called, targets, goes_on, begins_bare, shape_of_label, finds, left, leads, leads_on, fits}
+use Rattle.beam_model.specs.Framed.{Shape, bare, sized, any, Assignment, first_tag, same_shape, may_have, is_value, is_there, put_all, FrameEffect, keeps, wants_bare, allocates, drops, trims, after_effect, frame_effect, tag, tags_a_y, read_ys, written_ys, may_raise, in_list, jumps, called, targets, may_fall_through, begins_bare, shape_of_label, finds, shape_after, leads, leads_on, fits}
 use Rattle.beam_shapes.specs.Forced.{room_of}
 
 some_inj : (x y : ℕ) → Some x ≡ Some y → x ≡ y
@@ -110,11 +110,11 @@ goes_up : (g : Bool) (s : Shape) (o : Option Shape) → first_tag s ≡ None →
 goes_up true s o none e = refl
 goes_up false s o none e = any_up s o none e
 
-leads_on_any : (a : Assignment) (i : Instruction) (next : ℕ) (s : Shape) (m : Making) (t : Option ℕ) (ws : List ℕ) → first_tag s ≡ None → ws ≡ []
-    → leads_on a i next (option_map (put_all t ws) (made m any)) ≡ true → leads_on a i next (option_map (put_all t ws) (made m s)) ≡ true
+leads_on_any : (a : Assignment) (i : Instruction) (next : ℕ) (s : Shape) (m : FrameEffect) (t : Option ℕ) (ws : List ℕ) → first_tag s ≡ None → ws ≡ []
+    → leads_on a i next (option_map (put_all t ws) (after_effect m any)) ≡ true → leads_on a i next (option_map (put_all t ws) (after_effect m s)) ≡ true
 leads_on_any a i next s keeps t ws none w e =
     let is : put_all t ws s ≡ s = ap (λ ns. put_all t ns s) w ∙ put_none t s in
-    ap (λ (u : Shape). not (goes_on i) || may_have u (a next)) is ∙ goes_up (not (goes_on i)) s (a next) none e
+    ap (λ (u : Shape). not (may_fall_through i) || may_have u (a next)) is ∙ goes_up (not (may_fall_through i)) s (a next) none e
 leads_on_any a i next s wants_bare t ws none w e = absurd (true≢false (sym e))
 leads_on_any a i next s (allocates n) t ws none w e = absurd (true≢false (sym e))
 leads_on_any a i next s (drops n) t ws none w e = absurd (true≢false (sym e))
@@ -123,14 +123,14 @@ leads_on_any a i next s (trims m n) t ws none w e = absurd (true≢false (sym e)
 module _ (a : Assignment) (code : List Instruction) (i : Instruction) (next : ℕ) where
   fits_any : (s : Shape) → first_tag s ≡ None → fits a code i next any ≡ true → fits a code i next s ≡ true
   fits_any s none e =
-      let p = and_parts (finds i any && leads a code i any) (leads_on a i next (left i any)) e in
+      let p = and_parts (finds i any && leads a code i any) (leads_on a i next (shape_after i any)) e in
       let q = and_parts (finds i any) (leads a code i any) p.0 in
       let n = finds_any (read_ys i) (written_ys i) (tag i) q.0 in
       and_from
       (finds i s && leads a code i s)
-      (leads_on a i next (left i s))
+      (leads_on a i next (shape_after i s))
       (and_from (finds i s) (leads a code i s) (finds_nothing (read_ys i) (written_ys i) (tag i) s n.0 n.1 n.2) (leads_any a code i s none q.1))
-      (leads_on_any a i next s (making i) (tag i) (written_ys i) none n.1 p.1)
+      (leads_on_any a i next s (frame_effect i) (tag i) (written_ys i) none n.1 p.1)
 
   fits_by : (s t : Shape) → Lower s t → fits a code i next t ≡ true → fits a code i next s ≡ true
   fits_by s t same e = e

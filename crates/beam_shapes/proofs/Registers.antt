@@ -81,28 +81,28 @@ value_past p s r n k is count past =
     le-ltb n k past ∙ sym (ap (λ (t : Shape). is_value (shown p t) n) is ∙ ap is_value_in none)
 
 module _ (p : Parts) (e : Effect) (s : Shape) (r : Registers) (k : ℕ) (is : s ≡ shape.Sized r) (count : k ≡ 1024 - r.from) where
-  drops_is : (n : ℕ) (b : Bool) → e ≡ effect.Drops n → (k == n) ≡ b → (if b then Some book.bare else None) ≡ book.made (shown_effect e) (shown p s)
+  drops_is : (n : ℕ) (b : Bool) → e ≡ effect.Drops n → (k == n) ≡ b → (if b then Some book.bare else None) ≡ book.after_effect (shown_effect e) (shown p s)
   drops_is n b what test =
       ap (λ (c : Bool). if c then Some book.bare else None) (sym test ∙ ap (λ m. m == n) (count ∙ sym (long p r)))
-      ∙ sym (ap (λ (f : Effect). book.made (shown_effect f) (shown p s)) what ∙ ap (λ (t : Shape). book.made (book.drops n) (shown p t)) is)
+      ∙ sym (ap (λ (f : Effect). book.after_effect (shown_effect f) (shown p s)) what ∙ ap (λ (t : Shape). book.after_effect (book.drops n) (shown p t)) is)
 
-  pub drops : (n : ℕ) → e ≡ effect.Drops n → k ≡ n → Some book.bare ≡ book.made (shown_effect e) (shown p s)
+  pub drops : (n : ℕ) → e ≡ effect.Drops n → k ≡ n → Some book.bare ≡ book.after_effect (shown_effect e) (shown p s)
   drops n what same = drops_is n true what (eq-eqb k n same)
 
-  pub drops_not : (n : ℕ) → e ≡ effect.Drops n → (k ≡ n → ⊥) → None ≡ book.made (shown_effect e) (shown p s)
+  pub drops_not : (n : ℕ) → e ≡ effect.Drops n → (k ≡ n → ⊥) → None ≡ book.after_effect (shown_effect e) (shown p s)
   drops_not n what other = drops_is n false what (ne_eqb k n other)
 
   trims_is : (m n : ℕ) (b : Bool) → e ≡ effect.Trims m n → (k == m + n) ≡ b
-      → (if b then Some (book.sized (drop m (shown_registers p r))) else None) ≡ book.made (shown_effect e) (shown p s)
+      → (if b then Some (book.sized (drop m (shown_registers p r))) else None) ≡ book.after_effect (shown_effect e) (shown p s)
   trims_is m n b what test =
       ap (λ (c : Bool). if c then Some (book.sized (drop m (shown_registers p r))) else None) (sym test ∙ ap (λ j. j == m + n) (count ∙ sym (long p r)))
-      ∙ sym (ap (λ (f : Effect). book.made (shown_effect f) (shown p s)) what ∙ ap (λ (t : Shape). book.made (book.trims m n) (shown p t)) is)
+      ∙ sym (ap (λ (f : Effect). book.after_effect (shown_effect f) (shown p s)) what ∙ ap (λ (t : Shape). book.after_effect (book.trims m n) (shown p t)) is)
 
-  pub trims : (m n : ℕ) (y : List (Option ℕ)) → e ≡ effect.Trims m n → m ≤ k → n ≡ k - m → y ≡ drop m (shown_registers p r) → Some (book.sized y) ≡ book.made (shown_effect e) (shown p s)
+  pub trims : (m n : ℕ) (y : List (Option ℕ)) → e ≡ effect.Trims m n → m ≤ k → n ≡ k - m → y ≡ drop m (shown_registers p r) → Some (book.sized y) ≡ book.after_effect (shown_effect e) (shown p s)
   trims m n y what few rest y_is =
       ap (λ (ts : List (Option ℕ)). Some (book.sized ts)) y_is ∙ trims_is m n true what (eq-eqb k (m + n) (omega (arith, few, rest)))
 
-  pub trims_not : (m n : ℕ) → e ≡ effect.Trims m n → (k ≡ m + n → ⊥) → None ≡ book.made (shown_effect e) (shown p s)
+  pub trims_not : (m n : ℕ) → e ≡ effect.Trims m n → (k ≡ m + n → ⊥) → None ≡ book.after_effect (shown_effect e) (shown p s)
   trims_not m n what other = trims_is m n false what (ne_eqb k (m + n) other)
 
 -- ---- equal registers

@@ -13,7 +13,7 @@ use Rattle.beam_model.specs.declared.opcode.Opcode.{Opcode}
 use Rattle.beam_model.specs.declared.opcode.Opcode.TheVariants as op
 use Rattle.beam_model.specs.Loadable.{all_operands, is_within, is_frame_size}
 use Rattle.beam_model.specs.Opcodes.{kinds_of}
-use Rattle.beam_model.specs.Framed.{number, exits, keeps, drops, making, making_by, row_at}
+use Rattle.beam_model.specs.Framed.{number, calls_exit, keeps, drops, frame_effect, frame_effect_by, row_at}
 use Rattle.beam_shapes.specs.Shown.{IsSmall}
 
 size_few : (o : Operand) → is_frame_size o ≡ true → number o ≤ 1024
@@ -34,7 +34,7 @@ small_exit : (b : Bool) (n : ℕ) → IsSmall (if b then keeps else drops n)
 small_exit true n = tt
 small_exit false n = tt
 
-small_row : (o : Opcode) (os : List Operand) → all_operands is_within (kinds_of o) os ≡ true → IsSmall (making_by o os)
+small_row : (o : Opcode) (os : List Operand) → all_operands is_within (kinds_of o) os ≡ true → IsSmall (frame_effect_by o os)
 small_row op.Allocate [] e = tt
 small_row op.Allocate (n ∷ rest) e = first_within (kind.Number ∷ []) n rest e
 small_row op.AllocateHeap [] e = tt
@@ -48,7 +48,7 @@ small_row op.CallLast (a ∷ f ∷ n ∷ rest) e = tt
 small_row op.CallExtLast [] e = tt
 small_row op.CallExtLast (a ∷ []) e = tt
 small_row op.CallExtLast (a ∷ f ∷ []) e = tt
-small_row op.CallExtLast (a ∷ f ∷ n ∷ rest) e = small_exit (exits f) (number n)
+small_row op.CallExtLast (a ∷ f ∷ n ∷ rest) e = small_exit (calls_exit f) (number n)
 small_row op.ApplyLast [] e = tt
 small_row op.ApplyLast (a ∷ []) e = tt
 small_row op.ApplyLast (a ∷ n ∷ rest) e = tt
@@ -57,7 +57,7 @@ small_row op.Trim (m ∷ []) e = tt
 small_row op.Trim (m ∷ n ∷ rest) e = tt
 small_row _ os e = tt
 
-pub small_rows : (code : List Instruction) → list_all (λ (i : Instruction). all_operands is_within (kinds_of i.opcode) i.operands) code ≡ true → (at : ℕ) → IsSmall (making (row_at code at))
+pub small_rows : (code : List Instruction) → list_all (λ (i : Instruction). all_operands is_within (kinds_of i.opcode) i.operands) code ≡ true → (at : ℕ) → IsSmall (frame_effect (row_at code at))
 small_rows [] e at = tt
 small_rows (i ∷ rest) e zero =
     small_row i.opcode i.operands (and_parts (all_operands is_within (kinds_of i.opcode) i.operands) (list_all (λ (j : Instruction). all_operands is_within (kinds_of j.opcode) j.operands) rest) e).0

@@ -4,7 +4,7 @@ use Rattle.std.specs.Prelude.{◌&&◌, is_some, option_map}
 use Rattle.std.specs.List.{list_all}
 use Rattle.std.proofs.lemmas.Bool.{and_right}
 use Rattle.beam_model.specs.declared.instruction.Instruction.{Instruction}
-use Rattle.beam_model.specs.Framed.{Shape, bare, sized, any, is_value, is_there, put_all, tags_a_y, read_ys, written_ys, tag, making, made, finds, left}
+use Rattle.beam_model.specs.Framed.{Shape, bare, sized, any, is_value, is_there, put_all, tags_a_y, read_ys, written_ys, tag, frame_effect, after_effect, finds, shape_after}
 use Rattle.beam_shapes.specs.Forced.{Leaves}
 
 put_none : (t : Option ℕ) (s : Shape) → put_all t [] s ≡ s
@@ -34,14 +34,14 @@ third true true c d e = ap (λ (x : Bool). x && d) e
 third true false c d e = refl
 third false b c d e = refl
 
-pub leaves_so : (i : Instruction) (s t : Shape) → read_ys i ≡ [] → written_ys i ≡ [] → tag i ≡ None → made (making i) s ≡ Some t → Leaves i s t
+pub leaves_so : (i : Instruction) (s t : Shape) → read_ys i ≡ [] → written_ys i ≡ [] → tag i ≡ None → after_effect (frame_effect i) s ≡ Some t → Leaves i s t
 leaves_so i s t reads writes none is =
-    (found s (tag i) (read_ys i) (written_ys i) reads writes none, puts_none (tag i) (written_ys i) (made (making i) s) writes ∙ is)
+    (found s (tag i) (read_ys i) (written_ys i) reads writes none, puts_none (tag i) (written_ys i) (after_effect (frame_effect i) s) writes ∙ is)
 
-pub never_tagged : (i : Instruction) (s : Shape) → written_ys i ≡ [] → is_some (tag i) ≡ true → (finds i s && is_some (left i s)) ≡ false
+pub never_tagged : (i : Instruction) (s : Shape) → written_ys i ≡ [] → is_some (tag i) ≡ true → (finds i s && is_some (shape_after i s)) ≡ false
 never_tagged i s writes some =
-    third (list_all (is_value s) (read_ys i)) (list_all (is_there s) (written_ys i)) (tags_a_y (tag i) (written_ys i)) (is_some (left i s))
+    third (list_all (is_value s) (read_ys i)) (list_all (is_there s) (written_ys i)) (tags_a_y (tag i) (written_ys i)) (is_some (shape_after i s))
     (untagged (tag i) (written_ys i) writes some)
 
-pub never_made : (i : Instruction) (s : Shape) → written_ys i ≡ [] → made (making i) s ≡ None → (finds i s && is_some (left i s)) ≡ false
-never_made i s writes none = and_right (finds i s) (is_some (left i s)) (ap is_some (puts_none (tag i) (written_ys i) (made (making i) s) writes ∙ none))
+pub never_made : (i : Instruction) (s : Shape) → written_ys i ≡ [] → after_effect (frame_effect i) s ≡ None → (finds i s && is_some (shape_after i s)) ≡ false
+never_made i s writes none = and_right (finds i s) (is_some (shape_after i s)) (ap is_some (puts_none (tag i) (written_ys i) (after_effect (frame_effect i) s) writes ∙ none))

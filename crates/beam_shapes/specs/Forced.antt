@@ -4,7 +4,7 @@ use Rattle.std.specs.Prelude.{◌≡◌, ℕ, ◌+◌, ◌<◌, ◌≤◌, ◌�
 use Rattle.std.specs.List.{list_all, list_any}
 use Rattle.beam_model.specs.Listing.{is_row, next_row}
 use Rattle.beam_model.specs.declared.instruction.Instruction.{Instruction}
-use Rattle.beam_model.specs.Framed.{Shape, any, Assignment, may_have, shape_of_label, making, row_at, begins_bare, entries, in_list, called, targets, finds, left, leads_on, fits_at}
+use Rattle.beam_model.specs.Framed.{Shape, any, Assignment, may_have, shape_of_label, frame_effect, row_at, begins_bare, entries, in_list, called, targets, finds, shape_after, leads_on, fits_at}
 use Rattle.beam_shapes.specs.Shown.{IsSmall}
 use Rattle.beam_shapes.specs.Trees.{Parts}
 use Rattle.beam_shapes.specs.declared.error.FrameError.{FrameError}
@@ -95,11 +95,11 @@ IsAssignment code a = (list_all (begins_bare a code) (entries code) ≡ true) ×
 
 -- the row finds its registers and the frame that it needs, and leaves this shape
 abbrev pub Leaves : Instruction → Shape → Shape → Type 0
-Leaves i s left_shape = (finds i s ≡ true) × (left i s ≡ Some left_shape)
+Leaves i s left_shape = (finds i s ≡ true) × (shape_after i s ≡ Some left_shape)
 
 -- the row doesn't find its registers or the frame that it needs
 abbrev pub NeverLeaves : FrameError → Instruction → Shape → Type 0
-NeverLeaves FrameMismatch i s = (finds i s && is_some (left i s)) ≡ false
+NeverLeaves FrameMismatch i s = (finds i s && is_some (shape_after i s)) ≡ false
 NeverLeaves NoMemory i s = Unit {0}
 
 -- a row may go to each of these labels with a shape
@@ -114,7 +114,7 @@ FitsAt a code at = at ≤ length code → fits_at a code at ≡ true
 pub record Flows (a : Assignment) (code : List Instruction) (i : Instruction) (next : ℕ) (s : Shape) : Type 0 where
   pub found : finds i s ≡ true
   pub goes : MayGo a code s (targets i s)
-  pub on : leads_on a i next (left i s) ≡ true
+  pub on : leads_on a i next (shape_after i s) ≡ true
 
 abbrev pub FlowsIf : Assignment → List Instruction → Instruction → ℕ → Option Shape → Type 0
 FlowsIf a code i next None = Unit {0}
@@ -146,7 +146,7 @@ BeginBare code a = (list_all (begins_bare a code) (entries code) ≡ true) × Be
 
 -- no row allocates more registers than a frame may have
 abbrev pub AreSmall : List Instruction → Type 0
-AreSmall code = (at : ℕ) → IsSmall (making (row_at code at))
+AreSmall code = (at : ℕ) → IsSmall (frame_effect (row_at code at))
 
 -- no row waits, and the shapes that were put are below each assignment
 pub record Settles (code : List Instruction) (old new : Stand) : Type 0 where

@@ -8,7 +8,7 @@ use Rattle.beam_shapes.specs.declared.shape.Registers.{Registers}
 use Rattle.beam_shapes.specs.declared.shape.Shape.{Shape}
 use Rattle.beam_shapes.specs.declared.shape.Shape.TheVariants as shape
 
-abbrev pub shown_effect : Effect → book.Making
+abbrev pub shown_effect : Effect → book.FrameEffect
 shown_effect effect.Keeps = book.keeps
 shown_effect effect.WantsBare = book.wants_bare
 shown_effect (effect.Allocates n) = book.allocates n
@@ -16,7 +16,7 @@ shown_effect (effect.Drops n) = book.drops n
 shown_effect (effect.Trims m n) = book.trims m n
 
 -- an allocation of at most 1,024 registers, or none
-abbrev pub IsSmall : book.Making → Type 0
+abbrev pub IsSmall : book.FrameEffect → Type 0
 IsSmall (book.allocates n) = n ≤ 1024
 IsSmall _ = Unit {0}
 

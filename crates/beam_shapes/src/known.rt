@@ -1,7 +1,7 @@
 //! The shapes that are known before the rows of a listing.
 ghost use Rattle.std.specs.Prelude.{◌≡◌, ◌↔◌, ℕ, ◌+◌, ◌<◌, [], ◌∷◌, ◌++◌, None, is_some, nat_eq, true, length, replicate, slice_index_or, IsTrue, IfNone, IfSome, IfOk, MatchResult, option_map};
 ghost use Rattle.std.specs.List.{list_any};
-ghost use Rattle.beam_model.specs.Framed.{may_have, is_bare, making};
+ghost use Rattle.beam_model.specs.Framed.{may_have, is_bare, frame_effect};
 ghost use Rattle.beam_model.specs.Framed as book;
 ghost use Rattle.beam_shapes.specs.Forced.{assigned, Does, Leaves, NeverLeaves};
 ghost use Rattle.beam_shapes.specs.Shown.{shown, IsShape, IsKnown, IsSmall};
@@ -174,7 +174,7 @@ impl Known {
         shape: Shape,
     ) -> Result<Shape, FrameError>
         requires shape { IsShape self.old.parts shape }
-        requires making { IsSmall (making instruction.now) }
+        requires making { IsSmall (frame_effect instruction.now) }
         ensures grows { Grows self.old.parts self.new.parts }
         ensures known { self.new.known ≡ self.old.known }
         ensures waiting { self.new.waiting ≡ self.old.waiting }

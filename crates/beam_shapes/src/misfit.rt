@@ -1,6 +1,6 @@
 //! Where and why a listing isn't framed: a diagnosis for its author.
 ghost use Rattle.std.specs.Prelude.{◌≡◌, ◌+◌, None, false, length, IsTrue, IfOk};
-ghost use Rattle.beam_model.specs.Loadable.{are_limits_kept};
+ghost use Rattle.beam_model.specs.Loadable.{are_limits_met};
 ghost use Rattle.beam_shapes.specs.Forced.{FitsAt, Forces, AreSmall};
 
 use crate::error::FrameError;
@@ -98,7 +98,7 @@ fn find(alloc: Global, code: &Code, known: &mut Known) -> Result<Option<usize>, 
 /// The row at which the search for shapes fails, with what it lacks; None where no row does, or where a function doesn't begin without y
 /// registers. In time and memory linear in the listing. It fails only for memory.
 pub fn find_misfit(alloc: Global, listing: &Listing) -> Result<Option<Misfit>, AllocError>
-    requires limits { IsTrue (are_limits_kept listing.now) }
+    requires limits { IsTrue (are_limits_met listing.now) }
 {
     let code = Code::new(alloc, &listing.instructions)?;
     let mut known = Known::new(alloc, listing.instructions.len() + 1, code.tags())?;

@@ -2,7 +2,7 @@
 ghost use Rattle.std.specs.Prelude.{◌≡◌};
 ghost use Rattle.std.specs.List.{list_all};
 ghost use Rattle.beam_model.specs.Loadable.{is_none_label};
-ghost use Rattle.beam_model.specs.Framed.{number, making, label_in, tag, is_total, built_in, may_fail, is_choice, is_size, are_choices, is_register, is_call, is_error, may_go_wrong, fails, fails_collecting, fails_by, is_wrong_by, may_raise, exits_by, exits, never_returns, may_return, goes_on, called, native_by, never_jumps};
+ghost use Rattle.beam_model.specs.Framed.{number, frame_effect, label_in, tag, is_total, built_in, may_fail, is_choice, is_size, are_choices, is_register, is_call, is_error, may_go_wrong, bif_may_fail, gc_bif_may_fail, may_fail_by, is_wrong_by, may_raise, calls_exit_by, calls_exit, never_returns, may_return, may_fall_through, called, native_by, never_jumps};
 ghost use Rattle.beam_shapes.specs.Shown.{shown_effect};
 
 use beam_bif::built_in::{built_in_of, is_erlang};
@@ -36,7 +36,7 @@ fn number(operand: &Operand) -> u32
 
 /// Whether a native is there, and never returns.
 fn exits_by(native: Option<Native>) -> bool
-    ensures { result ≡ exits_by native }
+    ensures { result ≡ calls_exit_by native }
 {
     match native {
         Some(native) => is_exit(native),
@@ -46,7 +46,7 @@ fn exits_by(native: Option<Native>) -> bool
 
 /// Whether a call is of a native that never returns.
 fn exits(operand: &Operand) -> bool
-    ensures { result ≡ exits operand.now }
+    ensures { result ≡ calls_exit operand.now }
 {
     match operand {
         Operand::Import(import) => {
@@ -57,7 +57,7 @@ fn exits(operand: &Operand) -> bool
 }
 
 pub fn effect_of(instruction: &Instruction) -> Effect
-    ensures { shown_effect result ≡ making instruction.now }
+    ensures { shown_effect result ≡ frame_effect instruction.now }
 {
     match (instruction.opcode, instruction.operands.as_slice()) {
         (Opcode::Allocate | Opcode::AllocateHeap, [size, ..]) => Effect::Allocates(number(size)),
@@ -249,7 +249,7 @@ fn may_go_wrong(opcode: Opcode) -> bool
 
 /// Whether a built-in function may fail without a label to go to instead, by the operands of `bif1` and `bif2`.
 fn fails(operands: &[Operand]) -> bool
-    ensures { result ≡ fails operands.now }
+    ensures { result ≡ bif_may_fail operands.now }
 {
     match operands {
         [fail, native, ..] => may_fail(fail, native),
@@ -259,7 +259,7 @@ fn fails(operands: &[Operand]) -> bool
 
 /// Whether a built-in function may fail without a label to go to instead, by the operands of `gc_bif1` and `gc_bif2`.
 fn fails_collecting(operands: &[Operand]) -> bool
-    ensures { result ≡ fails_collecting operands.now }
+    ensures { result ≡ gc_bif_may_fail operands.now }
 {
     match operands {
         [fail, _, native, ..] => may_fail(fail, native),
@@ -269,7 +269,7 @@ fn fails_collecting(operands: &[Operand]) -> bool
 
 /// Whether a row calls a built-in function that may fail, without a label to go to instead.
 fn fails_by(instruction: &Instruction) -> bool
-    ensures { result ≡ fails_by instruction.now.opcode instruction.now.operands }
+    ensures { result ≡ may_fail_by instruction.now.opcode instruction.now.operands }
 {
     match instruction.opcode {
         Opcode::Bif1 | Opcode::Bif2 => fails(instruction.operands.as_slice()),
@@ -328,7 +328,7 @@ fn may_return(operand: &Operand) -> bool
 
 /// Whether the row may go to the next one.
 pub fn goes_on(instruction: &Instruction) -> bool
-    ensures { result ≡ goes_on instruction.now }
+    ensures { result ≡ may_fall_through instruction.now }
 {
     match instruction.opcode {
         Opcode::FuncInfo

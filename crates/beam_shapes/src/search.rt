@@ -3,7 +3,7 @@
 //! function still begins without y registers, the known shapes are an assignment; where a row doesn't fit, there is none.
 ghost use Rattle.std.specs.Prelude.{◌≡◌, ◌+◌, ◌++◌, if◌then◌else◌, [], None, true, false, length, IsTrue, IfOk, OnOk, MatchResult};
 ghost use Rattle.std.specs.List.{list_all};
-ghost use Rattle.beam_model.specs.Loadable.{are_limits_kept};
+ghost use Rattle.beam_model.specs.Loadable.{are_limits_met};
 ghost use Rattle.beam_model.specs.Listing.{next_row};
 ghost use Rattle.beam_model.specs.Framed.{begins_bare, shape_of_label, first_tag, may_have, in_list, may_raise, jumps, targets, leads, fits, entries, entry_by, row_at, AreFramed, IsFramed};
 ghost use Rattle.beam_shapes.specs.Forced.{assigned, Does, Forces, Fails, MayGo, Settles, FitsAt, Flows, FlowsAt, BeginsAt, BeginBelow, BeginBare, IsAssignment, AreSmall};
@@ -286,7 +286,7 @@ fn find(alloc: Global, code: &Code, known: &mut Known) -> Result<(), FrameError>
 /// Whether the listing is framed: whether its rows have shapes with which each row finds its y registers and its frame. In time and memory
 /// linear in the listing. It fails only for memory, and for more than 4,294,967,295 instructions.
 pub fn frames(alloc: Global, listing: &Listing) -> Result<bool, AllocError>
-    requires limits { IsTrue (are_limits_kept listing.now) }
+    requires limits { IsTrue (are_limits_met listing.now) }
     ensures framed { IfOk result (λ ok. ok ≡ true → IsFramed listing.now) }
     ensures unframed { IfOk result (λ ok. ok ≡ false → IsFramed listing.now → ⊥) }
 {

@@ -219,7 +219,7 @@ impl Shape {
         requires effect { IsSmall (shown_effect effect) }
         ensures grows { Grows trees.old trees.new }
         ensures shape { IfOk result (λ s. IsKnown trees.new s) }
-        ensures made { IfOk result (λ s. option_map (shown trees.new) s ≡ book.made (shown_effect effect) (shown trees.old self)) }
+        ensures made { IfOk result (λ s. option_map (shown trees.new) s ≡ book.after_effect (shown_effect effect) (shown trees.old self)) }
     {
         match (effect, self) {
             (Effect::Keeps, shape) => Ok(Some(shape)),
@@ -310,7 +310,7 @@ fn left_unnamed(
     shape: Shape,
 ) -> Result<Shape, FrameError>
     requires shape { IsShape trees.old shape }
-    requires making { IsSmall (book.making instruction.now) }
+    requires making { IsSmall (book.frame_effect instruction.now) }
     requires reads { book.read_ys instruction.now ≡ [] }
     requires writes { book.written_ys instruction.now ≡ [] }
     ensures grows { Grows trees.old trees.new }
@@ -337,7 +337,7 @@ pub fn left(
     shape: Shape,
 ) -> Result<Shape, FrameError>
     requires shape { IsShape trees.old shape }
-    requires making { IsSmall (book.making instruction.now) }
+    requires making { IsSmall (book.frame_effect instruction.now) }
     ensures grows { Grows trees.old trees.new }
     ensures shape { IfOk result (λ s. IsShape trees.new s) }
     ensures left { MatchResult result

@@ -14,10 +14,10 @@ use Rattle.beam_machine.specs.declared.event.Then.{Then}
 use Rattle.beam_machine.specs.declared.event.Then.TheVariants.{GoesOn, Waits, Ended}
 use Rattle.beam_machine.specs.Code.{Code, Instance}
 use Rattle.beam_machine.specs.Debug.{Debugged, DebugAnswer, DebugNext, debug_next}
-use Rattle.beam_machine.specs.DebugRun.{debug_cut, DebugAnswers}
+use Rattle.beam_machine.specs.DebugRun.{debug_cut_event, DebugAnswers}
 use Rattle.beam_machine.specs.Private.{Private, End, at_limit, after_row, before_node_row, at_spot, stops}
 use Rattle.beam_machine.specs.Process.{Process, is_running, then_of}
-use Rattle.beam_machine.specs.Run.{granted}
+use Rattle.beam_machine.specs.Run.{effective_rows}
 use Rattle.beam_machine.specs.State.{live_process, process_of}
 use Rattle.beam_machine.specs.View.{View}
 use Rattle.beam_laws.proofs.Ending.{alive_is}
@@ -219,7 +219,7 @@ granted_by : (n : ℕ) (b : Bool) → cond b n n ≡ n
 granted_by n true = refl
 granted_by n false = refl
 
-all_granted : (n : ℕ) (then : Then) → granted n n then ≡ n
+all_granted : (n : ℕ) (then : Then) → effective_rows n n then ≡ n
 all_granted n GoesOn = granted_by n (nat_lt 0 n && nat_lt n n)
 all_granted n Waits = refl
 all_granted n (Ended reason value) = refl
@@ -231,23 +231,23 @@ reply_is : (a : DebugAnswer) (x y : DebugReply View) → a ≡ Ok x → a ≡ Ok
 reply_is a x y e f = cc (e, f)
 
 cut_ran : (d : Debugged) (pid m : ℕ) (reply : DebugReply View) (then : Then) → Says d pid m reply → Says d pid m (NodeReply (Ran m then))
-    → debug_cut (NodeEvent (Steps pid m)) (Ok reply) ≡ NodeEvent (Steps pid m)
+    → debug_cut_event (NodeEvent (Steps pid m)) (Ok reply) ≡ NodeEvent (Steps pid m)
 cut_ran d pid m reply then e f =
     let is : NodeReply (Ran m then) ≡ reply = reply_is (debug_next d (NodeEvent (Steps pid m))).answer reply (NodeReply (Ran m then)) e f in
-    subst (λ r. debug_cut (NodeEvent (Steps pid m)) (Ok r) ≡ NodeEvent (Steps pid m)) is (ap (λ n. NodeEvent (Steps pid n)) (all_granted m then))
+    subst (λ r. debug_cut_event (NodeEvent (Steps pid m)) (Ok r) ≡ NodeEvent (Steps pid m)) is (ap (λ n. NodeEvent (Steps pid n)) (all_granted m then))
 
 cut_held : (d : Debugged) (pid m count : ℕ) (reply : DebugReply View) → Says d pid m reply → Says d pid m (Held count)
-    → debug_cut (NodeEvent (Steps pid m)) (Ok reply) ≡ NodeEvent (Steps pid m)
+    → debug_cut_event (NodeEvent (Steps pid m)) (Ok reply) ≡ NodeEvent (Steps pid m)
 cut_held d pid m count reply e f =
     let is : Held count ≡ reply = reply_is (debug_next d (NodeEvent (Steps pid m))).answer reply (Held count) e f in
-    subst (λ r. debug_cut (NodeEvent (Steps pid m)) (Ok r) ≡ NodeEvent (Steps pid m)) is refl
+    subst (λ r. debug_cut_event (NodeEvent (Steps pid m)) (Ok r) ≡ NodeEvent (Steps pid m)) is refl
 
 module _ (d : Debugged) (pid : ℕ) (rows : Private) (reply : DebugReply View) (s : AreSlices d pid rows) (says : Says d pid (rows_of_event rows) reply) where
   says_of : (n : DebugNext) (m : ℕ) (r : DebugReply View) → rows_of_event rows ≡ m → debug_next d (NodeEvent (Steps s.origin.pid m)) ≡ n → n.answer ≡ Ok r → Says d pid (rows_of_event rows) r
   says_of n m r count is answer =
       subst (λ k. Says d pid k r) (sym count) (subst (λ p. Says d p m r) s.own (ap (λ (n : DebugNext). n.answer) is ∙ answer))
 
-  cut_by : (end : End) → rows.end ≡ end → debug_cut (event_of pid rows) (Ok reply) ≡ event_of pid rows
+  cut_by : (end : End) → rows.end ≡ end → debug_cut_event (event_of pid rows) (Ok reply) ≡ event_of pid rows
   cut_by at_limit e =
       let count : rows_of_event rows ≡ rows.count = ap (λ x. rows.count + rows_at_end x) e ∙ omega arith in
       let ran = says_of _ rows.count (NodeReply (Ran rows.count (then_of rows.process.status))) count (slice_rows d s.origin s.limit s.now rows s.done s.can s.runs) refl in
@@ -269,7 +269,7 @@ module _ (d : Debugged) (pid : ℕ) (rows : Private) (reply : DebugReply View) (
       cut_held d pid (rows_of_event rows) rows.count reply says
       (says_of _ (rows.count + 1) (Held rows.count) count (slice_at_spot d s.origin s.limit s.now rows s.done s.can s.runs e) refl)
 
-  pub not_cut : debug_cut (event_of pid rows) (Ok reply) ≡ event_of pid rows
+  pub not_cut : debug_cut_event (event_of pid rows) (Ok reply) ≡ event_of pid rows
   not_cut = cut_by rows.end refl
 
   pub rows_answer : (x : Debugged) → debug_next d (event_of pid rows) ≡ record { answer = Ok reply; state = x } → DebugAnswers d (event_of pid rows) (Ok reply) x

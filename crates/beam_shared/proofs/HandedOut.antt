@@ -9,7 +9,7 @@ use Rattle.beam_machine.specs.declared.event.Event.TheVariants.{Deliver}
 use Rattle.beam_machine.specs.declared.event.Reply.TheVariants.{Done}
 use Rattle.beam_machine.specs.declared.event.Refused.TheVariants.{NotReady}
 use Rattle.beam_machine.specs.declared.process.Signal.{Signal}
-use Rattle.beam_machine.specs.Debug.{Debugged, DebugAnswer, DebugNext, is_among, is_live_process, replies, settled, of_node, debug_next}
+use Rattle.beam_machine.specs.Debug.{Debugged, DebugAnswer, DebugNext, is_among, is_live_process, replies, pruned, of_node, debug_next}
 use Rattle.beam_machine.specs.Next.{Next, made_process, refused, replied, delivered, is_nothing, next_deliver}
 use Rattle.beam_machine.specs.Process.{Process, is_ended, is_running}
 use Rattle.beam_machine.specs.View.{View}
@@ -65,11 +65,11 @@ module _ (d : Debugged) (pid : ℕ) (p : Process) (there : live_process d.node.p
   -- ---- the process is out
 
   it_is : (o : Origin) (q : Process) (b : Bool) → is_ended q.status ≡ b → o.pid ≡ pid → o.process ≡ q → o.passes ≡ is_among pid d.passing → is_among pid d.held ≡ false
-      → process_of (settled (record d { node = made_process d.node pid q })).node.processes pid ≡ Some q
-      → (is_ended q.status ≡ true) ⊎ IsAsItWas (settled (record d { node = made_process d.node pid q })) o q
+      → process_of (pruned (record d { node = made_process d.node pid q })).node.processes pid ≡ Some q
+      → (is_ended q.status ≡ true) ⊎ IsAsItWas (pruned (record d { node = made_process d.node pid q })) o q
   it_is o q true e own same passes free at = inl e
   it_is o q false e own same passes free at =
-      let x : Debugged = settled (record d { node = made_process d.node pid q }) in
+      let x : Debugged = pruned (record d { node = made_process d.node pid q }) in
       let live : is_live_process x.node pid ≡ true = ap (λ p. is_some (alive p)) at ∙ ap is_some (alive_of q e) in
       let keeps : (ns : List ℕ) → is_among pid (filter (is_live_process x.node) ns) ≡ is_among pid ns = λ ns. still_among pid (is_live_process x.node) ns live in
       inr (
@@ -79,7 +79,7 @@ module _ (d : Debugged) (pid : ℕ) (p : Process) (there : live_process d.node.p
       )
 
   arrived_out : (o : Origin) (q : Process) → o.pid ≡ pid → o.process ≡ q → o.passes ≡ is_among pid d.passing → is_among pid d.held ≡ false
-      → IsOut (settled (record d { node = made_process d.node pid q })) o
+      → IsOut (pruned (record d { node = made_process d.node pid q })) o
   arrived_out o q own same passes free =
       let put = put_here d.node.processes pid p q (alive_is (process_of d.node.processes pid) p there).0 in
       let at = hearing_here pid q.status (with_process d.node.processes pid q) q put refl in
@@ -88,7 +88,7 @@ module _ (d : Debugged) (pid : ℕ) (p : Process) (there : live_process d.node.p
   out_by : (o : Origin) (b : Bool) → has_any p.transit ≡ b → o.pid ≡ pid → o.process ≡ all_arrived p b → o.passes ≡ is_among pid d.passing → is_among pid d.held ≡ false
       → IsOut (delivered_if d pid b) o
   out_by o true some own same passes free =
-      let is : settled (record d { node = arrived_in }) ≡ (debug_next d (NodeEvent (Deliver pid))).state = sym (ap (λ (n : DebugNext). n.state) (next_is some)) in
+      let is : pruned (record d { node = arrived_in }) ≡ (debug_next d (NodeEvent (Deliver pid))).state = sym (ap (λ (n : DebugNext). n.state) (next_is some)) in
       subst (λ x. IsOut x o) is (arrived_out o (delivered (record p { transit = [] }) p.transit) own same passes free)
   out_by o false none own same passes free =
       comes_out d o

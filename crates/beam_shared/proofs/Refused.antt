@@ -9,7 +9,7 @@ use Rattle.beam_machine.specs.declared.event.Refused.TheVariants.{NoMemory, NoPr
 use Rattle.beam_model.specs.Listing.{Listing}
 use Rattle.beam_model.specs.Place.{Place}
 use Rattle.beam_machine.specs.Debug.{Debugged, DebugNext, Halting, halting, halted, debug_steps, stepped, debug_step_one, debug_resume, debug_set, debug_clear, debug_inspect, place_named, refuses, replies, answered, is_among, debug_next}
-use Rattle.beam_machine.specs.DebugRun.{debug_cut, DebugAnswers}
+use Rattle.beam_machine.specs.DebugRun.{debug_cut_event, DebugAnswers}
 use Rattle.beam_machine.specs.Next.{Answer, Rows, next, steps}
 use Rattle.beam_machine.specs.Process.{Process, is_waiting}
 use Rattle.beam_machine.specs.State.{State, process_of, live_process}
@@ -83,12 +83,12 @@ of_event d (Inspect pid) = of_inspect d pid (process_of d.node.processes pid)
 
 -- ---- where memory may be refused
 
-uncut : (e : DebugEvent Listing) (r : Refused) → debug_cut e (Err r) ≡ e
+uncut : (e : DebugEvent Listing) (r : Refused) → debug_cut_event e (Err r) ≡ e
 uncut (NodeEvent (event.Steps pid n)) r = refl
 uncut e r = refl
 
 -- a refusal is the one that the definition gives for the event
-its_own : (d new : Debugged) (e : DebugEvent Listing) (r : Refused) → debug_next d (debug_cut e (Err r)) ≡ record { answer = Err r; state = new }
+its_own : (d new : Debugged) (e : DebugEvent Listing) (r : Refused) → debug_next d (debug_cut_event e (Err r)) ≡ record { answer = Err r; state = new }
     → ((debug_next d e).answer ≡ Err r) × (new ≡ d)
 its_own d new e r h =
     let is : debug_next d e ≡ record { answer = Err r; state = new } = ap (debug_next d) (sym (uncut e r)) ∙ h in

@@ -5,7 +5,7 @@ use Rattle.std.specs.Prelude.{is_some, min, option_map, slice_get}
 use Rattle.std.specs.List.{list_any}
 use Rattle.beam_machine.specs.declared.debug.DebugReply.{DebugReply}
 use Rattle.beam_machine.specs.Debug.{Debugged, DebugNext, debug_next}
-use Rattle.beam_machine.specs.DebugRun.{debug_after, debug_cut, DebugAnswers}
+use Rattle.beam_machine.specs.DebugRun.{debug_after, debug_cut_event, DebugAnswers}
 use Rattle.beam_machine.specs.Journal.{replay}
 use Rattle.beam_machine.specs.Private.{Private}
 use Rattle.beam_machine.specs.View.{View}
@@ -184,7 +184,7 @@ taken d x j known later out pid same is =
     ∙ ap (λ outs. record (node_of d j known out) { out = outs }) (mapped pid out))
 
 pub advanced_is : (d x : Debugged) (j k : Journal) (known later : Known) (out : List OutEntry) (pid : ℕ) (rows : Private) (reply : DebugReply View)
-    → debug_next d (event_of pid rows) ≡ record { answer = Ok reply; state = x } → debug_cut (event_of pid rows) (Ok reply) ≡ event_of pid rows
+    → debug_next d (event_of pid rows) ≡ record { answer = Ok reply; state = x } → debug_cut_event (event_of pid rows) (Ok reply) ≡ event_of pid rows
     → k.entries ≡ j.entries ++ entry_by (event_of pid rows) None reply ∷ [] → k.limit ≡ j.limit
     → later ≡ record known { journal = known.journal ++ entry_by (event_of pid rows) None reply ∷ [] }
     → node_of x k later (without_entry pid out) ≡ advanced (node_of d j known out) pid rows reply

@@ -6,7 +6,7 @@ use Rattle.beam_machine.specs.declared.event.Refused.TheVariants.{NoMemory, NoPr
 use Rattle.beam_model.specs.Listing.{Listing}
 use Rattle.beam_machine.specs.Debug.{Debugged, debug_next, is_among}
 use Rattle.beam_machine.specs.Process.{Process, is_running}
-use Rattle.beam_machine.specs.Refusal.{number_of as number_of_refused}
+use Rattle.beam_machine.specs.Refusal.{number_of_refusal as number_of_refused}
 use Rattle.beam_machine.specs.State.{live_process}
 use Rattle.beam_laws.specs.Out.{is_busy}
 use Rattle.beam_shared.specs.declared.refusal.Refusal.{Refusal}

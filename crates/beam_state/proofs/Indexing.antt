@@ -13,7 +13,7 @@ use Rattle.std.specs.declared.alloc.AllocError.{AllocError}
 use Rattle.beam_machine.specs.declared.event.Reply.TheVariants.{Changed}
 use Rattle.beam_machine.specs.declared.event.Refused.TheVariants.{NoMemory, Sticky, TooMany}
 use Rattle.beam_machine.specs.Change.{lingers_in_old, lingers_in_olds, pids_of, ends_or_hears, killing}
-use Rattle.beam_machine.specs.Next.{Answer, refused, replied, end_old, load_new, has_room, next_load, next_purge, next}
+use Rattle.beam_machine.specs.Next.{Answer, refused, replied, end_old, load_new, has_instances_left, next_load, next_purge, next}
 use Rattle.beam_machine.specs.Process.{Process, ended, killed}
 use Rattle.beam_machine.specs.Run.{Answers, cut_event}
 use Rattle.beam_model.specs.Listing.{Listing}
@@ -169,9 +169,9 @@ killing_keeps test ps = λ i q e. at i q (slice_get ps i) refl (sym (slice_get-m
     at i q (Some p) there e = (p, (there, subst (GoesOnFrom p) (is_there (f p) q e) (ending_keeps test (pids_of test ps) p)))
 
 load_keeps : (s : State) (l : Listing) → KeepNames s.processes (next_load s l).state.processes
-load_keeps s l = elim (is_erlang l.name) as (λ b. KeepNames s.processes (cond b (refused s Sticky) (cond (has_room s) (load_new (end_old s l.name) l) (refused s TooMany))).state.processes) [
+load_keeps s l = elim (is_erlang l.name) as (λ b. KeepNames s.processes (cond b (refused s Sticky) (cond (has_instances_left s) (load_new (end_old s l.name) l) (refused s TooMany))).state.processes) [
   | true ↦ unchanged s.processes
-  | false ↦ elim (has_room s) as (λ b. KeepNames s.processes (cond b (load_new (end_old s l.name) l) (refused s TooMany)).state.processes) [
+  | false ↦ elim (has_instances_left s) as (λ b. KeepNames s.processes (cond b (load_new (end_old s l.name) l) (refused s TooMany)).state.processes) [
     | true ↦ killing_keeps (lingers_in_old s.code l.name) s.processes
     | false ↦ unchanged s.processes
   ]

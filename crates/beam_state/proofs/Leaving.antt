@@ -15,7 +15,7 @@ use Rattle.beam_model.specs.Native.{truth, elements_in}
 use Rattle.beam_machine.specs.Process.{Process, is_ended, started, own_pid, own_reference}
 use Rattle.beam_machine.specs.Row.{own_number, arguments_from}
 use Rattle.beam_machine.specs.State.{process_of, with_process, alive, live_process, registered, posted_to, posted}
-use Rattle.beam_machine.specs.NodeNative.{Answered, answer, fault, most_processes, spawns_with, is_free, names, registers, unnames, unregisters, is_alive, signalled, sends_named, most_references, makes_reference, or_noproc, watching, monitored, monitors_by, answer_of}
+use Rattle.beam_machine.specs.NodeNative.{Answered, answer, fault, most_processes, spawns_with, is_free, names, registers, unnames, unregisters, is_alive, posted_if_own, sends_named, most_references, makes_reference, or_noproc, put_monitor, monitored, monitors_by, answer_of}
 use Rattle.beam_model.specs.SameText.{same_text}
 use Rattle.beam_state.specs.Gives.{is_make_ref}
 
@@ -86,7 +86,7 @@ posted_to_stay ps pid signal (Some p) e =
 pub posted_stay : (ps : List Process) (pid : ℕ) (signal : Signal) → Stay ps (posted ps pid signal)
 posted_stay ps pid signal = posted_to_stay ps pid signal (live_process ps pid) refl
 
-signalled_stay : (ps : List Process) (o : Option ℕ) (signal : Signal) → Stay ps (signalled ps o signal)
+signalled_stay : (ps : List Process) (o : Option ℕ) (signal : Signal) → Stay ps (posted_if_own ps o signal)
 signalled_stay ps None signal = λ at k h. h
 signalled_stay ps (Some pid) signal = posted_stay ps pid signal
 
@@ -134,7 +134,7 @@ sends_leave : (ps : List Process) (o : Option ℕ) (message : TermValue) → Lea
 sends_leave ps None message = (refl, refl)
 sends_leave ps (Some pid) message = posted_stay ps pid (Message message)
 
-watching_stay : (ps : List Process) (caller n : ℕ) (watched : TermValue) (o : Option Process) → live_process ps caller ≡ o → Stay ps (watching ps caller n watched o)
+watching_stay : (ps : List Process) (caller n : ℕ) (watched : TermValue) (o : Option Process) → live_process ps caller ≡ o → Stay ps (put_monitor ps caller n watched o)
 watching_stay ps caller n watched None e = λ at k h. h
 watching_stay ps caller n watched (Some p) e =
     λ at k h. set_keeps ps (caller - 1) at p (record p { monitors = p.monitors ++ record { reference = n; pid = watched } ∷ [] }) (live_at ps caller p e) refl ∙ h

@@ -8,7 +8,7 @@ use Rattle.beam_model.specs.declared.exception.Fault.{Fault}
 use Rattle.beam_machine.specs.declared.process.Monitor.{Monitor}
 use Rattle.beam_machine.specs.declared.process.Signal.{Signal}
 use Rattle.beam_machine.specs.declared.process.Signal.TheVariants.{Down}
-use Rattle.beam_machine.specs.NodeNative.{Answered, is_alive, watching, keeping, monitored}
+use Rattle.beam_machine.specs.NodeNative.{Answered, is_alive, put_monitor, with_new_monitor, monitored}
 use Rattle.beam_machine.specs.Process.{Process, is_ended}
 use Rattle.beam_machine.specs.Row.{own_number}
 use Rattle.beam_machine.specs.State.{process_of, with_process, alive, live_process, posted_to, posted}
@@ -34,10 +34,10 @@ are_below references ps pid p h e = below 0 references p.monitors (subst (RisesI
 abbrev pub noproc_of : List Process → Option ℕ → ℕ → Option Signal
 noproc_of ps o n = cond (is_alive ps o) None (Some (Down n (atom_term (codes "noproc"))))
 
-none_watch : (ps : List Process) (caller n : ℕ) (pid : TermValue) (signal : Signal) → live_process ps caller ≡ None → (b : Bool) → keeping (cond b ps (posted ps caller signal)) caller n pid ≡ ps
-none_watch ps caller n pid signal e true = ap (watching ps caller n pid) e
+none_watch : (ps : List Process) (caller n : ℕ) (pid : TermValue) (signal : Signal) → live_process ps caller ≡ None → (b : Bool) → with_new_monitor (cond b ps (posted ps caller signal)) caller n pid ≡ ps
+none_watch ps caller n pid signal e true = ap (put_monitor ps caller n pid) e
 none_watch ps caller n pid signal e false =
-    ap (λ o. keeping (posted_to ps caller signal o) caller n pid) e ∙ ap (watching ps caller n pid) e
+    ap (λ o. with_new_monitor (posted_to ps caller signal o) caller n pid) e ∙ ap (put_monitor ps caller n pid) e
 
 -- a caller that doesn't live gets no monitor
 pub not_monitored : (ps : List Process) (caller : ℕ) (pid : TermValue) (n : ℕ) → live_process ps caller ≡ None → monitored ps caller pid n ≡ ps
@@ -59,11 +59,11 @@ monitored_is ps caller pid n p e = by (is_alive ps (own_number pid))
     there : live_process (with_process ps caller more) caller ≡ Some more
     there = ap alive (put_here ps caller p more is.0) ∙ alive_of more is.1
 
-    by : (b : Bool) → keeping (cond b ps (posted ps caller signal)) caller n pid ≡ with_process ps caller (watched p n pid (cond b None (Some signal)))
-    by true = ap (watching ps caller n pid) e
+    by : (b : Bool) → with_new_monitor (cond b ps (posted ps caller signal)) caller n pid ≡ with_process ps caller (watched p n pid (cond b None (Some signal)))
+    by true = ap (put_monitor ps caller n pid) e
     by false =
-        ap (λ o. keeping (posted_to ps caller signal o) caller n pid) e
-        ∙ (ap (watching (with_process ps caller more) caller n pid) there
+        ap (λ o. with_new_monitor (posted_to ps caller signal o) caller n pid) e
+        ∙ (ap (put_monitor (with_process ps caller more) caller n pid) there
         ∙ put_put ps caller more (record more { monitors = p.monitors ++ record { reference = n; pid = pid } ∷ [] }))
 
 -- a native that makes no reference

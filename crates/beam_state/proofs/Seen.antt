@@ -13,7 +13,7 @@ use Rattle.beam_model.specs.SameText.{same_text}
 use Rattle.beam_machine.specs.Process.{Process, is_ended, started, own_pid, own_reference}
 use Rattle.beam_machine.specs.Row.{own_number}
 use Rattle.beam_machine.specs.State.{process_of, with_process, alive, live_process, registered, has_name, posted_to, posted}
-use Rattle.beam_machine.specs.NodeNative.{Answered, answer, fault, most_processes, spawns_with, is_free, names, registers, unnames, unregisters, pid_or_undefined, is_alive, signalled, sends_named, most_references, makes_reference, or_noproc, watching, monitored, monitors_by, answer_of}
+use Rattle.beam_machine.specs.NodeNative.{Answered, answer, fault, most_processes, spawns_with, is_free, names, registers, unnames, unregisters, pid_or_undefined, is_alive, posted_if_own, sends_named, most_references, makes_reference, or_noproc, put_monitor, monitored, monitors_by, answer_of}
 use Rattle.beam_state.specs.Gives.{does_send}
 
 -- to each process, by its index, a function is applied
@@ -120,7 +120,7 @@ module _ (f : ℕ → Process → Process) (u : Unseen f) where
     same_posted ps signal = ap (posted_to (each f ps) to signal) (same_live ps to) ∙ same_posted_to ps signal (live_process ps to)
 
   module _ (posts : (i : ℕ) → Posts f i) where
-    same_signalled : (ps : List Process) (o : Option ℕ) (signal : Signal) → signalled (each f ps) o signal ≡ each f (signalled ps o signal)
+    same_signalled : (ps : List Process) (o : Option ℕ) (signal : Signal) → posted_if_own (each f ps) o signal ≡ each f (posted_if_own ps o signal)
     same_signalled ps None signal = refl
     same_signalled ps (Some pid) signal = same_posted pid (posts (pid - 1)) ps signal
 
@@ -193,7 +193,7 @@ module _ (f : ℕ → Process → Process) (u : Unseen f) where
           | false ↦ same_posted caller posts ps signal
         ]
 
-    same_watching : (ps : List Process) (n : ℕ) (pid : TermValue) (o : Option Process) → watching (each f ps) caller n pid (option_map (f (caller - 1)) o) ≡ each f (watching ps caller n pid o)
+    same_watching : (ps : List Process) (n : ℕ) (pid : TermValue) (o : Option Process) → put_monitor (each f ps) caller n pid (option_map (f (caller - 1)) o) ≡ each f (put_monitor ps caller n pid o)
     same_watching ps n pid None = refl
     same_watching ps n pid (Some p) =
         let m : MonitorValue = record { reference = n; pid = pid } in
@@ -202,8 +202,8 @@ module _ (f : ℕ → Process → Process) (u : Unseen f) where
     same_monitored : (ps : List Process) (pid : TermValue) (n : ℕ) → monitored (each f ps) caller pid n ≡ each f (monitored ps caller pid n)
     same_monitored ps pid n =
         let qs : List Process = or_noproc ps caller n pid in
-        ap (λ rs. watching rs caller n pid (live_process rs caller)) (same_noproc ps n pid)
-        ∙ (ap (watching (each f qs) caller n pid) (same_live qs caller) ∙ same_watching qs n pid (live_process qs caller))
+        ap (λ rs. put_monitor rs caller n pid (live_process rs caller)) (same_noproc ps n pid)
+        ∙ (ap (put_monitor (each f qs) caller n pid) (same_live qs caller) ∙ same_watching qs n pid (live_process qs caller))
 
     same_monitors : (references : ℕ) (ps : List Process) (kind : List ℕ) (pid : TermValue) → monitors_by references (each f ps) caller kind pid ≡ moved f (monitors_by references ps caller kind pid)
     same_monitors references ps kind pid =

@@ -13,9 +13,9 @@ use Rattle.beam_machine.specs.declared.process.Status.{Status}
 use Rattle.beam_machine.specs.declared.process.Status.TheVariants.{Ended}
 use Rattle.beam_machine.specs.NodeNative.{answer_of}
 use Rattle.beam_machine.specs.Process.{Process, is_ended, started}
-use Rattle.beam_machine.specs.State.{process_of, with_process, with_signals, watches, downs, hearing_by, with_made}
+use Rattle.beam_machine.specs.State.{process_of, with_process, with_signals, monitors_process, downs, hearing_by, with_made}
 use Rattle.beam_laws.specs.Private.{posted_all}
-use Rattle.beam_machine.specs.Quiet.{is_watched}
+use Rattle.beam_machine.specs.Quiet.{is_monitored}
 use Rattle.beam_laws.specs.Monitors.{Rise, AreRising}
 use Rattle.beam_laws.specs.Signals.{each_sent}
 use Rattle.beam_laws.proofs.Hearing.{none_more, as_before, hears, hearing_is, own_hears, either_false}
@@ -174,10 +174,10 @@ notices_more ps j pid reason p l g o =
     ∙ ap (λ k. notices_of (take j ps) pid reason ++ map (λ signal. record { to = k; signal = signal }) (heard_of pid reason p)) number)
 
 -- where no process watches a pid, none of them does
-pub none_watches : (ps : List Process) (j pid : ℕ) (p : Process) → slice_get ps j ≡ Some p → is_watched ps pid ≡ false → list_any (watches pid) p.monitors ≡ false
+pub none_watches : (ps : List Process) (j pid : ℕ) (p : Process) → slice_get ps j ≡ Some p → is_monitored ps pid ≡ false → list_any (monitors_process pid) p.monitors ≡ false
 none_watches [] j pid p e w = cc
-none_watches (q ∷ ps) zero pid p e w = ap (λ r. list_any (watches pid) r.monitors) (sym (is_there q p e)) ∙ (either_false (list_any (watches pid) q.monitors) (is_watched ps pid) w).0
-none_watches (q ∷ ps) (suc j) pid p e w = none_watches ps j pid p e (either_false (list_any (watches pid) q.monitors) (is_watched ps pid) w).1
+none_watches (q ∷ ps) zero pid p e w = ap (λ r. list_any (monitors_process pid) r.monitors) (sym (is_there q p e)) ∙ (either_false (list_any (monitors_process pid) q.monitors) (is_monitored ps pid) w).0
+none_watches (q ∷ ps) (suc j) pid p e w = none_watches ps j pid p e (either_false (list_any (monitors_process pid) q.monitors) (is_monitored ps pid) w).1
 
 -- ---- natives over processes that have heard of an end
 

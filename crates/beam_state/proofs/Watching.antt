@@ -15,15 +15,15 @@ use Rattle.beam_machine.specs.declared.process.Status.{Status}
 use Rattle.beam_machine.specs.declared.process.Status.TheVariants.{Running, Waiting, Ended}
 use Rattle.beam_machine.specs.Private.{Sent}
 use Rattle.beam_machine.specs.Process.{Process, is_ended, monitor_of}
-use Rattle.beam_machine.specs.Quiet.{is_watched}
+use Rattle.beam_machine.specs.Quiet.{is_monitored}
 use Rattle.beam_machine.specs.Row.{own_number}
-use Rattle.beam_machine.specs.State.{alive, process_of, live_process, watches, downs}
+use Rattle.beam_machine.specs.State.{alive, process_of, live_process, monitors_process, downs}
 use Rattle.beam_laws.specs.Monitors.{ArePart, Rise, AreRising}
 use Rattle.beam_laws.specs.Orderly.{Ends, Orderly}
 use Rattle.beam_laws.specs.Signals.{each_sent}
 use Rattle.beam_laws.proofs.Ending.{alive_is, at_index}
 use Rattle.beam_laws.proofs.Numbered.{alive_of}
-use Rattle.beam_model.specs.Listing.{is_number}
+use Rattle.beam_model.specs.Listing.{is_this_number}
 use Rattle.beam_state.specs.Posting.{AreLawful, notices_of}
 use Rattle.beam_state.specs.Watching.{watch_key, watched_in, receiver_in, reference_in, has_key, is_key_of, is_watched_by, WatchNoMore, IsKeyed, AreKeyed, AreWatched, names_number, watches_under, counts, is_told, down_of, AreWatchedIf, TellAll}
 use Rattle.beam_state.proofs.Keys.{receiver_is, reference_is, watched_is, key_is, of_watched, itself, same, either, both, first_of, second_of, alike, in_filter, from_filter, Asc, lower, asc_more, filter_asc, sorted_asc, ext}
@@ -41,43 +41,43 @@ abbrev base : ℕ → ℕ → ℕ
 base w at = (w * 4294967296 + at) * 4294967296
 
 abbrev keys_in : ℕ → ℕ → List Monitor → List ℕ
-keys_in w at ms = map (λ m. base w at + m.reference) (filter (watches w) ms)
+keys_in w at ms = map (λ m. base w at + m.reference) (filter (monitors_process w) ms)
 
 abbrev IsNamed : ℕ → ℕ → List Monitor → Type 0
 IsNamed w n ms = names_number w (option_map (λ m. m.pid) (monitor_of n ms)) ≡ true
 
 -- a key is among those of the monitors, with the first one or without it
 abbrev HasIf : ℕ → ℕ → ℕ → Monitor → List Monitor → Bool → Type 0
-HasIf w at n m ms b = has_key (map (λ m. base w at + m.reference) (cond b (m ∷ filter (watches w) ms) (filter (watches w) ms))) (base w at + n) ≡ true
+HasIf w at n m ms b = has_key (map (λ m. base w at + m.reference) (cond b (m ∷ filter (monitors_process w) ms) (filter (monitors_process w) ms))) (base w at + n) ≡ true
 
 named_keyed : (w at n : ℕ) (ms : List Monitor) → IsNamed w n ms → has_key (keys_in w at ms) (base w at + n) ≡ true
 named_keyed w at n [] h = cc
 named_keyed w at n (m ∷ ms) h = by (λ e. named_keyed w at n ms e) (m.reference == n) refl h
   where
     by : (IsNamed w n ms → has_key (keys_in w at ms) (base w at + n) ≡ true) → (b : Bool) → (m.reference == n) ≡ b
-        → names_number w (option_map (λ m. m.pid) (cond b (Some m) (monitor_of n ms))) ≡ true → HasIf w at n m ms (watches w m)
+        → names_number w (option_map (λ m. m.pid) (cond b (Some m) (monitor_of n ms))) ≡ true → HasIf w at n m ms (monitors_process w m)
     by rest true is h =
         let here : (base w at + n == base w at + m.reference) ≡ true = subst (λ k. (base w at + k == base w at + m.reference) ≡ true) (same m.reference n is) (itself (base w at + m.reference)) in
         subst (HasIf w at n m ms) (sym h) (first_of (base w at + n == base w at + m.reference) (has_key (keys_in w at ms) (base w at + n)) here)
     by rest false is h =
-        elim (watches w m) as (λ b. HasIf w at n m ms b) [ true ↦ second_of (base w at + n == base w at + m.reference) (has_key (keys_in w at ms) (base w at + n)) (rest h) | false ↦ rest h ]
+        elim (monitors_process w m) as (λ b. HasIf w at n m ms b) [ true ↦ second_of (base w at + n == base w at + m.reference) (has_key (keys_in w at ms) (base w at + n)) (rest h) | false ↦ rest h ]
 
 abbrev Watching : ℕ → ℕ → ℕ → List Monitor → Type 0
 Watching w at k ms = (n : ℕ) × ((k ≡ base w at + n) × (is_watched_by w n ms ≡ true))
 
 keyed_watched : (w at k : ℕ) (ms : List Monitor) → has_key (keys_in w at ms) k ≡ true → Watching w at k ms
 keyed_watched w at k [] h = cc
-keyed_watched w at k (m ∷ ms) h = by (λ e. keyed_watched w at k ms e) (watches w m) refl h
+keyed_watched w at k (m ∷ ms) h = by (λ e. keyed_watched w at k ms e) (monitors_process w m) refl h
   where
     later : Watching w at k ms → Watching w at k (m ∷ ms)
-    later r = (r.0, (r.1.0, second_of ((m.reference == r.0) && watches w m) (is_watched_by w r.0 ms) r.1.1))
+    later r = (r.0, (r.1.0, second_of ((m.reference == r.0) && monitors_process w m) (is_watched_by w r.0 ms) r.1.1))
 
-    by : (has_key (keys_in w at ms) k ≡ true → Watching w at k ms) → (b : Bool) → watches w m ≡ b
-        → has_key (map (λ m. base w at + m.reference) (cond b (m ∷ filter (watches w) ms) (filter (watches w) ms))) k ≡ true → Watching w at k (m ∷ ms)
+    by : (has_key (keys_in w at ms) k ≡ true → Watching w at k ms) → (b : Bool) → monitors_process w m ≡ b
+        → has_key (map (λ m. base w at + m.reference) (cond b (m ∷ filter (monitors_process w) ms) (filter (monitors_process w) ms))) k ≡ true → Watching w at k (m ∷ ms)
     by rest false is h = later (rest h)
     by rest true is h =
         either (k == base w at + m.reference) (has_key (keys_in w at ms) k) h
-        (λ e. (m.reference, (same k (base w at + m.reference) e, first_of ((m.reference == m.reference) && watches w m) (is_watched_by w m.reference ms) (all_of (m.reference == m.reference) (watches w m) (itself m.reference) is))))
+        (λ e. (m.reference, (same k (base w at + m.reference) e, first_of ((m.reference == m.reference) && monitors_process w m) (is_watched_by w m.reference ms) (all_of (m.reference == m.reference) (monitors_process w m) (itself m.reference) is))))
         (λ e. later (rest e))
 
 -- references that rise are apart
@@ -85,12 +85,12 @@ risen_named : (w n above count : ℕ) (ms : List Monitor) → Rise above count m
 risen_named w n above count [] r h = cc
 risen_named w n above count (m ∷ ms) r h = by (λ e. risen_named w n m.reference count ms r.1.1 e) (m.reference == n) refl h
   where
-    by : (is_watched_by w n ms ≡ true → IsNamed w n ms × ((m.reference < n) × (n ≤ count))) → (b : Bool) → (m.reference == n) ≡ b → ((b && watches w m) || is_watched_by w n ms) ≡ true
+    by : (is_watched_by w n ms ≡ true → IsNamed w n ms × ((m.reference < n) × (n ≤ count))) → (b : Bool) → (m.reference == n) ≡ b → ((b && monitors_process w m) || is_watched_by w n ms) ≡ true
         → (names_number w (option_map (λ m. m.pid) (cond b (Some m) (monitor_of n ms))) ≡ true) × ((above < n) × (n ≤ count))
     by rest false is h = let a = rest h in (a.0, (omega (arith, r.0, a.1.0), a.1.1))
     by rest true is h =
         let one : m.reference ≡ n = same m.reference n is in
-        either (watches w m) (is_watched_by w n ms) h
+        either (monitors_process w m) (is_watched_by w n ms) h
         (λ e. (e, (omega (arith, r.0, one), omega (arith, r.1.0, one))))
         (λ e. let a = rest e in absurd (omega (arith, a.1.0, one)))
 
@@ -121,14 +121,14 @@ sent_one : (reason : TermValue) (w at above count : ℕ) (keys : List ℕ) (ms :
     → map (down_of reason) (keys_in w at ms) ≡ map (λ signal. record { to = at; signal = signal }) (downs w reason ms)
 sent_one reason w at above count keys [] few r h = refl
 sent_one reason w at above count keys (m ∷ ms) few r h =
-    by (sent_one reason w at m.reference count keys ms few r.1.1 (λ v n e. h v n (second_of ((m.reference == n) && watches v m) (is_watched_by v n ms) e))) (watches w m) refl
+    by (sent_one reason w at m.reference count keys ms few r.1.1 (λ v n e. h v n (second_of ((m.reference == n) && monitors_process v m) (is_watched_by v n ms) e))) (monitors_process w m) refl
   where
-    by : map (down_of reason) (keys_in w at ms) ≡ map (λ signal. record { to = at; signal = signal }) (downs w reason ms) → (b : Bool) → watches w m ≡ b
-        → map (down_of reason) (map (λ m. base w at + m.reference) (cond b (m ∷ filter (watches w) ms) (filter (watches w) ms)))
-        ≡ map (λ signal. record { to = at; signal = signal }) (map (λ m. Down m.reference reason) (cond b (m ∷ filter (watches w) ms) (filter (watches w) ms)))
+    by : map (down_of reason) (keys_in w at ms) ≡ map (λ signal. record { to = at; signal = signal }) (downs w reason ms) → (b : Bool) → monitors_process w m ≡ b
+        → map (down_of reason) (map (λ m. base w at + m.reference) (cond b (m ∷ filter (monitors_process w) ms) (filter (monitors_process w) ms)))
+        ≡ map (λ signal. record { to = at; signal = signal }) (map (λ m. Down m.reference reason) (cond b (m ∷ filter (monitors_process w) ms) (filter (monitors_process w) ms)))
     by rest false is = rest
     by rest true is =
-        let keyed = h w m.reference (first_of ((m.reference == m.reference) && watches w m) (is_watched_by w m.reference ms) (all_of (m.reference == m.reference) (watches w m) (itself m.reference) is)) in
+        let keyed = h w m.reference (first_of ((m.reference == m.reference) && monitors_process w m) (is_watched_by w m.reference ms) (all_of (m.reference == m.reference) (monitors_process w m) (itself m.reference) is)) in
         let fits : m.reference < 4294967296 = omega (arith, r.1.0, few) in
         ap (λ s. s ∷ map (down_of reason) (keys_in w at ms)) (down_at reason w at m.reference keyed.1.0 fits) ∙ ap (λ l. record { to = at; signal = Down m.reference reason } ∷ l) rest
 
@@ -155,10 +155,10 @@ asc_one w at above count (m ∷ ms) less few r =
     by le (asc_one w at m.reference count ms fits few r.1.1)
   where
     by : (base w at + above) + 1 ≤ base w at + m.reference → Asc ((base w at + m.reference) + 1) (base w at + 4294967296) (keys_in w at ms)
-        → Asc ((base w at + above) + 1) (base w at + 4294967296) (map (λ m. base w at + m.reference) (cond (watches w m) (m ∷ filter (watches w) ms) (filter (watches w) ms)))
+        → Asc ((base w at + above) + 1) (base w at + 4294967296) (map (λ m. base w at + m.reference) (cond (monitors_process w m) (m ∷ filter (monitors_process w) ms) (filter (monitors_process w) ms)))
     by le rest =
         let more : (base w at + above) + 1 ≤ (base w at + m.reference) + 1 = omega (arith, le) in
-        elim (watches w m) as (λ b. Asc ((base w at + above) + 1) (base w at + 4294967296) (map (λ m. base w at + m.reference) (cond b (m ∷ filter (watches w) ms) (filter (watches w) ms)))) [
+        elim (monitors_process w m) as (λ b. Asc ((base w at + above) + 1) (base w at + 4294967296) (map (λ m. base w at + m.reference) (cond b (m ∷ filter (monitors_process w) ms) (filter (monitors_process w) ms)))) [
           | true ↦ (le, rest)
           | false ↦ lower ((base w at + m.reference) + 1) ((base w at + above) + 1) (base w at + 4294967296) (keys_in w at ms) more rest
         ]
@@ -317,29 +317,29 @@ module _ (keys : List ℕ) (ps : List Process) (count : ℕ) (have : AreWatched 
 
 -- ---- a process that isn't watched
 
-named_watches : (w n : ℕ) (ms : List Monitor) → IsNamed w n ms → list_any (watches w) ms ≡ true
+named_watches : (w n : ℕ) (ms : List Monitor) → IsNamed w n ms → list_any (monitors_process w) ms ≡ true
 named_watches w n [] h = cc
 named_watches w n (m ∷ ms) h = by (λ e. named_watches w n ms e) (m.reference == n) h
   where
-    by : (IsNamed w n ms → list_any (watches w) ms ≡ true) → (b : Bool) → names_number w (option_map (λ m. m.pid) (cond b (Some m) (monitor_of n ms))) ≡ true → (watches w m || list_any (watches w) ms) ≡ true
-    by rest true e = first_of (watches w m) (list_any (watches w) ms) e
-    by rest false e = second_of (watches w m) (list_any (watches w) ms) (rest e)
+    by : (IsNamed w n ms → list_any (monitors_process w) ms ≡ true) → (b : Bool) → names_number w (option_map (λ m. m.pid) (cond b (Some m) (monitor_of n ms))) ≡ true → (monitors_process w m || list_any (monitors_process w) ms) ≡ true
+    by rest true e = first_of (monitors_process w m) (list_any (monitors_process w) ms) e
+    by rest false e = second_of (monitors_process w m) (list_any (monitors_process w) ms) (rest e)
 
-there_watched : (w i : ℕ) (q : Process) (ps : List Process) → slice_get ps i ≡ Some q → list_any (watches w) q.monitors ≡ true → is_watched ps w ≡ true
+there_watched : (w i : ℕ) (q : Process) (ps : List Process) → slice_get ps i ≡ Some q → list_any (monitors_process w) q.monitors ≡ true → is_monitored ps w ≡ true
 there_watched w i q [] e h = cc
-there_watched w zero q (p ∷ ps) e h = first_of (list_any (watches w) p.monitors) (is_watched ps w) (subst (λ (p : Process). list_any (watches w) p.monitors ≡ true) (sym (is_there p q e)) h)
-there_watched w (suc i) q (p ∷ ps) e h = second_of (list_any (watches w) p.monitors) (is_watched ps w) (there_watched w i q ps e h)
+there_watched w zero q (p ∷ ps) e h = first_of (list_any (monitors_process w) p.monitors) (is_monitored ps w) (subst (λ (p : Process). list_any (monitors_process w) p.monitors ≡ true) (sym (is_there p q e)) h)
+there_watched w (suc i) q (p ∷ ps) e h = second_of (list_any (monitors_process w) p.monitors) (is_monitored ps w) (there_watched w i q ps e h)
 
-counts_watched : (ps : List Process) (w k : ℕ) → counts ps w k ≡ true → is_watched ps w ≡ true
+counts_watched : (ps : List Process) (w k : ℕ) → counts ps w k ≡ true → is_monitored ps w ≡ true
 counts_watched ps w k h = by (live_process ps (receiver_in k)) refl h
   where
-    by : (p : Option Process) → live_process ps (receiver_in k) ≡ p → watches_under w (reference_in k) p ≡ true → is_watched ps w ≡ true
+    by : (p : Option Process) → live_process ps (receiver_in k) ≡ p → watches_under w (reference_in k) p ≡ true → is_monitored ps w ≡ true
     by None e g = cc
     by (Some q) e g =
         let there = placed ps (receiver_in k) q (alive_is (process_of ps (receiver_in k)) q e).0 in
         there_watched w there.0 q ps there.1.1 (named_watches w (reference_in k) q.monitors g)
 
-pub none_told : (ps : List Process) (w k : ℕ) → is_watched ps w ≡ false → is_told ps w k ≡ false
+pub none_told : (ps : List Process) (w k : ℕ) → is_monitored ps w ≡ false → is_told ps w k ≡ false
 none_told ps w k h = by (is_told ps w k) refl
   where
     by : (b : Bool) → is_told ps w k ≡ b → b ≡ false
@@ -368,12 +368,12 @@ filter_fewer keep [] w n e = e
 filter_fewer keep (m ∷ ms) w n e = by (λ f. filter_fewer keep ms w n f) (keep m) e
   where
     by : (is_watched_by w n (filter keep ms) ≡ true → is_watched_by w n ms ≡ true) → (b : Bool) → is_watched_by w n (cond b (m ∷ filter keep ms) (filter keep ms)) ≡ true
-        → (((m.reference == n) && watches w m) || is_watched_by w n ms) ≡ true
-    by rest false f = second_of ((m.reference == n) && watches w m) (is_watched_by w n ms) (rest f)
+        → (((m.reference == n) && monitors_process w m) || is_watched_by w n ms) ≡ true
+    by rest false f = second_of ((m.reference == n) && monitors_process w m) (is_watched_by w n ms) (rest f)
     by rest true f =
-        either ((m.reference == n) && watches w m) (is_watched_by w n (filter keep ms)) f
-        (λ g. first_of ((m.reference == n) && watches w m) (is_watched_by w n ms) g)
-        (λ g. second_of ((m.reference == n) && watches w m) (is_watched_by w n ms) (rest g))
+        either ((m.reference == n) && monitors_process w m) (is_watched_by w n (filter keep ms)) f
+        (λ g. first_of ((m.reference == n) && monitors_process w m) (is_watched_by w n ms) g)
+        (λ g. second_of ((m.reference == n) && monitors_process w m) (is_watched_by w n ms) (rest g))
 
 pub part_fewer : (ms ns : List Monitor) → ArePart ms ns → WatchNoMore ms ns
 part_fewer ms ns part = subst (WatchNoMore ms) (sym part.1) (filter_fewer part.0 ms)
@@ -383,11 +383,11 @@ pub more_keyed : (keys : List ℕ) (receiver reference : ℕ) (pid : TermValue) 
     → ((watched : ℕ) → own_number pid ≡ Some watched → IsKeyed keys watched receiver reference) → AreKeyed keys receiver (ms ++ record { reference = reference; pid = pid } ∷ [])
 more_keyed keys receiver reference pid ms h new = λ w n e.
     let m : Monitor = record { reference = reference; pid = pid } in
-    either (is_watched_by w n ms) (is_watched_by w n (m ∷ [])) (sym (list_any-append (λ m. (m.reference == n) && watches w m) ms (m ∷ [])) ∙ e)
+    either (is_watched_by w n ms) (is_watched_by w n (m ∷ [])) (sym (list_any-append (λ m. (m.reference == n) && monitors_process w m) ms (m ∷ [])) ∙ e)
     (λ f. h w n f)
-    (λ f. either ((reference == n) && watches w m) false f (λ g. let b = both (reference == n) (watches w m) g in one w n (same reference n b.0) (own_number pid) refl b.1) (λ g. absurd (true≢false (sym g))))
+    (λ f. either ((reference == n) && monitors_process w m) false f (λ g. let b = both (reference == n) (monitors_process w m) g in one w n (same reference n b.0) (own_number pid) refl b.1) (λ g. absurd (true≢false (sym g))))
   where
-    one : (w n : ℕ) → reference ≡ n → (o : Option ℕ) → own_number pid ≡ o → is_number w o ≡ true → IsKeyed keys w receiver n
+    one : (w n : ℕ) → reference ≡ n → (o : Option ℕ) → own_number pid ≡ o → is_this_number w o ≡ true → IsKeyed keys w receiver n
     one w n same None e g = cc
     one w n is (Some v) e g = subst (λ n. IsKeyed keys w receiver n) is (new w (e ∙ ap Some (same v w g)))
 
@@ -456,9 +456,9 @@ pub first_keyed : (keys : List ℕ) (receiver reference : ℕ) (pid : TermValue)
     → AreKeyed keys receiver (record { reference = reference; pid = pid } ∷ ms)
 first_keyed keys receiver reference pid ms new h = λ w n e.
     let m : Monitor = record { reference = reference; pid = pid } in
-    either ((reference == n) && watches w m) (is_watched_by w n ms) e (λ g. let b = both (reference == n) (watches w m) g in one w n (same reference n b.0) (own_number pid) refl b.1) (λ f. h w n f)
+    either ((reference == n) && monitors_process w m) (is_watched_by w n ms) e (λ g. let b = both (reference == n) (monitors_process w m) g in one w n (same reference n b.0) (own_number pid) refl b.1) (λ f. h w n f)
   where
-    one : (w n : ℕ) → reference ≡ n → (o : Option ℕ) → own_number pid ≡ o → is_number w o ≡ true → IsKeyed keys w receiver n
+    one : (w n : ℕ) → reference ≡ n → (o : Option ℕ) → own_number pid ≡ o → is_this_number w o ≡ true → IsKeyed keys w receiver n
     one w n same None e g = cc
     one w n is (Some v) e g = subst (λ n. IsKeyed keys w receiver n) is (new w (e ∙ ap Some (same v w g)))
 

@@ -12,7 +12,7 @@ use Rattle.beam_machine.specs.declared.event.Then.TheVariants.{GoesOn}
 use Rattle.beam_machine.specs.Code.{Code}
 use Rattle.beam_machine.specs.Process.{Process, read_x, put_x, dropped, bared, ended}
 use Rattle.beam_machine.specs.State.{State, process_of, with_process, with_made}
-use Rattle.beam_machine.specs.Row.{Outcome, makes, sends, asks, sleeps, goes_on, settled, after_dropping, answers, arguments_of}
+use Rattle.beam_machine.specs.Row.{Outcome, makes, sends, asks, sleeps, goes_on, waits_for_message, after_dropping, answers, arguments_of}
 use Rattle.beam_machine.specs.NodeNative.{answer_of}
 use Rattle.beam_machine.specs.Next.{done_by, goes_on_with}
 use Rattle.beam_proc.specs.Prepared.{reason_of}
@@ -34,7 +34,7 @@ asking_dropping n native arity p = after_dropping p (dropped n p p.frames) (λ q
 
 -- a wait at a row of the next row's instance, with a deadline n milliseconds from now, after which the next row follows
 abbrev pub sleeping : ℕ → ℕ → Place → Process → Outcome
-sleeping n at next p = sleeps (settled p (record { instance = next.instance; at = at })) n next
+sleeping n at next p = sleeps (waits_for_message p (record { instance = next.instance; at = at })) n next
 
 -- the process ends
 abbrev pub ending : TermValue → TermValue → Process → Outcome

@@ -4,14 +4,14 @@ use Rattle.std.specs.List.{list_any}
 use Rattle.std.specs.declared.ops.Bound.TheVariants.{Included, Excluded}
 use Rattle.std.specs.BTreeMap.Range.{range_contains}
 use Rattle.std.specs.Ordering.{nat_cmp}
-use Rattle.beam_model.specs.Listing.{is_number}
+use Rattle.beam_model.specs.Listing.{is_this_number}
 use Rattle.beam_term.specs.TermValue.{TermValue}
 use Rattle.beam_machine.specs.declared.process.Monitor.{Monitor}
 use Rattle.beam_machine.specs.Process.{Process, monitor_of}
 use Rattle.beam_machine.specs.declared.process.Signal.TheVariants.{Down}
 use Rattle.beam_machine.specs.Private.{Sent}
 use Rattle.beam_machine.specs.Row.{own_number}
-use Rattle.beam_machine.specs.State.{live_process, watches}
+use Rattle.beam_machine.specs.State.{live_process, monitors_process}
 use Rattle.beam_state.specs.Posting.{AreLawful, notices_of}
 
 -- ---- keys
@@ -40,7 +40,7 @@ is_key_of watched key = range_contains nat_cmp (Included (watch_key watched 0 0)
 
 -- whether one of these monitors has that reference and watches the process of that number
 abbrev pub is_watched_by : ℕ → ℕ → List Monitor → Bool
-is_watched_by watched reference ms = list_any (λ m. (m.reference == reference) && watches watched m) ms
+is_watched_by watched reference ms = list_any (λ m. (m.reference == reference) && monitors_process watched m) ms
 
 -- the second monitors are all among the first
 abbrev pub WatchNoMore : List Monitor → List Monitor → Type 0
@@ -65,7 +65,7 @@ AreWatchedIf complete keys ps = complete ≡ true → AreWatched keys ps
 -- ---- the keys that count
 
 abbrev pub names_number : ℕ → Option TermValue → Bool
-names_number number (Some pid) = is_number number (own_number pid)
+names_number number (Some pid) = is_this_number number (own_number pid)
 names_number number None = false
 
 abbrev pub watches_under : ℕ → ℕ → Option Process → Bool

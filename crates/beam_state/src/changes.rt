@@ -2,7 +2,7 @@
 ghost use Rattle.std.specs.Prelude.{◌≡◌, ℕ, true, is_ok, IsErrOf};
 ghost use Rattle.beam_machine.specs.Next.{next};
 ghost use Rattle.beam_machine.specs.Run.{Answers};
-ghost use Rattle.beam_machine.specs.Quiet.{LacksMemory, ends_watched};
+ghost use Rattle.beam_machine.specs.Quiet.{LacksMemory, ends_monitored};
 ghost use Rattle.beam_laws.specs.Numbers.{Ordered};
 ghost use Rattle.beam_laws.specs.Orderly.{Orderly};
 ghost use Rattle.beam_state.specs.Parts.{node, parts};
@@ -87,7 +87,7 @@ fn purge(
     ensures next { (clock n references : ℕ) → Answers (node code.old (parts processes.old clock n references)) (Event.Purge name.now)
         result (node code.new (parts processes.new clock n references)) }
     ensures memory { (clock n references : ℕ) → IsErrOf result Refused.NoMemory
-        → ends_watched (node code.old (parts processes.old clock n references)) name.now ≡ true }
+        → ends_monitored (node code.old (parts processes.old clock n references)) name.now ≡ true }
 {
     let ended = code.purge(alloc, &mut processes.items, name);
     renew_all(&mut processes.agenda, &processes.items);

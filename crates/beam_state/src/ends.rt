@@ -2,8 +2,8 @@
 ghost use Rattle.std.specs.Prelude.{◌≡◌, ◌==◌, ◌+◌, ◌<◌, ◌++◌, if◌then◌else◌, false, [], length, filter, map, slice_get, IfSome, IfOk, OnOk, OnErr};
 ghost use Rattle.std.specs.List.{list_any};
 ghost use Rattle.beam_machine.specs.Process.{ended, is_ended};
-ghost use Rattle.beam_machine.specs.Quiet.{is_watched};
-ghost use Rattle.beam_machine.specs.State.{watches, downs};
+ghost use Rattle.beam_machine.specs.Quiet.{is_monitored};
+ghost use Rattle.beam_machine.specs.State.{monitors_process, downs};
 ghost use Rattle.beam_laws.specs.Private.{posted_all};
 ghost use Rattle.beam_state.specs.Asking.{MadeBy};
 ghost use Rattle.beam_state.specs.Posting.{AreLawful, notices_of};
@@ -29,7 +29,7 @@ fn notice(
     ensures ok { OnOk result (sent.new.items ≡ sent.old.items
         ++ map (λ signal. record { to = process.now.pid; signal = signal })
         (if process.now.pid == pid then [] else downs pid reason.now process.now.monitors)) }
-    ensures quiet { list_any (watches pid) process.now.monitors ≡ false → OnErr result ⊥ }
+    ensures quiet { list_any (monitors_process pid) process.now.monitors ≡ false → OnErr result ⊥ }
 {
     if process.pid() == pid {
         return Ok(());
@@ -48,7 +48,7 @@ fn walked(
 ) -> Result<Vec<Sent>, AllocError>
     requires lawful { AreLawful references processes.now }
     ensures ok { IfOk result (λ all. all.items ≡ sent.items ++ notices_of processes.now pid reason.now) }
-    ensures quiet { is_watched processes.now pid ≡ false → OnErr result ⊥ }
+    ensures quiet { is_monitored processes.now pid ≡ false → OnErr result ⊥ }
 {
     let mut sent = sent;
     if references == 0 {
@@ -72,7 +72,7 @@ fn found(
 ) -> Result<Vec<Sent>, AllocError>
     ensures ok { IfOk result (λ all. all.items ≡ sent.items
         ++ map (down_of reason.now) (filter (is_told processes.now pid) (filter (is_key_of pid) watched.now))) }
-    ensures quiet { is_watched processes.now pid ≡ false → OnErr result ⊥ }
+    ensures quiet { is_monitored processes.now pid ≡ false → OnErr result ⊥ }
 {
     let mut sent = sent;
     for key in watched.of(pid) {
@@ -92,7 +92,7 @@ pub(crate) fn notices(
 ) -> Result<Vec<Sent>, AllocError>
     requires lawful { AreLawful references processes.now }
     ensures ok { IfOk result (λ all. all.items ≡ sent.items ++ notices_of processes.now pid reason.now) }
-    ensures quiet { is_watched processes.now pid ≡ false → OnErr result ⊥ }
+    ensures quiet { is_monitored processes.now pid ≡ false → OnErr result ⊥ }
 {
     match processes.watchers() {
         Some(watched) => found(sent, processes.as_slice(), watched, pid, reason),

@@ -5,7 +5,7 @@ ghost use Rattle.beam_model.specs.declared.native.NodeNative.TheVariants as nati
 ghost use Rattle.beam_machine.specs.declared.process.Signal.TheVariants as TheSignal;
 ghost use Rattle.beam_model.specs.Native.{elements_in};
 ghost use Rattle.beam_machine.specs.NodeNative.{spawns, spawns_with, is_free, names, registers, unregisters, is_alive};
-ghost use Rattle.beam_machine.specs.NodeNative.{signalled, makes_reference, monitored, answer_of};
+ghost use Rattle.beam_machine.specs.NodeNative.{posted_if_own, makes_reference, monitored, answer_of};
 ghost use Rattle.beam_machine.specs.Process.{Process as TheProcess};
 ghost use Rattle.beam_machine.specs.Row.{own_number};
 ghost use Rattle.beam_state.specs.Pids.{number_in};
@@ -238,7 +238,7 @@ fn is_process_alive(
 
 /// The signal to the process that a pid names, if that is one of this node.
 fn signal_to(pid: &Pid, signal: Signal) -> Option<Sent>
-    ensures { (ps : List TheProcess) → posted_if ps result ≡ signalled ps (number_in pid.now) signal }
+    ensures { (ps : List TheProcess) → posted_if ps result ≡ posted_if_own ps (number_in pid.now) signal }
 {
     match own_number(pid) {
         Some(to) => Some(Sent { to, signal }),

@@ -4,12 +4,12 @@ ghost use Rattle.beam_state.specs.Parts.{AnswersByProcesses, AcceptedByProcesses
 
 use crate::processes::Processes;
 use beam_image::Image;
-use beam_machine::event::{Event, Refused, Reply, Terms};
+use beam_machine::event::{Event, Refused, Reply, SpawnArguments};
 use beam_proc::process::Process;
 use beam_term::{Atom, Term};
 use std::alloc::{AllocError, Global};
 
-fn copies(alloc: Global, arguments: &Terms) -> Result<Vec<Term>, AllocError>
+fn copies(alloc: Global, arguments: &SpawnArguments) -> Result<Vec<Term>, AllocError>
     ensures { IfOk result (λ copies. copies.items ≡ arguments.now) }
 {
     Ok(arguments.as_slice().to_vec(alloc)?)
@@ -21,7 +21,7 @@ pub(crate) fn spawn(
     processes: &mut Processes,
     name: &Atom,
     function: &Atom,
-    arguments: &Terms,
+    arguments: &SpawnArguments,
 ) -> Result<Reply, Refused>
     ensures next { AnswersByProcesses processes.old (Event.Spawn name.now function.now arguments.now) result processes.new }
     ensures memory { AcceptedByProcesses processes.old (Event.Spawn name.now function.now arguments.now) result }

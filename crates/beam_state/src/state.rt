@@ -2,7 +2,7 @@
 ghost use Rattle.std.specs.Prelude.{◌≡◌, ℕ, false, List, Some, IfOk, OnErr};
 ghost use Rattle.std.specs.Option.{option_copied};
 ghost use Rattle.beam_machine.specs.Process.{Process as TheProcess};
-ghost use Rattle.beam_machine.specs.Quiet.{is_watched};
+ghost use Rattle.beam_machine.specs.Quiet.{is_monitored};
 ghost use Rattle.beam_machine.specs.State.{process_of, live_process};
 ghost use Rattle.beam_machine.specs.Ready.{ready_after, next_deadline};
 ghost use Rattle.beam_laws.specs.Monitors.{AreRising};
@@ -12,7 +12,7 @@ ghost use Rattle.beam_state.specs.Posting.{notices_of};
 use crate::processes::Processes;
 use crate::{arrivals, ends, names, starting};
 use beam_image::Image;
-use beam_machine::event::{Event, Refused, Reply, Terms};
+use beam_machine::event::{Event, Refused, Reply, SpawnArguments};
 use beam_proc::entry::ProcessEntry;
 use beam_proc::private::Sent;
 use beam_proc::process::Process;
@@ -120,7 +120,7 @@ impl State {
     /// refused where the process isn't watched.
     pub fn notices(&self, pid: u32, reason: &Term) -> Result<Vec<Sent>, AllocError>
         ensures ok { IfOk result (λ notices. notices.items ≡ notices_of self.now.processes pid reason.now) }
-        ensures quiet { is_watched self.now.processes pid ≡ false → OnErr result ⊥ }
+        ensures quiet { is_monitored self.now.processes pid ≡ false → OnErr result ⊥ }
     {
         ends::notices(
             Vec::new(self.alloc),
@@ -136,7 +136,7 @@ impl State {
         &mut self,
         name: &Atom,
         function: &Atom,
-        arguments: &Terms,
+        arguments: &SpawnArguments,
     ) -> Result<Reply, Refused>
         ensures next { AnswersAlone self.old (Event.Spawn name.now function.now arguments.now) result self.new }
         ensures memory { LacksAlone self.old (Event.Spawn name.now function.now arguments.now) result self.new }

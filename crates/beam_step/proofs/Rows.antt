@@ -14,7 +14,7 @@ use Rattle.beam_machine.specs.Code.{Code}
 use Rattle.beam_term.specs.TermValue.{TermValue}
 use Rattle.beam_machine.specs.Process.{Process, dropped, ended, is_running, put_x, read_x}
 use Rattle.beam_machine.specs.Row.{Outcome, makes, sends, asks, after_dropping, goes_on, outcome}
-use Rattle.beam_machine.specs.Private.{Sent, Private, End, at_limit, after_row, before_node_row, at_spot, private_by, private_to_spot, stops, first, first_sending}
+use Rattle.beam_machine.specs.Private.{Sent, Private, End, at_limit, after_row, before_node_row, at_spot, private_by, private_to_spot, stops, with_first_row, with_first_sending}
 use Rattle.beam_model.specs.Place.{Place}
 use Rattle.beam_rows.specs.declared.request.Request.{Request}
 use Rattle.beam_rows.specs.declared.request.Request.TheVariants.{Send, Ask, AskDropping, Sleep}
@@ -42,12 +42,12 @@ row_before spots passes code m p o r clear e = at (is_running p.status) (is_stop
     at true true h k = cc
     at false s h k = cc
 
-joined_first : (count : ℕ) (sent : List Sent) (r : Private) → joined count sent (first r) ≡ joined (count + 1) sent r
+joined_first : (count : ℕ) (sent : List Sent) (r : Private) → joined count sent (with_first_row r) ≡ joined (count + 1) sent r
 joined_first count sent r =
     let counts : count + (r.count + 1) ≡ (count + 1) + r.count = omega arith in
     ap (λ n. record r { count = n; sent = sent ++ r.sent }) counts
 
-joined_sending : (count : ℕ) (sent : List Sent) (x : Sent) (r : Private) → joined count sent (first_sending x r) ≡ joined (count + 1) (sent ++ x ∷ []) r
+joined_sending : (count : ℕ) (sent : List Sent) (x : Sent) (r : Private) → joined count sent (with_first_sending x r) ≡ joined (count + 1) (sent ++ x ∷ []) r
 joined_sending count sent x r =
     let counts : count + (r.count + 1) ≡ (count + 1) + r.count = omega arith in
     ap (λ n. record r { count = n; sent = sent ++ (x ∷ r.sent) }) counts
@@ -206,17 +206,17 @@ passes_no_more : (n : ℕ) → passes_after false n ≡ false
 passes_no_more zero = refl
 passes_no_more (suc n) = refl
 
-made_rows : (spots : List Place) (passes : Bool) (code : Code) (n : ℕ) (p q before : Process) (first : Bool) (count : ℕ) (sent : List Sent) → LeadsTo code n p q
-    → ClearRows code spots passes n p → Made spots first code before count sent passes p → Made spots first code before (count + n) sent (passes_after passes n) q
-made_rows spots passes code zero p q before first count sent h clear made =
+made_rows : (spots : List Place) (passes : Bool) (code : Code) (n : ℕ) (p q before : Process) (with_first_row : Bool) (count : ℕ) (sent : List Sent) → LeadsTo code n p q
+    → ClearRows code spots passes n p → Made spots with_first_row code before count sent passes p → Made spots with_first_row code before (count + n) sent (passes_after passes n) q
+made_rows spots passes code zero p q before with_first_row count sent h clear made =
     let counts : count ≡ count + 0 = omega arith in
-    subst (λ k. Made spots first code before k sent passes q) counts (subst (λ (t : Process). Made spots first code before count sent passes t) (sym h) made)
-made_rows spots passes code (suc n) p q before first count sent h clear made =
+    subst (λ k. Made spots with_first_row code before k sent passes q) counts (subst (λ (t : Process). Made spots with_first_row code before count sent passes t) (sym h) made)
+made_rows spots passes code (suc n) p q before with_first_row count sent h clear made =
     let counts : (count + 1) + n ≡ count + suc n = omega arith in
-    subst (λ k. Made spots first code before k sent false q) counts
-    (subst (λ b. Made spots first code before ((count + 1) + n) sent b q) (passes_no_more n)
-    (made_rows spots false code n h.1.0 q before first (count + 1) sent h.1.1.1 (clear.1 h.1.0 h.1.1.0)
-    (made_more spots passes code p h.1.0 sent h.0 clear.0 h.1.1.0 before first count made)))
+    subst (λ k. Made spots with_first_row code before k sent false q) counts
+    (subst (λ b. Made spots with_first_row code before ((count + 1) + n) sent b q) (passes_no_more n)
+    (made_rows spots false code n h.1.0 q before with_first_row (count + 1) sent h.1.1.1 (clear.1 h.1.0 h.1.1.0)
+    (made_more spots passes code p h.1.0 sent h.0 clear.0 h.1.1.0 before with_first_row count made)))
 
 begun : (spots : List Place) (passes : Bool) (code : Code) (p : Process) → Made spots passes code p 0 [] passes p
 begun spots passes code p m =
@@ -302,11 +302,11 @@ pub rows_sending : (spots : List Place) (passes : Bool) (code : Code) (n count :
 rows_sending spots passes code n count p q r before after request h clear l runs e can clear_here responds = (
   omega arith,
   omega arith,
-  λ others first m made.
+  λ others with_first_row m made.
       let counts : (m + count) + 1 ≡ m + (count + 1) = omega arith in
-      let rows = made_rows spots passes code count p q others first m before h clear made in
-      subst (λ k. Made spots first code others k after false r) counts
-      (asked_row spots (passes_after passes count) code q r before after request (Ok ARow) runs clear_here e can responds others first (m + count) rows),
+      let rows = made_rows spots passes code count p q others with_first_row m before h clear made in
+      subst (λ k. Made spots with_first_row code others k after false r) counts
+      (asked_row spots (passes_after passes count) code q r before after request (Ok ARow) runs clear_here e can responds others with_first_row (m + count) rows),
 )
 
 come_after : (spots : List Place) (passes still : Bool) (code : Code) (others p q : Process) (count more n limit : ℕ) (before after : List Sent) (end : End)

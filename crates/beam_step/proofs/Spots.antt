@@ -6,7 +6,7 @@ use Rattle.beam_machine.specs.Code.{Code}
 use Rattle.beam_machine.specs.Debug.{is_at_spot}
 use Rattle.beam_machine.specs.Process.{Process, is_running}
 use Rattle.beam_machine.specs.Row.{Outcome, makes, sends, asks, sleeps, outcome}
-use Rattle.beam_machine.specs.Private.{Private, stops, after_row, at_spot, first, first_sending, private_by, private_rows, private_to_spot}
+use Rattle.beam_machine.specs.Private.{Private, stops, after_row, at_spot, with_first_row, with_first_sending, private_by, private_rows, private_to_spot}
 use Rattle.beam_rows.specs.Spots.{is_stopped}
 
 no_spot : (goes : Goes) → is_at_spot [] goes ≡ false
@@ -19,8 +19,8 @@ never_stopped true p = refl
 never_stopped false p = no_spot p.goes
 
 same_by : (f g : Process → Private) (p : Process) (o : Outcome) → ((q : Process) → f q ≡ g q) → private_by f p o ≡ private_by g p o
-same_by f g p (makes q) h = ap first (h q)
-same_by f g p (sends q to signal) h = ap (first_sending (record { to = to; signal = signal })) (h q)
+same_by f g p (makes q) h = ap with_first_row (h q)
+same_by f g p (sends q to signal) h = ap (with_first_sending (record { to = to; signal = signal })) (h q)
 same_by f g p (asks q native arity after) h = refl
 same_by f g p (sleeps q n next) h = refl
 

@@ -15,7 +15,7 @@ use Rattle.beam_etf.proofs.FoundParts.{external_takes}
 use Rattle.beam_model.specs.declared.function.Import.{Import}
 use Rattle.beam_model.specs.declared.function.Export.{Export}
 use Rattle.beam_model.specs.Form.{Form}
-use Rattle.beam_model.specs.Tables.{Tables, TableFault, bad_table, compressed_literals, ◌>>=◌, number_at, entries_at, text_of, atom_at, atoms_at, found, atom_of, import_at, imports_at, export_at, exports_at, sized_at, alone, literal_of, literal_at, literals_at, literals_in, wanted, tables_at}
+use Rattle.beam_model.specs.Tables.{Tables, TableFault, bad_table, compressed_literals, ◌>>=◌, table_number_at, entries_at, utf8_text, table_atom_at, atoms_at, found, atom_of_index, import_at, imports_at, export_at, exports_at, sized_at, literal_alone, literal_of, literal_at, literals_at, literals_in, required_chunk, tables_at}
 use Rattle.beam_model.specs.TablesLaws.{length-entries}
 use Rattle.beam_model.specs.Sequence.{InSequence}
 use Rattle.beam_model.specs.ChunkForm.{IsWord}
@@ -60,8 +60,8 @@ record IsRead {X : Type 0} (stands : X → List ℕ → Type 0) (entry : List �
 
 -- ---- numbers
 
-number_told : (bytes : List ℕ) (p : ℕ × List ℕ) → number_at bytes ≡ Ok p → Front (IsWord p.0) bytes p.1
-unfolding number_at
+number_told : (bytes : List ℕ) (p : ℕ × List ℕ) → table_number_at bytes ≡ Ok p → Front (IsWord p.0) bytes p.1
+unfolding table_number_at
 number_told bytes p e =
     let g = guard_ok (ltb (length bytes) 4) bad_table _ p e in
     let long : 4 ≤ length bytes = ltb-false _ _ g.0 in
@@ -72,8 +72,8 @@ number_told bytes p e =
     } in
     subst (λ (q : ℕ × List ℕ). Front (IsWord q.0) bytes q.1) (ok_is _ p g.1) front
 
-number_read : (front rest : List ℕ) (n : ℕ) → IsWord n front → number_at (front ++ rest) ≡ Ok (n, rest)
-unfolding number_at
+number_read : (front rest : List ℕ) (n : ℕ) → IsWord n front → table_number_at (front ++ rest) ≡ Ok (n, rest)
+unfolding table_number_at
 number_read front rest n w =
     let long : ltb (length (front ++ rest)) 4 ≡ false = le-ltb _ _ (omega (arith, length-append front rest, w.wide)) in
     let value : big_number 4 (front ++ rest) ≡ n = big_from-append 4 front rest (omega (arith, w.wide)) ∙ sym w.value in
@@ -111,7 +111,7 @@ entries_read {X} stands entry is (x ∷ xs) body after (front, rest, parts, firs
     ∙ ap (λ (r : Result (List X) TableFault). r >>= λ ys. done (x ∷ ys)) (entries_read stands entry is xs rest after others)
 
 table_told : {X : Type 0} (stands : X → List ℕ → Type 0) (entry : List ℕ → Result (X × List ℕ) TableFault) → IsRead stands entry
-    → (bytes : List ℕ) (p : ℕ × List ℕ) (xs : List X) → number_at bytes ≡ Ok p → entries_at entry p.0 p.1 ≡ Ok xs → IsTable stands xs bytes
+    → (bytes : List ℕ) (p : ℕ × List ℕ) (xs : List X) → table_number_at bytes ≡ Ok p → entries_at entry p.0 p.1 ≡ Ok xs → IsTable stands xs bytes
 table_told stands entry is bytes p xs e f =
     let count = number_told bytes p e in
     let entries = entries_told stands entry is p.0 p.1 xs f in
@@ -126,33 +126,33 @@ table_told stands entry is bytes p xs e f =
 
 record TableRead {X : Type 0} (entry : List ℕ → Result (X × List ℕ) TableFault) (xs : List X) (bytes : List ℕ) : Type 0 where
   rest : List ℕ
-  count : number_at bytes ≡ Ok (length xs, rest)
+  count : table_number_at bytes ≡ Ok (length xs, rest)
   entries : entries_at entry (length xs) rest ≡ Ok xs
 
 table_read : {X : Type 0} (stands : X → List ℕ → Type 0) (entry : List ℕ → Result (X × List ℕ) TableFault) → IsRead stands entry
     → (bytes : List ℕ) (xs : List X) → IsTable stands xs bytes → TableRead entry xs bytes
 table_read stands entry is bytes xs t = record {
   rest = t.body ++ t.after;
-  count = ap number_at t.parts ∙ number_read t.count (t.body ++ t.after) (length xs) t.is_count;
+  count = ap table_number_at t.parts ∙ number_read t.count (t.body ++ t.after) (length xs) t.is_count;
   entries = entries_read stands entry is xs t.body t.after t.are_entries;
 }
 
 -- ---- atoms
 
-text_told : (bytes text : List ℕ) → text_of bytes ≡ Ok text → (bytes ≡ text) × (is_utf8 bytes ≡ true)
-unfolding text_of
+text_told : (bytes text : List ℕ) → utf8_text bytes ≡ Ok text → (bytes ≡ text) × (is_utf8 bytes ≡ true)
+unfolding utf8_text
 text_told bytes text e = let g = guard_true (is_utf8 bytes) bad_table (done bytes) text e in (ok_is bytes text g.1, g.0)
 
-text_read : (bytes : List ℕ) → is_utf8 bytes ≡ true → text_of bytes ≡ Ok bytes
-unfolding text_of
+text_read : (bytes : List ℕ) → is_utf8 bytes ≡ true → utf8_text bytes ≡ Ok bytes
+unfolding utf8_text
 text_read bytes e = rw e refl
 
-atom_told : (bytes : List ℕ) (p : List ℕ × List ℕ) → atom_at bytes ≡ Ok p → Front (IsAtom p.0) bytes p.1
-unfolding atom_at
+atom_told : (bytes : List ℕ) (p : List ℕ × List ℕ) → table_atom_at bytes ≡ Ok p → Front (IsAtom p.0) bytes p.1
+unfolding table_atom_at
 atom_told [] p e = absurd cc
 atom_told (n ∷ bytes) p e =
     let g = guard_ok (ltb (length bytes) n) bad_table _ p e in
-    let b = bind_ok (text_of (take n bytes)) (λ (text : List ℕ). done (text, drop n bytes)) p g.1 in
+    let b = bind_ok (utf8_text (take n bytes)) (λ (text : List ℕ). done (text, drop n bytes)) p g.1 in
     let t = text_told (take n bytes) b.0 b.1 in
     let long : n ≤ length bytes = ltb-false _ _ g.0 in
     let size : n ≡ length (take n bytes) = omega (arith, length-take n bytes, long) in
@@ -163,27 +163,27 @@ atom_told (n ∷ bytes) p e =
     } in
     subst (λ (q : List ℕ × List ℕ). Front (IsAtom q.0) (n ∷ bytes) q.1) (ap (λ (u : List ℕ). (u, drop n bytes)) t.0 ∙ ok_is (b.0, drop n bytes) p b.2) front
 
-atom_read : (front rest text : List ℕ) → IsAtom text front → atom_at (front ++ rest) ≡ Ok (text, rest)
-unfolding atom_at
+atom_read : (front rest text : List ℕ) → IsAtom text front → table_atom_at (front ++ rest) ≡ Ok (text, rest)
+unfolding table_atom_at
 atom_read front rest text a =
     let long : ltb (length (text ++ rest)) (length text) ≡ false = le-ltb _ _ (omega (arith, length-append text rest)) in
-    let read : atom_at (length text ∷ (text ++ rest)) ≡ Ok (text, rest) = rw (long, take_at text rest (length text) refl, text_read text a.utf8, drop_at text rest (length text) refl) refl in
-    ap (λ (t : List ℕ). atom_at (t ++ rest)) a.parts ∙ read
+    let read : table_atom_at (length text ∷ (text ++ rest)) ≡ Ok (text, rest) = rw (long, take_at text rest (length text) refl, text_read text a.utf8, drop_at text rest (length text) refl) refl in
+    ap (λ (t : List ℕ). table_atom_at (t ++ rest)) a.parts ∙ read
 
-atom_is_read : IsRead IsAtom atom_at
+atom_is_read : IsRead IsAtom table_atom_at
 atom_is_read = record { told = atom_told; read = λ front rest text a. atom_read front rest text a }
 
 pub atoms_told : (bytes : List ℕ) (atoms : List (List ℕ)) → atoms_at bytes ≡ Ok atoms → AreAtoms atoms bytes
 unfolding atoms_at
 atoms_told bytes atoms e =
-    let c = bind_ok (number_at bytes) (λ (count : ℕ × List ℕ). cond (ltb 0 count.0 && nat_le count.0 65535) (entries_at atom_at count.0 count.1) (Err bad_table)) atoms e in
-    let g = guard_true (ltb 0 c.0.0 && nat_le c.0.0 65535) bad_table (entries_at atom_at c.0.0 c.0.1) atoms c.2 in
+    let c = bind_ok (table_number_at bytes) (λ (count : ℕ × List ℕ). cond (ltb 0 count.0 && nat_le count.0 65535) (entries_at table_atom_at count.0 count.1) (Err bad_table)) atoms e in
+    let g = guard_true (ltb 0 c.0.0 && nat_le c.0.0 65535) bad_table (entries_at table_atom_at c.0.0 c.0.1) atoms c.2 in
     let b = both_true (ltb 0 c.0.0) (nat_le c.0.0 65535) g.0 in
-    let count : length atoms ≡ c.0.0 = length-entries atom_at c.0.0 c.0.1 atoms g.1 in
+    let count : length atoms ≡ c.0.0 = length-entries table_atom_at c.0.0 c.0.1 atoms g.1 in
     let low : 0 < c.0.0 = ltb-true _ _ b.0 in
     let high : c.0.0 ≤ 65535 = leb-true _ _ b.1 in
     record {
-      table = table_told IsAtom atom_at atom_is_read bytes c.0 atoms c.1 g.1;
+      table = table_told IsAtom table_atom_at atom_is_read bytes c.0 atoms c.1 g.1;
       some = omega (arith, count, low);
       within = omega (arith, count, high);
     }
@@ -191,7 +191,7 @@ atoms_told bytes atoms e =
 pub atoms_read : (bytes : List ℕ) (atoms : List (List ℕ)) → AreAtoms atoms bytes → atoms_at bytes ≡ Ok atoms
 unfolding atoms_at
 atoms_read bytes atoms a =
-    let t = table_read IsAtom atom_at atom_is_read bytes atoms a.table in
+    let t = table_read IsAtom table_atom_at atom_is_read bytes atoms a.table in
     let low : ltb 0 (length atoms) ≡ true = lt-ltb _ _ a.some in
     let high : nat_le (length atoms) 65535 ≡ true = le-leb _ _ a.within in
     rw (t.count, low, high, t.entries) refl
@@ -202,21 +202,21 @@ found_is : (o : Option (List ℕ)) (text : List ℕ) → found o ≡ Ok text →
 found_is None text e = absurd cc
 found_is (Some t) text e = ap (λ (u : List ℕ). Some u) (ok_is t text e)
 
-pub atom_of_told : (atoms : List (List ℕ)) (n : ℕ) (text : List ℕ) → atom_of atoms n ≡ Ok text → (place : ℕ) × (n ≡ suc place) × (slice_get atoms place ≡ Some text)
-unfolding atom_of
+pub atom_of_told : (atoms : List (List ℕ)) (n : ℕ) (text : List ℕ) → atom_of_index atoms n ≡ Ok text → (place : ℕ) × (n ≡ suc place) × (slice_get atoms place ≡ Some text)
+unfolding atom_of_index
 atom_of_told atoms n text e =
     let g = guard_true (ltb 0 n) bad_table (found (slice_get atoms (n - 1))) text e in
     let some : 0 < n = ltb-true _ _ g.0 in
     (n - 1, omega (arith, some), found_is (slice_get atoms (n - 1)) text g.1)
 
-pub atom_of_read : (atoms : List (List ℕ)) (place : ℕ) (text : List ℕ) → slice_get atoms place ≡ Some text → atom_of atoms (suc place) ≡ Ok text
-unfolding atom_of
+pub atom_of_read : (atoms : List (List ℕ)) (place : ℕ) (text : List ℕ) → slice_get atoms place ≡ Some text → atom_of_index atoms (suc place) ≡ Ok text
+unfolding atom_of_index
 atom_of_read atoms place text e =
     let some : ltb 0 (suc place) ≡ true = lt-ltb _ _ (omega arith) in
     let back : suc place - 1 ≡ place = omega arith in
     rw (some, back, e) refl
 
-index_told : (atoms : List (List ℕ)) (bytes : List ℕ) (p : ℕ × List ℕ) (text : List ℕ) → number_at bytes ≡ Ok p → atom_of atoms p.0 ≡ Ok text → Front (IsAtomIndex atoms text) bytes p.1
+index_told : (atoms : List (List ℕ)) (bytes : List ℕ) (p : ℕ × List ℕ) (text : List ℕ) → table_number_at bytes ≡ Ok p → atom_of_index atoms p.0 ≡ Ok text → Front (IsAtomIndex atoms text) bytes p.1
 index_told atoms bytes p text e f =
     let number = number_told bytes p e in
     let atom = atom_of_told atoms p.0 text f in
@@ -229,11 +229,11 @@ index_told atoms bytes p text e f =
 import_told : (atoms : List (List ℕ)) (bytes : List ℕ) (p : Import × List ℕ) → import_at atoms bytes ≡ Ok p → Front (IsImport atoms p.0) bytes p.1
 unfolding import_at
 import_told atoms bytes p e =
-    let m = bind_ok (number_at bytes) (λ (a : ℕ × List ℕ). number_at a.1 >>= λ b. number_at b.1 >>= λ c. atom_of atoms a.0 >>= λ s. atom_of atoms b.0 >>= λ t. done (record { «module» = s; function = t; arity = c.0 }, c.1)) p e in
-    let f = bind_ok (number_at m.0.1) (λ (b : ℕ × List ℕ). number_at b.1 >>= λ c. atom_of atoms m.0.0 >>= λ s. atom_of atoms b.0 >>= λ t. done (record { «module» = s; function = t; arity = c.0 }, c.1)) p m.2 in
-    let a = bind_ok (number_at f.0.1) (λ (c : ℕ × List ℕ). atom_of atoms m.0.0 >>= λ s. atom_of atoms f.0.0 >>= λ t. done (record { «module» = s; function = t; arity = c.0 }, c.1)) p f.2 in
-    let s = bind_ok (atom_of atoms m.0.0) (λ (s : List ℕ). atom_of atoms f.0.0 >>= λ t. done (record { «module» = s; function = t; arity = a.0.0 }, a.0.1)) p a.2 in
-    let t = bind_ok (atom_of atoms f.0.0) (λ (t : List ℕ). done (record { «module» = s.0; function = t; arity = a.0.0 }, a.0.1)) p s.2 in
+    let m = bind_ok (table_number_at bytes) (λ (a : ℕ × List ℕ). table_number_at a.1 >>= λ b. table_number_at b.1 >>= λ c. atom_of_index atoms a.0 >>= λ s. atom_of_index atoms b.0 >>= λ t. done (record { «module» = s; function = t; arity = c.0 }, c.1)) p e in
+    let f = bind_ok (table_number_at m.0.1) (λ (b : ℕ × List ℕ). table_number_at b.1 >>= λ c. atom_of_index atoms m.0.0 >>= λ s. atom_of_index atoms b.0 >>= λ t. done (record { «module» = s; function = t; arity = c.0 }, c.1)) p m.2 in
+    let a = bind_ok (table_number_at f.0.1) (λ (c : ℕ × List ℕ). atom_of_index atoms m.0.0 >>= λ s. atom_of_index atoms f.0.0 >>= λ t. done (record { «module» = s; function = t; arity = c.0 }, c.1)) p f.2 in
+    let s = bind_ok (atom_of_index atoms m.0.0) (λ (s : List ℕ). atom_of_index atoms f.0.0 >>= λ t. done (record { «module» = s; function = t; arity = a.0.0 }, a.0.1)) p a.2 in
+    let t = bind_ok (atom_of_index atoms f.0.0) (λ (t : List ℕ). done (record { «module» = s.0; function = t; arity = a.0.0 }, a.0.1)) p s.2 in
     let first = index_told atoms bytes m.0 s.0 m.1 s.1 in
     let second = index_told atoms m.0.1 f.0 t.0 f.1 t.1 in
     let third = number_told f.0.1 a.0 a.1 in
@@ -265,10 +265,10 @@ import_is_read atoms = record { told = import_told atoms; read = λ front rest i
 export_told : (atoms : List (List ℕ)) (bytes : List ℕ) (p : Export × List ℕ) → export_at atoms bytes ≡ Ok p → Front (IsExport atoms p.0) bytes p.1
 unfolding export_at
 export_told atoms bytes p e =
-    let n = bind_ok (number_at bytes) (λ (a : ℕ × List ℕ). number_at a.1 >>= λ b. number_at b.1 >>= λ c. atom_of atoms a.0 >>= λ t. done (record { name = t; arity = b.0; label = c.0 }, c.1)) p e in
-    let a = bind_ok (number_at n.0.1) (λ (b : ℕ × List ℕ). number_at b.1 >>= λ c. atom_of atoms n.0.0 >>= λ t. done (record { name = t; arity = b.0; label = c.0 }, c.1)) p n.2 in
-    let l = bind_ok (number_at a.0.1) (λ (c : ℕ × List ℕ). atom_of atoms n.0.0 >>= λ t. done (record { name = t; arity = a.0.0; label = c.0 }, c.1)) p a.2 in
-    let t = bind_ok (atom_of atoms n.0.0) (λ (t : List ℕ). done (record { name = t; arity = a.0.0; label = l.0.0 }, l.0.1)) p l.2 in
+    let n = bind_ok (table_number_at bytes) (λ (a : ℕ × List ℕ). table_number_at a.1 >>= λ b. table_number_at b.1 >>= λ c. atom_of_index atoms a.0 >>= λ t. done (record { name = t; arity = b.0; label = c.0 }, c.1)) p e in
+    let a = bind_ok (table_number_at n.0.1) (λ (b : ℕ × List ℕ). table_number_at b.1 >>= λ c. atom_of_index atoms n.0.0 >>= λ t. done (record { name = t; arity = b.0; label = c.0 }, c.1)) p n.2 in
+    let l = bind_ok (table_number_at a.0.1) (λ (c : ℕ × List ℕ). atom_of_index atoms n.0.0 >>= λ t. done (record { name = t; arity = a.0.0; label = c.0 }, c.1)) p a.2 in
+    let t = bind_ok (atom_of_index atoms n.0.0) (λ (t : List ℕ). done (record { name = t; arity = a.0.0; label = l.0.0 }, l.0.1)) p l.2 in
     let first = index_told atoms bytes n.0 t.0 n.1 t.1 in
     let second = number_told n.0.1 a.0 a.1 in
     let third = number_told a.0.1 l.0 l.1 in
@@ -298,7 +298,7 @@ export_is_read atoms = record { told = export_told atoms; read = λ front rest x
 
 -- ---- literals
 
-alone_is : (r : Result (TermValue × List ℕ) ExternalFault) (t : TermValue) → alone r ≡ Ok t → r ≡ Ok (t, [])
+alone_is : (r : Result (TermValue × List ℕ) ExternalFault) (t : TermValue) → literal_alone r ≡ Ok t → r ≡ Ok (t, [])
 alone_is (Ok (term, [])) t e = ap (λ (u : TermValue). Ok (u, [])) (ok_is term t e)
 alone_is (Ok (term, byte ∷ rest)) t e = absurd cc
 alone_is (Err fault) t e = absurd cc
@@ -323,7 +323,7 @@ record Sized (bytes : List ℕ) (p : List ℕ × List ℕ) : Type 0 where
 sized_told : (bytes : List ℕ) (p : List ℕ × List ℕ) → sized_at bytes ≡ Ok p → Sized bytes p
 unfolding sized_at
 sized_told bytes p e =
-    let n = bind_ok (number_at bytes) (λ (size : ℕ × List ℕ). cond (ltb (length size.1) size.0) (Err bad_table) (done (take size.0 size.1, drop size.0 size.1))) p e in
+    let n = bind_ok (table_number_at bytes) (λ (size : ℕ × List ℕ). cond (ltb (length size.1) size.0) (Err bad_table) (done (take size.0 size.1, drop size.0 size.1))) p e in
     let g = guard_ok (ltb (length n.0.1) n.0.0) bad_table _ p n.2 in
     let number = number_told bytes n.0 n.1 in
     let long : n.0.0 ≤ length n.0.1 = ltb-false _ _ g.0 in
@@ -367,9 +367,9 @@ literal_is_read = record { told = literal_told; read = λ front rest t is. liter
 literals_told : (bytes : List ℕ) (ts : List TermValue) → literals_at bytes ≡ Ok ts → AreLiterals ts bytes
 unfolding literals_at
 literals_told bytes ts e =
-    let z = bind_ok (number_at bytes) (λ (compressed : ℕ × List ℕ). cond (compressed.0 == 0) (number_at compressed.1 >>= λ count. entries_at literal_at count.0 count.1) (Err compressed_literals)) ts e in
-    let g = guard_true (z.0.0 == 0) compressed_literals (number_at z.0.1 >>= λ count. entries_at literal_at count.0 count.1) ts z.2 in
-    let c = bind_ok (number_at z.0.1) (λ (count : ℕ × List ℕ). entries_at literal_at count.0 count.1) ts g.1 in
+    let z = bind_ok (table_number_at bytes) (λ (compressed : ℕ × List ℕ). cond (compressed.0 == 0) (table_number_at compressed.1 >>= λ count. entries_at literal_at count.0 count.1) (Err compressed_literals)) ts e in
+    let g = guard_true (z.0.0 == 0) compressed_literals (table_number_at z.0.1 >>= λ count. entries_at literal_at count.0 count.1) ts z.2 in
+    let c = bind_ok (table_number_at z.0.1) (λ (count : ℕ × List ℕ). entries_at literal_at count.0 count.1) ts g.1 in
     let first = number_told bytes z.0 z.1 in
     record {
       zero = first.front;
@@ -398,8 +398,8 @@ literals_in_read (Some bytes) ts are = literals_read bytes ts are
 
 -- ---- all tables
 
-pub wanted_is : (o : Option (List ℕ)) (bytes : List ℕ) → wanted o ≡ Ok bytes → o ≡ Some bytes
-unfolding wanted
+pub wanted_is : (o : Option (List ℕ)) (bytes : List ℕ) → required_chunk o ≡ Ok bytes → o ≡ Some bytes
+unfolding required_chunk
 wanted_is None bytes e = absurd cc
 wanted_is (Some b) bytes e = ap (λ (c : List ℕ). Some c) (ok_is b bytes e)
 
@@ -413,7 +413,7 @@ is_there (Some bytes) P h = (bytes, refl, h)
 imports_told : (atoms : List (List ℕ)) (bytes : List ℕ) (is : List Import) → imports_at atoms bytes ≡ Ok is → IsTable (IsImport atoms) is bytes
 unfolding imports_at
 imports_told atoms bytes is e =
-    let c = bind_ok (number_at bytes) (λ (count : ℕ × List ℕ). entries_at (import_at atoms) count.0 count.1) is e in
+    let c = bind_ok (table_number_at bytes) (λ (count : ℕ × List ℕ). entries_at (import_at atoms) count.0 count.1) is e in
     table_told (IsImport atoms) (import_at atoms) (import_is_read atoms) bytes c.0 is c.1 c.2
 
 imports_read : (atoms : List (List ℕ)) (bytes : List ℕ) (is : List Import) → IsTable (IsImport atoms) is bytes → imports_at atoms bytes ≡ Ok is
@@ -423,7 +423,7 @@ imports_read atoms bytes is t = let r = table_read (IsImport atoms) (import_at a
 exports_told : (atoms : List (List ℕ)) (bytes : List ℕ) (xs : List Export) → exports_at atoms bytes ≡ Ok xs → IsTable (IsExport atoms) xs bytes
 unfolding exports_at
 exports_told atoms bytes xs e =
-    let c = bind_ok (number_at bytes) (λ (count : ℕ × List ℕ). entries_at (export_at atoms) count.0 count.1) xs e in
+    let c = bind_ok (table_number_at bytes) (λ (count : ℕ × List ℕ). entries_at (export_at atoms) count.0 count.1) xs e in
     table_told (IsExport atoms) (export_at atoms) (export_is_read atoms) bytes c.0 xs c.1 c.2
 
 exports_read : (atoms : List (List ℕ)) (bytes : List ℕ) (xs : List Export) → IsTable (IsExport atoms) xs bytes → exports_at atoms bytes ≡ Ok xs
@@ -434,12 +434,12 @@ exports_read atoms bytes xs t = let r = table_read (IsExport atoms) (export_at a
 pub tables_told : (form : Form) (t : Tables) → tables_at form ≡ Ok t → AreTables form t × ((code : List ℕ) × (form.code ≡ Some code))
 unfolding tables_at
 tables_told form t e =
-    let b1 = bind_ok (wanted form.atoms) (λ (atom_bytes : List ℕ). atoms_at atom_bytes >>= λ atoms. wanted form.code >>= λ code. wanted form.imports >>= λ import_bytes. imports_at atoms import_bytes >>= λ imports. wanted form.exports >>= λ export_bytes. exports_at atoms export_bytes >>= λ exports. literals_in form.literals >>= λ literals. done (record { atoms = atoms; imports = imports; exports = exports; literals = literals })) t e in
-    let b2 = bind_ok (atoms_at b1.0) (λ (atoms : List (List ℕ)). wanted form.code >>= λ code. wanted form.imports >>= λ import_bytes. imports_at atoms import_bytes >>= λ imports. wanted form.exports >>= λ export_bytes. exports_at atoms export_bytes >>= λ exports. literals_in form.literals >>= λ literals. done (record { atoms = atoms; imports = imports; exports = exports; literals = literals })) t b1.2 in
-    let b3 = bind_ok (wanted form.code) (λ (code : List ℕ). wanted form.imports >>= λ import_bytes. imports_at b2.0 import_bytes >>= λ imports. wanted form.exports >>= λ export_bytes. exports_at b2.0 export_bytes >>= λ exports. literals_in form.literals >>= λ literals. done (record { atoms = b2.0; imports = imports; exports = exports; literals = literals })) t b2.2 in
-    let b4 = bind_ok (wanted form.imports) (λ (import_bytes : List ℕ). imports_at b2.0 import_bytes >>= λ imports. wanted form.exports >>= λ export_bytes. exports_at b2.0 export_bytes >>= λ exports. literals_in form.literals >>= λ literals. done (record { atoms = b2.0; imports = imports; exports = exports; literals = literals })) t b3.2 in
-    let b5 = bind_ok (imports_at b2.0 b4.0) (λ (imports : List Import). wanted form.exports >>= λ export_bytes. exports_at b2.0 export_bytes >>= λ exports. literals_in form.literals >>= λ literals. done (record { atoms = b2.0; imports = imports; exports = exports; literals = literals })) t b4.2 in
-    let b6 = bind_ok (wanted form.exports) (λ (export_bytes : List ℕ). exports_at b2.0 export_bytes >>= λ exports. literals_in form.literals >>= λ literals. done (record { atoms = b2.0; imports = b5.0; exports = exports; literals = literals })) t b5.2 in
+    let b1 = bind_ok (required_chunk form.atoms) (λ (atom_bytes : List ℕ). atoms_at atom_bytes >>= λ atoms. required_chunk form.code >>= λ code. required_chunk form.imports >>= λ import_bytes. imports_at atoms import_bytes >>= λ imports. required_chunk form.exports >>= λ export_bytes. exports_at atoms export_bytes >>= λ exports. literals_in form.literals >>= λ literals. done (record { atoms = atoms; imports = imports; exports = exports; literals = literals })) t e in
+    let b2 = bind_ok (atoms_at b1.0) (λ (atoms : List (List ℕ)). required_chunk form.code >>= λ code. required_chunk form.imports >>= λ import_bytes. imports_at atoms import_bytes >>= λ imports. required_chunk form.exports >>= λ export_bytes. exports_at atoms export_bytes >>= λ exports. literals_in form.literals >>= λ literals. done (record { atoms = atoms; imports = imports; exports = exports; literals = literals })) t b1.2 in
+    let b3 = bind_ok (required_chunk form.code) (λ (code : List ℕ). required_chunk form.imports >>= λ import_bytes. imports_at b2.0 import_bytes >>= λ imports. required_chunk form.exports >>= λ export_bytes. exports_at b2.0 export_bytes >>= λ exports. literals_in form.literals >>= λ literals. done (record { atoms = b2.0; imports = imports; exports = exports; literals = literals })) t b2.2 in
+    let b4 = bind_ok (required_chunk form.imports) (λ (import_bytes : List ℕ). imports_at b2.0 import_bytes >>= λ imports. required_chunk form.exports >>= λ export_bytes. exports_at b2.0 export_bytes >>= λ exports. literals_in form.literals >>= λ literals. done (record { atoms = b2.0; imports = imports; exports = exports; literals = literals })) t b3.2 in
+    let b5 = bind_ok (imports_at b2.0 b4.0) (λ (imports : List Import). required_chunk form.exports >>= λ export_bytes. exports_at b2.0 export_bytes >>= λ exports. literals_in form.literals >>= λ literals. done (record { atoms = b2.0; imports = imports; exports = exports; literals = literals })) t b4.2 in
+    let b6 = bind_ok (required_chunk form.exports) (λ (export_bytes : List ℕ). exports_at b2.0 export_bytes >>= λ exports. literals_in form.literals >>= λ literals. done (record { atoms = b2.0; imports = b5.0; exports = exports; literals = literals })) t b5.2 in
     let b7 = bind_ok (exports_at b2.0 b6.0) (λ (exports : List Export). literals_in form.literals >>= λ literals. done (record { atoms = b2.0; imports = b5.0; exports = exports; literals = literals })) t b6.2 in
     let b8 = bind_ok (literals_in form.literals) (λ (literals : List TermValue). done (record { atoms = b2.0; imports = b5.0; exports = b7.0; literals = literals })) t b7.2 in
     let made : Tables = record { atoms = b2.0; imports = b5.0; exports = b7.0; literals = b8.0 } in
@@ -453,7 +453,7 @@ tables_told form t e =
 
 -- the tables that the chunks spell are read, where the code chunk is there
 pub tables_read : (form : Form) (t : Tables) (code : List ℕ) → AreTables form t → form.code ≡ Some code → tables_at form ≡ Ok t
-unfolding tables_at wanted
+unfolding tables_at required_chunk
 tables_read form t code are c =
     let a = is_there form.atoms (AreAtoms t.atoms) are.atoms in
     let i = is_there form.imports (IsTable (IsImport t.atoms) t.imports) are.imports in

@@ -2,7 +2,7 @@
 use Rattle.std.proofs.Common.{◌≡◌, ◌≤◌, ℕ, Bool, true, false, List, ◌∷◌, length, Ok, refl, arith, ap}
 use Rattle.std.specs.Str.{IsUtf8, is_utf8, chars}
 use Rattle.std.proofs.lemmas.Bool.{le-ltb}
-use Rattle.beam_model.specs.Tables.{text_of, atom_bytes}
+use Rattle.beam_model.specs.Tables.{utf8_text, atom_bytes}
 use Rattle.std.proofs.lemmas.Str.{IsUtf8-from_is_utf8, is_utf8-from_IsUtf8, encodes-chars, length-le-encodes}
 
 refuted : (b : Bool) → (b ≡ true → ⊥) → b ≡ false
@@ -23,5 +23,5 @@ pub ruleset texts = (same_text, is_no_text)
 
 -- an atom of at most 255 bytes can be written
 pub written : (text : List ℕ) → IsUtf8 text → length text ≤ 255 → atom_bytes text ≡ Ok (length text ∷ text)
-unfolding atom_bytes text_of
+unfolding atom_bytes utf8_text
 written text utf8 short = rw (le-ltb 255 (length text) short, same_text text utf8) refl

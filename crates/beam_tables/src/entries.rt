@@ -1,7 +1,7 @@
 //! The entries of a table, one after the other.
 
 ghost use Rattle.std.specs.Prelude.{◌≡◌};
-ghost use Rattle.beam_model.specs.Tables.{atom_of, entries_at, atom_at, import_at, export_at};
+ghost use Rattle.beam_model.specs.Tables.{atom_of_index, entries_at, table_atom_at, import_at, export_at};
 ghost use Rattle.beam_tables.specs.Readings.{Gives};
 
 use crate::error::TablesError;
@@ -17,7 +17,7 @@ pub(crate) fn atom_entries(
     count: u32,
     bytes: &[u8],
 ) -> Result<Vec<Atom>, TablesError>
-    ensures { Gives (λ v. v.items) result (entries_at atom_at count bytes.now) }
+    ensures { Gives (λ v. v.items) result (entries_at table_atom_at count bytes.now) }
 {
     let mut atoms = Vec::new(alloc);
     let mut rest = bytes;
@@ -30,9 +30,9 @@ pub(crate) fn atom_entries(
 }
 
 /// The atom of an index, shared.
-#[tactic(auto, unfolding(beam_model::specs::Tables::atom_of))]
+#[tactic(auto, unfolding(beam_model::specs::Tables::atom_of_index))]
 fn named(atoms: &AtomTable, index: u32) -> Result<Atom, TablesError>
-    ensures { Gives (λ a. a) result (atom_of atoms.now index) }
+    ensures { Gives (λ a. a) result (atom_of_index atoms.now index) }
 {
     let Some(atom) = atoms.get(index) else {
         return Err(TablesError::BadTable);

@@ -2,7 +2,7 @@
 
 ghost use Rattle.std.specs.Prelude.{◌≡◌, ◌≤◌, length, IfOk};
 ghost use Rattle.std.specs.Result.{IsOkUnless};
-ghost use Rattle.beam_model.specs.Tables.{number_at, text_of, atom_at, wanted};
+ghost use Rattle.beam_model.specs.Tables.{table_number_at, utf8_text, table_atom_at, required_chunk};
 ghost use Rattle.std.specs.Option.{option_copied};
 ghost use Rattle.beam_tables.specs.Readings.{Gives};
 
@@ -12,9 +12,9 @@ use byteorder::{BigEndian, ByteOrder};
 use std::alloc::Global;
 
 /// A number in four bytes, and the bytes after it.
-#[tactic(auto, unfolding(beam_model::specs::Tables::number_at))]
+#[tactic(auto, unfolding(beam_model::specs::Tables::table_number_at))]
 pub(crate) fn number(bytes: &[u8]) -> Result<(u32, &[u8]), TablesError>
-    ensures { Gives (λ r. (r.0, r.1.now)) result (number_at bytes.now) }
+    ensures { Gives (λ r. (r.0, r.1.now)) result (table_number_at bytes.now) }
 {
     if bytes.len() < 4 {
         return Err(TablesError::BadTable);
@@ -23,9 +23,9 @@ pub(crate) fn number(bytes: &[u8]) -> Result<(u32, &[u8]), TablesError>
 }
 
 /// Bytes that are UTF-8.
-#[tactic(auto, unfolding(beam_model::specs::Tables::text_of), using(crate::proofs::Texts::texts))]
+#[tactic(auto, unfolding(beam_model::specs::Tables::utf8_text), using(crate::proofs::Texts::texts))]
 fn text(bytes: &[u8]) -> Result<&str, TablesError>
-    ensures gives { Gives (λ r. r.now) result (text_of bytes.now) }
+    ensures gives { Gives (λ r. r.now) result (utf8_text bytes.now) }
     ensures same { IfOk result (λ t. t.now ≡ bytes.now) }
 {
     match str::from_utf8(bytes) {
@@ -48,9 +48,9 @@ fn atom_of_text(alloc: Global, text: &str) -> Result<Atom, TablesError>
 }
 
 /// An atom with its length, and the bytes after it.
-#[tactic(auto, unfolding(beam_model::specs::Tables::atom_at))]
+#[tactic(auto, unfolding(beam_model::specs::Tables::table_atom_at))]
 pub(crate) fn atom(alloc: Global, bytes: &[u8]) -> Result<(Atom, &[u8]), TablesError>
-    ensures { Gives (λ r. (r.0, r.1.now)) result (atom_at bytes.now) }
+    ensures { Gives (λ r. (r.0, r.1.now)) result (table_atom_at bytes.now) }
 {
     let Some((size, rest)) = bytes.split_first() else {
         return Err(TablesError::BadTable);
@@ -64,9 +64,9 @@ pub(crate) fn atom(alloc: Global, bytes: &[u8]) -> Result<(Atom, &[u8]), TablesE
 }
 
 /// A chunk that has to be there.
-#[tactic(auto, unfolding(beam_model::specs::Tables::wanted))]
+#[tactic(auto, unfolding(beam_model::specs::Tables::required_chunk))]
 pub(crate) fn present(chunk: Option<&[u8]>) -> Result<&[u8], TablesError>
-    ensures { Gives (λ r. r.now) result (wanted (option_copied chunk.entry)) }
+    ensures { Gives (λ r. r.now) result (required_chunk (option_copied chunk.entry)) }
 {
     match chunk {
         Some(bytes) => Ok(bytes),

@@ -37,7 +37,7 @@ pub(crate) fn put_count(out: &mut Vec<u8>, count: usize) -> Result<(), TablesErr
 }
 
 /// Adds an atom, after its length.
-#[tactic(auto, unfolding(beam_model::specs::Tables::atom_bytes, beam_model::specs::Tables::text_of), using(crate::proofs::Texts::texts))]
+#[tactic(auto, unfolding(beam_model::specs::Tables::atom_bytes, beam_model::specs::Tables::utf8_text), using(crate::proofs::Texts::texts))]
 pub(crate) fn put_atom(out: &mut Vec<u8>, atom: &Atom) -> Result<(), TablesError>
     ensures { Adds out.old.items out.new.items result (atom_bytes atom.now) }
 {

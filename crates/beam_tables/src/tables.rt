@@ -1,7 +1,7 @@
 //! The tables that instructions speak of by index.
 
 ghost use Rattle.std.specs.Prelude.{◌≡◌, ◌<◌, List, ℕ, MatchOption, Ok, Err, length};
-ghost use Rattle.beam_model.specs.Tables.{atom_of, bad_table};
+ghost use Rattle.beam_model.specs.Tables.{atom_of_index, bad_table};
 
 use beam_model::function::{Export, Import};
 use beam_term::{Atom, Term};
@@ -29,9 +29,9 @@ impl Model for AtomTable {
 
 impl AtomTable {
     /// The module's name, the first atom.
-    #[tactic(auto, unfolding(beam_model::specs::Tables::atom_of))]
+    #[tactic(auto, unfolding(beam_model::specs::Tables::atom_of_index))]
     pub fn module(&self) -> &Atom
-        ensures { atom_of self.now 1 ≡ Ok result.now }
+        ensures { atom_of_index self.now 1 ≡ Ok result.now }
     {
         &self.atoms[0]
     }
@@ -44,9 +44,9 @@ impl AtomTable {
     }
 
     /// The atom of an index, where there is one.
-    #[tactic(auto, unfolding(beam_model::specs::Tables::atom_of))]
+    #[tactic(auto, unfolding(beam_model::specs::Tables::atom_of_index))]
     pub fn get(&self, index: u32) -> Option<&Atom>
-        ensures { MatchOption result (atom_of self.now index ≡ Err bad_table) (λ a. atom_of self.now index ≡ Ok a.now) }
+        ensures { MatchOption result (atom_of_index self.now index ≡ Err bad_table) (λ a. atom_of_index self.now index ≡ Ok a.now) }
     {
         let index = index as usize;
         if index == 0 || self.atoms.len() < index {

@@ -78,12 +78,12 @@ impl Drop for Node {
 }
 
 impl Node {
-    ghost use Rattle.beam_term.specs.Term.{value_of};
+    ghost use Rattle.beam_term.specs.Term.{term_of_node};
 
     // The parts of a pair that nothing else owns, else the node itself.
     #[inline(always)]
     fn into_pair(self) -> Result<(Term, Term), Node>
-        ensures parts { IfOk result (λ p. value_of self ≡ pair_term p.0 p.1) }
+        ensures parts { IfOk result (λ p. term_of_node self ≡ pair_term p.0 p.1) }
         ensures whole { IfErr result (λ n. n ≡ self) }
     {
         match self {
@@ -107,9 +107,9 @@ impl Model for Term {
 
     ghost coded = { term_code };
 
-    ghost use Rattle.beam_term.specs.Term.{value_of, IsNode};
+    ghost use Rattle.beam_term.specs.Term.{term_of_node, IsNode};
 
-    ghost view = { λ t. value_of t.node };
+    ghost view = { λ t. term_of_node t.node };
 
     ghost invariant = { λ t. IsNode t.node };
 

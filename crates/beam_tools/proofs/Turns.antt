@@ -11,7 +11,7 @@ use Rattle.beam_machine.specs.declared.event.Then.TheVariants.{GoesOn, Waits, En
 use Rattle.beam_machine.specs.Next.{Answer, Next, Rows, next, next_steps, ran, ran_to, refused as refused_with, row, row_and, running, steps}
 use Rattle.beam_machine.specs.Process.{Process, is_waiting}
 use Rattle.beam_machine.specs.Ready.{next_deadline}
-use Rattle.beam_machine.specs.Run.{Answers, granted}
+use Rattle.beam_machine.specs.Run.{Answers, effective_rows}
 use Rattle.beam_machine.specs.State.{State, live_process, process_of}
 use Rattle.beam_tools.specs.declared.rounds.Outcome.{Outcome}
 use Rattle.beam_tools.specs.declared.rounds.Outcome.TheVariants.{Spent}
@@ -21,7 +21,7 @@ use Rattle.beam_tools.specs.Rounds.{IsWhole, onward, outcome_by, outcome_within,
 -- ---- rows
 
 -- rows that memory didn't stop stand in the list of events with the number that was asked for
-all_granted : (n count : ℕ) (after : Then) → IsWhole n (Ok (reply.Ran count after)) → granted n count after ≡ n
+all_granted : (n count : ℕ) (after : Then) → IsWhole n (Ok (reply.Ran count after)) → effective_rows n count after ≡ n
 all_granted n count GoesOn whole = grind (arith, nat_tests)
 all_granted n count Waits whole = refl
 all_granted n count (Ended reason value) whole = refl

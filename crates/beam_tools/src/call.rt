@@ -20,7 +20,7 @@ use crate::stop::Wrong;
 use beam_core::node::Core;
 use beam_erltext::{TextError, read_erl};
 use beam_image::Image;
-use beam_machine::event::{Event, Refused, Terms};
+use beam_machine::event::{Event, Refused, SpawnArguments};
 use beam_term::{Atom, AtomError, Term};
 use std::alloc::Global;
 
@@ -58,12 +58,12 @@ fn items_of(alloc: Global, text: &str) -> Result<Vec<Term>, NoElements>
     }
 }
 
-fn arguments_of<'a>(alloc: Global, call: &Call<'a>) -> Result<Terms, Fault<'a>>
+fn arguments_of<'a>(alloc: Global, call: &Call<'a>) -> Result<SpawnArguments, Fault<'a>>
     ensures list { IfOk result (λ xs. AreArguments call.now.arguments.now xs) }
     ensures fault { IfErr result (EntrySays (call_line call.now)) }
 {
     match items_of(alloc, call.arguments) {
-        Ok(items) => match Terms::new(items) {
+        Ok(items) => match SpawnArguments::new(items) {
             Some(arguments) => Ok(arguments),
             None => Err(Fault::Wrong(Wrong::NoList(call.arguments))),
         },

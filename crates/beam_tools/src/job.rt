@@ -15,7 +15,7 @@ use crate::program::Program;
 use crate::report::{is_verbose, tell_file};
 use crate::said::Said;
 use beam_image::Image;
-use beam_machine::event::{Event, Refused, Terms};
+use beam_machine::event::{Event, Refused, SpawnArguments};
 use beam_remote::Why;
 use beam_term::{Atom, AtomError};
 use itoa::Buffer;
@@ -163,7 +163,7 @@ pub fn start_event<'a>(alloc: Global, start: &Start<'_>) -> Result<Event<Image>,
 {
     let module = atom_of(alloc, start.module)?;
     let function = atom_of(alloc, start.function)?;
-    let Some(arguments) = Terms::new(Vec::new(alloc)) else {
+    let Some(arguments) = SpawnArguments::new(Vec::new(alloc)) else {
         return Err(JobFault::NoMemory);
     };
     Ok(Event::Spawn {

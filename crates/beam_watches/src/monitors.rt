@@ -6,8 +6,8 @@ ghost use Rattle.std.specs.Iterator.{at_most};
 ghost use Rattle.std.specs.Map.Iter.{TakesFirst, deref_pair};
 ghost use Rattle.beam_machine.specs.Process.{monitor_of, without_monitor};
 ghost use Rattle.beam_machine.specs.Row.{own_number};
-ghost use Rattle.beam_machine.specs.State.{watches};
-ghost use Rattle.beam_model.specs.Listing.{is_number};
+ghost use Rattle.beam_machine.specs.State.{monitors_process};
+ghost use Rattle.beam_model.specs.Listing.{is_this_number};
 ghost use Rattle.beam_watches.specs.Kept.{monitors_in, AreBelow};
 
 use crate::kept::Entries;
@@ -107,7 +107,7 @@ pub fn own_number(pid: &Term) -> Option<u32>
 
 /// Whether a pid names the process of this node of a number.
 pub fn is_pid_of(number: u32, pid: &Term) -> bool
-    ensures { result ≡ is_number number (own_number pid.now) }
+    ensures { result ≡ is_this_number number (own_number pid.now) }
 {
     match own_number(pid) {
         Some(own) => own == number,
@@ -187,7 +187,7 @@ impl Monitors {
 
     /// Whether a monitor watches the process of a number. It takes no memory.
     pub fn watches(&self, number: u32) -> bool
-        ensures { result ≡ list_any (watches number) self.now }
+        ensures { result ≡ list_any (monitors_process number) self.now }
     {
         for (_reference, pid) in self.iter() {
             if is_pid_of(number, pid) {

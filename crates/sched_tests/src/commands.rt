@@ -4,7 +4,7 @@ use beam_asm::{AsmError, assemble};
 use beam_image::Image;
 use beam_listing::{ListingError, read_listing};
 use beam_machine::debug::{DebugEvent, Spot, Version};
-use beam_machine::event::{Event, Images, Mode, Terms};
+use beam_machine::event::{Event, Images, Mode, SpawnArguments};
 use beam_queue::Queues;
 use beam_receipts::room::Room;
 use beam_sched::shared::Shared;
@@ -67,12 +67,12 @@ impl Argument {
     }
 }
 
-fn terms(alloc: Global, arguments: &[Argument]) -> Option<Terms> {
+fn terms(alloc: Global, arguments: &[Argument]) -> Option<SpawnArguments> {
     let mut terms = Vec::new(alloc);
     for argument in arguments {
         terms.push(argument.term(alloc)?).ok()?;
     }
-    Terms::new(terms)
+    SpawnArguments::new(terms)
 }
 
 /// The file of the listing in this text.

@@ -6,7 +6,7 @@ use crate::native::{elements_of, pid_term};
 use crate::story_code::image_of;
 use beam_erltext::read_erl;
 use beam_image::Image;
-use beam_machine::event::{Event, Images, Mode, Terms};
+use beam_machine::event::{Event, Images, Mode, SpawnArguments};
 use beam_term::{Atom, Term};
 use beam_tools::files::Files;
 use std::alloc::Global;
@@ -67,9 +67,9 @@ fn send(alloc: Global, words: Words<'_>) -> Result<Happening, RowError> {
     }
 }
 
-fn arguments(alloc: Global, text: &str) -> Result<Terms, RowError> {
+fn arguments(alloc: Global, text: &str) -> Result<SpawnArguments, RowError> {
     match elements_of(alloc, text) {
-        Ok(items) => match Terms::new(items) {
+        Ok(items) => match SpawnArguments::new(items) {
             Some(arguments) => Ok(arguments),
             None => Err(RowError::No("list of arguments")),
         },

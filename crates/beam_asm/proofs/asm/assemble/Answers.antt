@@ -1,7 +1,7 @@
 use Rattle.std.proofs.Common.{subst}
 use Rattle.std.specs.List.{All}
 use Rattle.beam_term.specs.TermValue.{IsTerm}
-use Rattle.beam_model.specs.Assembly.{numbering_of, spelled}
+use Rattle.beam_model.specs.Assembly.{numbering_of, without_line_numbers}
 use Rattle.beam_disasm.proofs.Files.{file_told}
 use Rattle.beam_asm.proofs.Canonical.{assembled}
 use Rattle.beam_asm.proofs.asm.assemble.Goals as goal
@@ -13,4 +13,4 @@ returns-clause-spells c =
     assembled l c.in_ok-bytes.bytes.items c.in_ok-check.ensures.loadable lawful c.in_ok-bytes.ensures.file
 
 pub returns-clause-stands : goal.returns-clause-stands
-returns-clause-stands c = file_told c.in_ok-bytes.bytes.items (spelled c.args.listing.now) (returns-clause-spells c)
+returns-clause-stands c = file_told c.in_ok-bytes.bytes.items (without_line_numbers c.args.listing.now) (returns-clause-spells c)

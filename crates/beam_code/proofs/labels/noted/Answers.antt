@@ -2,7 +2,7 @@ use Rattle.std.proofs.Common.{◌≡◌, ℕ, suc, ◌-◌, ◌<◌, ◌≤◌, 
 use Rattle.std.proofs.lemmas.Option.{get_or_from_slice_get}
 use Rattle.std.specs.Ordering.{nat_cmp}
 use Rattle.std.specs.BTreeMap.{get}
-use Rattle.beam_model.specs.Listing.{is_number, label_of}
+use Rattle.beam_model.specs.Listing.{is_this_number, label_of}
 use Rattle.beam_code.specs.Bytes.{byte_after}
 use Rattle.beam_code.proofs.Noted.{noted_more}
 use Rattle.beam_code.proofs.labels.noted.Goals as goal
@@ -23,7 +23,7 @@ loop-at-preserved c =
           let old = ap (λ (k : ℕ). byte_after label (drop k c.args.instructions.now) (drop 1 (drop k c.args.starts.now) ++ c.args.end ∷ [])) next in
           let after = ap (λ (k : ℕ). get_or c.args.starts.now k c.args.end) next in
           c.in_ok-note.ensures label
-          ∙ ap (λ (l : Option ℕ). cond (is_number label l) (Some c.loop-at.after) (get nat_cmp c.loop-at.bytes label)) c.label.ensures
-          ∙ ap₂ (λ (a : ℕ) (o : Option ℕ). cond (is_number label (label_of c.index-instructions-at.result)) (Some a) o) (inv.after ∙ sym after) (inv.noted label ∙ sym old)
+          ∙ ap (λ (l : Option ℕ). cond (is_this_number label l) (Some c.loop-at.after) (get nat_cmp c.loop-at.bytes label)) c.label.ensures
+          ∙ ap₂ (λ (a : ℕ) (o : Option ℕ). cond (is_this_number label (label_of c.index-instructions-at.result)) (Some a) o) (inv.after ∙ sym after) (inv.noted label ∙ sym old)
           ∙ sym more;
     }

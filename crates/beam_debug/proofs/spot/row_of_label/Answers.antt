@@ -1,7 +1,7 @@
 use Rattle.std.proofs.Common.{◌≡◌, ◌+◌, ◌≤◌, ◌<◌, true, false, length, sym, ◌∙◌, arith, rules}
 use Rattle.std.specs.Prelude.{Some, None}
 use Rattle.beam_model.specs.Fetch.{instruction_at}
-use Rattle.beam_model.specs.Listing.{is_number, label_of, next_at}
+use Rattle.beam_model.specs.Listing.{is_this_number, label_of, next_at}
 use Rattle.beam_debug.proofs.Named.{label_here, label_later, label_nowhere, next_above, at_within}
 use Rattle.beam_debug.proofs.spot.row_of_label.Goals as goal
 
@@ -10,7 +10,7 @@ returns-then-is_label_at c =
     let l = c.args.image.now in
     let at = c.loop-next.at in
     let there : next_at l at ≡ Some c.in-Some.next = search rules in
-    let found : is_number c.args.label (label_of (instruction_at l at)) ≡ true = sym c.is_label_at.ensures ∙ c.if-is_label_at.true in
+    let found : is_this_number c.args.label (label_of (instruction_at l at)) ≡ true = sym c.is_label_at.ensures ∙ c.if-is_label_at.true in
     sym (label_here l c.args.label at c.in-Some.next there found) ∙ c.loop-next.invariant
 
 pub overflow_add-at : goal.overflow_add-at
@@ -34,7 +34,7 @@ loop-next-preserved c =
     let l = c.args.image.now in
     let at = c.loop-next.at in
     let there : next_at l at ≡ Some c.in-Some.next = search rules in
-    let other : is_number c.args.label (label_of (instruction_at l at)) ≡ false = sym c.is_label_at.ensures ∙ c.if-is_label_at.false in
+    let other : is_this_number c.args.label (label_of (instruction_at l at)) ≡ false = sym c.is_label_at.ensures ∙ c.if-is_label_at.false in
     sym (label_later l c.args.label at c.in-Some.next there other) ∙ c.loop-next.invariant
 
 pub returns : goal.returns

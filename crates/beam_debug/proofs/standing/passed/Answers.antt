@@ -1,6 +1,6 @@
 use Rattle.std.proofs.Common.{◌≡◌, ◌+◌, ◌-◌, ◌≤◌, take, sym, ap, ◌∙◌, arith, rules}
 use Rattle.std.specs.Prelude.{slice_get}
-use Rattle.beam_machine.specs.View.{passed}
+use Rattle.beam_machine.specs.View.{last_label}
 use Rattle.beam_debug.specs.declared.passing.Passing.TheVariants.{Label, Rows}
 use Rattle.beam_debug.specs.Passing.{passing_at}
 use Rattle.beam_debug.proofs.Backwards.{none_passed, with_rows, label_found, rows_found, none_left}
@@ -13,7 +13,7 @@ returns-in-Label c =
     let there : passing_at (slice_get code (l.left - 1)) ≡ Label c.in-Label.label = search rules in
     let one : (l.left - 1) + 1 ≡ l.left = omega arith in
     sym (label_found l.rows (l.left - 1) c.in-Label.label code there)
-    ∙ (ap (λ k. with_rows l.rows (passed none_passed (take k code))) one ∙ l.invariant.so_far)
+    ∙ (ap (λ k. with_rows l.rows (last_label none_passed (take k code))) one ∙ l.invariant.so_far)
 
 pub overflow_add-rows : goal.overflow_add-rows
 overflow_add-rows c =
@@ -29,7 +29,7 @@ loop-left-preserved c =
     let there : passing_at (slice_get code (l.left - 1)) ≡ Rows more = search rules in
     let one : (l.left - 1) + 1 ≡ l.left = omega arith in
     record {
-      so_far = sym (rows_found l.rows (l.left - 1) more code there) ∙ (ap (λ k. with_rows l.rows (passed none_passed (take k code))) one ∙ l.invariant.so_far);
+      so_far = sym (rows_found l.rows (l.left - 1) more code there) ∙ (ap (λ k. with_rows l.rows (last_label none_passed (take k code))) one ∙ l.invariant.so_far);
       count = omega arith;
     }
 

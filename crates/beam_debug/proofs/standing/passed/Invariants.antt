@@ -1,11 +1,11 @@
 use Rattle.std.proofs.Common.{◌≡◌, ◌+◌, ◌≤◌, take}
-use Rattle.beam_machine.specs.View.{passed}
+use Rattle.beam_machine.specs.View.{last_label}
 use Rattle.beam_debug.proofs.Backwards.{none_passed, with_rows}
 use Rattle.beam_debug.proofs.standing.passed.Given as goal
 
 abbrev pub invariant-loop-left : goal.invariant-loop-left
 invariant-loop-left l = record {
-  so_far : with_rows l.rows (passed none_passed (take l.left l.image.instructions)) ≡ passed none_passed (take l.at l.image.instructions);
+  so_far : with_rows l.rows (last_label none_passed (take l.left l.image.instructions)) ≡ last_label none_passed (take l.at l.image.instructions);
   count : l.rows + l.left ≤ l.at;
 }
 

@@ -2,7 +2,7 @@ use Rattle.std.proofs.Common.{◌<◌, length, arith}
 use Rattle.std.proofs.lemmas.Result.{err_from_is_err_and}
 use Rattle.beam_model.specs.Form.{empty_form, Chunk, with_chunks}
 use Rattle.beam_iff.specs.Chunks.{form_of}
-use Rattle.beam_model.specs.FormLaws.{chunk_takes, goes_on, is_done}
+use Rattle.beam_model.specs.FormLaws.{chunk_takes, after_chunk, is_done}
 use Rattle.beam_iff.proofs.Loop.{ends_at_chunk, ends_in_chunk}
 use Rattle.beam_iff.proofs.read.all_chunks.Goals as goal
 
@@ -26,7 +26,7 @@ loop-rest-smaller c =
 pub loop-rest-preserved : goal.loop-rest-preserved
 loop-rest-preserved c =
     let chunk : Chunk = record { name = c.in_ok-name.name.now; content = c.in_ok-name.content.now } in
-    goes_on c.loop-rest.invariant.0 (form_of c.loop-rest.chunks) (form_of c.in_ok-chunks.chunks) c.loop-rest.rest.now c.in_ok-name.behind.now chunk (with_chunks (length c.args.bytes.now) empty_form c.args.bytes.now) c.in_ok-name.ensures c.in_ok-chunks.ensures c.loop-rest.invariant.1 c.loop-rest.invariant.2
+    after_chunk c.loop-rest.invariant.0 (form_of c.loop-rest.chunks) (form_of c.in_ok-chunks.chunks) c.loop-rest.rest.now c.in_ok-name.behind.now chunk (with_chunks (length c.args.bytes.now) empty_form c.args.bytes.now) c.in_ok-name.ensures c.in_ok-chunks.ensures c.loop-rest.invariant.1 c.loop-rest.invariant.2
 
 pub returns : goal.returns
 returns c =

@@ -4,7 +4,7 @@ use Rattle.indexmap.specs.IndexMap.{get}
 use Rattle.beam_model.specs.declared.function.Function.{Function}
 use Rattle.beam_model.specs.declared.function.Signature.{Signature}
 use Rattle.beam_model.specs.Loadable.{same_signature}
-use Rattle.beam_model.specs.ListingReading.{entry_in}
+use Rattle.beam_model.specs.ListingReading.{entry_label_of}
 use Rattle.beam_listing.proofs.entries.entries.Given as goal
 
 abbrev pub decreases-loop-function : goal.decreases-loop-function
@@ -12,4 +12,4 @@ decreases-loop-function l = length l.rest
 
 -- the functions after the remaining ones have their entries
 abbrev pub invariant-loop-function : goal.invariant-loop-function
-invariant-loop-function l = (done : List Function) × (l.functions ≡ l.rest ++ done) × ((s : Signature) → unwrap_or (get same_signature l.entries s) 0 ≡ entry_in done s)
+invariant-loop-function l = (done : List Function) × (l.functions ≡ l.rest ++ done) × ((s : Signature) → unwrap_or (get same_signature l.entries s) 0 ≡ entry_label_of done s)

@@ -1,13 +1,13 @@
 use Rattle.std.proofs.Common.{◌≡◌, ℕ, false, List, [], ◌∷◌, ◌++◌, length, Some, refl, rules}
 use Rattle.std.specs.Prelude.{◌==◌}
 use Rattle.beam_model.specs.declared.opcode.Opcode.{Opcode}
-use Rattle.beam_model.specs.ListingForms.{written, is_bif, counted, bif_by}
+use Rattle.beam_model.specs.ListingForms.{instruction_of_parts, is_bif_shape, counted, bif_by}
 use Rattle.beam_model.specs.ListingShapes.{shape_of}
 use Rattle.beam_listing.proofs.instruction.bif_by.Goals as goal
 
 -- with arguments
 by_opcode : (name fail : List ℕ) (parts : List (List ℕ)) (dest : List ℕ) (o : Opcode) → (length parts == 0) ≡ false → counted 9 (length parts) ≡ Some o
-    → bif_by name fail parts dest ≡ written (is_bif (shape_of o)) o ((fail ∷ name ∷ []) ++ parts ++ dest ∷ [])
+    → bif_by name fail parts dest ≡ instruction_of_parts (is_bif_shape (shape_of o)) o ((fail ∷ name ∷ []) ++ parts ++ dest ∷ [])
 unfolding bif_by
 by_opcode name fail [] dest o some e = absurd cc
 by_opcode name fail (part ∷ parts) dest o some e = rw e refl

@@ -1,6 +1,6 @@
 use Rattle.std.proofs.Common.{◌≡◌, ◌+◌, ◌*◌, drop}
 use Rattle.std.specs.List.{list_all}
-use Rattle.beam_model.specs.ListingReading.{is_loose}
+use Rattle.beam_model.specs.ListingReading.{is_partial_term}
 use Rattle.beam_listing.proofs.loose.+loose.Given as goal
 
 abbrev pub decreases-is_loose : goal.decreases-is_loose
@@ -19,4 +19,4 @@ abbrev pub decreases-are_loose : goal.decreases-are_loose
 decreases-are_loose l = 4 * l.levels + 1
 
 abbrev pub invariant-are_loose-loop-part : goal.invariant-are_loose-loop-part
-invariant-are_loose-loop-part l = list_all (is_loose l.levels) (drop l.part-index l.parts) ≡ list_all (is_loose l.levels) l.parts
+invariant-are_loose-loop-part l = list_all (is_partial_term l.levels) (drop l.part-index l.parts) ≡ list_all (is_partial_term l.levels) l.parts

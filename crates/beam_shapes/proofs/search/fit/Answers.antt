@@ -2,7 +2,7 @@ use Rattle.std.proofs.Common.{◌≡◌, ◌∙◌, ℕ, true, sym, subst, ap}
 use Rattle.std.proofs.lemmas.Result.{err_from_is_err_and}
 use Rattle.beam_model.specs.declared.instruction.Instruction.{Instruction}
 use Rattle.beam_model.specs.Listing.{next_row}
-use Rattle.beam_model.specs.Framed.{Shape, Assignment, targets, goes_on, leads, fits, may_have, row_at}
+use Rattle.beam_model.specs.Framed.{Shape, Assignment, targets, may_fall_through, leads, fits, may_have, row_at}
 use Rattle.beam_shapes.specs.Forced.{assigned, MayGo, Flows, Forces, Fails}
 use Rattle.beam_shapes.specs.Shown.{shown}
 use Rattle.beam_shapes.specs.Trees.{Parts}
@@ -16,7 +16,7 @@ lead-requires-clause-shape c = (shape_stays c.args.known.now.parts c.left.new.se
 
 pub next_row-requires : goal.next_row-requires
 next_row-requires c =
-    on_within c.args.code.now c.args.at (ap goes_on (sym c.row_at-instruction.ensures) ∙ (sym c.goes_on.ensures ∙ c.if-goes_on.true))
+    on_within c.args.code.now c.args.at (ap may_fall_through (sym c.row_at-instruction.ensures) ∙ (sym c.goes_on.ensures ∙ c.if-goes_on.true))
 
 pub returns-in_err-left-clause-does : goal.returns-in_err-left-clause-does
 returns-in_err-left-clause-does c =

@@ -4,7 +4,7 @@ use Rattle.std.proofs.lemmas.Int.{to_z_pos}
 use Rattle.beam_term.specs.TermValue.{int_term}
 use Rattle.beam_model.specs.declared.instruction.Argument.TheVariants as argument
 use Rattle.beam_model.specs.declared.compact.CompactTag.TheVariants as tag
-use Rattle.beam_model.specs.Compact.{atom_of}
+use Rattle.beam_model.specs.Compact.{atom_or_nil}
 use Rattle.beam_code.specs.Operands.{meant_in}
 use Rattle.beam_code.proofs.Lent.{lendable}
 use Rattle.beam_code.proofs.Short.{wide_argument, wide_here, wide_meant}
@@ -17,7 +17,7 @@ pub atom-requires : goal.atom-requires
 atom-requires c =
     let fits = subst (λ (n : ℕ). n < 2 ^ 32) c.two_bytes-number.ensures c.two_bytes-number.type_inv in
     let wide = wide_here c.args.self.now c.args.at tag.Atom (lit< tt) c.rest.result.now c.rest.ensures.rest c.in-len2-up.len_at_least c.in-10.is fits c.requires in
-    subst (λ (n : ℕ). IsSome (meant_in c.args.self.now (atom_of n))) (sym c.two_bytes-number.ensures) (wide_meant c.args.self.now c.args.at _ _ _ tag.Atom wide c.requires)
+    subst (λ (n : ℕ). IsSome (meant_in c.args.self.now (atom_or_nil n))) (sym c.two_bytes-number.ensures) (wide_meant c.args.self.now c.args.at _ _ _ tag.Atom wide c.requires)
 
 pub returns-in-8-clause-is : goal.returns-in-8-clause-is
 returns-in-8-clause-is c =
@@ -39,7 +39,7 @@ returns-in-10-clause-is c =
     let fits = subst (λ (n : ℕ). n < 2 ^ 32) c.two_bytes-number.ensures c.two_bytes-number.type_inv in
     let wide = wide_here c.args.self.now c.args.at tag.Atom (lit< tt) c.rest.result.now c.rest.ensures.rest c.in-len2-up.len_at_least c.in-10.is fits c.requires in
     wide_argument c.args.self.now c.args.at _ _ _ tag.Atom wide
-    ∙ ap (λ (n : ℕ). option_map (λ a. (a, c.args.at + 2)) (meant_in c.args.self.now (atom_of n))) (sym c.two_bytes-number.ensures)
+    ∙ ap (λ (n : ℕ). option_map (λ a. (a, c.args.at + 2)) (meant_in c.args.self.now (atom_or_nil n))) (sym c.two_bytes-number.ensures)
     ∙ ap (option_map (λ a. (a, c.args.at + 2))) c.atom.ensures.is
 
 pub returns-in-11-clause-is : goal.returns-in-11-clause-is

@@ -6,7 +6,7 @@ use Rattle.beam_model.specs.Listing.{Listing}
 use Rattle.beam_machine.specs.Debug.{Debugged, DebugAnswer, DebugRun, debug_run}
 use Rattle.beam_laws.proofs.Debugging.{run_erased}
 use Rattle.beam_debug.specs.Answers.{answer_of}
-use Rattle.beam_machine.specs.DebugRun.{debug_cuts, debug_told}
+use Rattle.beam_machine.specs.DebugRun.{effective_debug_events, effective_debug_answers}
 use Rattle.beam_debug.specs.Each.{LacksMemory}
 use Rattle.beam_debug.specs.Loud.{DebugLoudly}
 use Rattle.beam_debug.proofs.Runs.{each_more, run_more, map_push}
@@ -26,7 +26,7 @@ loop-event-preserved c =
     take_more events at event within ∙ ap (λ (e : TheEvent Listing). take at events ++ e ∷ []) (sym c.event-item.is) in
     let each : length (map answer_of answers) ≡ length (take at events) = omega (arith, length-map answers answer_of, length-take-le at events (omega arith), c.loop-event.invariant.each) in
     let longer : length c.push.new.self.items ≡ length answers + 1 = ap length pushed ∙ length_push answers answer in
-    let so_far : (debug_run c.args.self.now.state (debug_cuts (take at events) (map answer_of answers))).state ≡ c.loop-event.self.state = ap (λ (r : DebugRun). r.state) c.loop-event.invariant.run in
+    let so_far : (debug_run c.args.self.now.state (effective_debug_events (take at events) (map answer_of answers))).state ≡ c.loop-event.self.state = ap (λ (r : DebugRun). r.state) c.loop-event.invariant.run in
     record {
       each = omega (arith, longer, c.loop-event.invariant.each);
       room = omega (arith, c.push.ensures.capacity, c.loop-event.invariant.room);
@@ -42,6 +42,6 @@ returns-clause-node c =
     let events : List (TheEvent Listing) = c.args.events.now in
     let answers : List DebugAnswer = map answer_of c.loop-event.answers.items in
     let all : take c.loop-event.event-index events ≡ events = take_all c.loop-event.event-index events c.loop-event-test.false in
-    let done : debug_run d (debug_cuts events answers) ≡ record { answers = debug_told answers; state = c.loop-event.self.state } =
-    ap (λ (es : List (TheEvent Listing)). debug_run d (debug_cuts es answers)) (sym all) ∙ c.loop-event.invariant.run in
-    run_erased d (debug_cuts events answers) ∙ ap (λ (r : DebugRun). r.state.node) done
+    let done : debug_run d (effective_debug_events events answers) ≡ record { answers = effective_debug_answers answers; state = c.loop-event.self.state } =
+    ap (λ (es : List (TheEvent Listing)). debug_run d (effective_debug_events es answers)) (sym all) ∙ c.loop-event.invariant.run in
+    run_erased d (effective_debug_events events answers) ∙ ap (λ (r : DebugRun). r.state.node) done

@@ -5,15 +5,15 @@ use Rattle.beam_machine.specs.Debug.{debug_run}
 use Rattle.beam_debug.specs.Answers.{answer_of}
 use Rattle.beam_debug.specs.Each.{Each, LacksMemory}
 use Rattle.beam_debug.specs.Loud.{DebugLoudly}
-use Rattle.beam_machine.specs.DebugRun.{debug_cuts, debug_told}
+use Rattle.beam_machine.specs.DebugRun.{effective_debug_events, effective_debug_answers}
 use Rattle.beam_debug.proofs.debugger.Debugger.run.Given as goal
 
 abbrev pub invariant-loop-event : goal.invariant-loop-event
 invariant-loop-event l = record {
   each : length l.answers.items ≡ l.event-index;
   room : length l.events ≤ vec_capacity l.answers;
-  run : debug_run l.fn.self.state (debug_cuts (take l.event-index l.events) (map answer_of l.answers.items))
-      ≡ record { answers = debug_told (map answer_of l.answers.items); state = l.self.state };
+  run : debug_run l.fn.self.state (effective_debug_events (take l.event-index l.events) (map answer_of l.answers.items))
+      ≡ record { answers = effective_debug_answers (map answer_of l.answers.items); state = l.self.state };
   held : l.fn.self.room ≤ l.self.room;
   loud : Each DebugLoudly l.fn.self.state (take l.event-index l.events) (map answer_of l.answers.items);
   memory : Each LacksMemory l.fn.self.state (take l.event-index l.events) (map answer_of l.answers.items);

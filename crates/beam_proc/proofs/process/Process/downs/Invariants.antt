@@ -1,6 +1,6 @@
 use Rattle.std.proofs.Common.{◌≡◌, ◌++◌, true, map}
 use Rattle.std.specs.List.{list_any}
-use Rattle.beam_machine.specs.State.{watches, downs}
+use Rattle.beam_machine.specs.State.{monitors_process, downs}
 use Rattle.beam_watches.specs.Kept.{monitors_in}
 use Rattle.beam_proc.proofs.process.Process.downs.Given as goal
 
@@ -8,5 +8,5 @@ abbrev pub invariant-loop-reference : goal.invariant-loop-reference
 invariant-loop-reference l = record {
   so_far : l.sent.items ++ map (λ signal. record { to = l.fn.self.pid; signal = signal }) (downs l.fn.number l.fn.reason (monitors_in l.reference-iterator))
       ≡ l.fn.sent.items ++ map (λ signal. record { to = l.fn.self.pid; signal = signal }) (downs l.fn.number l.fn.reason l.fn.self.monitors);
-  some : list_any (watches l.fn.number) (monitors_in l.reference-iterator) ≡ true → list_any (watches l.fn.number) l.fn.self.monitors ≡ true;
+  some : list_any (monitors_process l.fn.number) (monitors_in l.reference-iterator) ≡ true → list_any (monitors_process l.fn.number) l.fn.self.monitors ≡ true;
 }

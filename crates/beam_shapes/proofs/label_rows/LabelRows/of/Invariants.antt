@@ -1,7 +1,7 @@
 use Rattle.std.proofs.Common.{◌≡◌, ◌+◌, drop}
-use Rattle.beam_model.specs.Listing.{passed}
+use Rattle.beam_model.specs.Listing.{gap_before_row}
 use Rattle.beam_shapes.specs.Tabled.{HasRows}
 use Rattle.beam_shapes.proofs.label_rows.LabelRows.of.Given as goal
 
 abbrev pub invariant-loop-at : goal.invariant-loop-at
-invariant-loop-at l = (l.row ≡ l.at + passed (drop l.at l.instructions)) × HasRows l.at (drop l.at l.instructions) l.rows
+invariant-loop-at l = (l.row ≡ l.at + gap_before_row (drop l.at l.instructions)) × HasRows l.at (drop l.at l.instructions) l.rows

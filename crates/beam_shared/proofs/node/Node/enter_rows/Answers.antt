@@ -3,7 +3,7 @@ use Rattle.std.specs.Prelude.{is_some}
 use Rattle.beam_machine.specs.declared.debug.DebugEvent.TheVariants.{Node as NodeEvent}
 use Rattle.beam_machine.specs.declared.event.Event.TheVariants.{Steps}
 use Rattle.beam_machine.specs.Debug.{DebugNext, debug_next}
-use Rattle.beam_machine.specs.DebugRun.{debug_after, debug_cut}
+use Rattle.beam_machine.specs.DebugRun.{debug_after, debug_cut_event}
 use Rattle.beam_machine.specs.Journal.{replay}
 use Rattle.beam_debug.specs.Answers.{said}
 use Rattle.beam_debug.specs.Installing.{AreSlices}
@@ -44,7 +44,7 @@ enter_alone-requires-clause-accepted g c =
     let slices : AreSlices i.debugger.state pid rows = subst (λ (n : Node). AreSlices n.state pid rows) (sym c.self.view_is) c.requires.rows in
     let says : (debug_next i.debugger.state (event_of pid rows)).answer ≡ Ok reply = ap (λ (n : DebugNext). n.answer) c.in-Ok.ensures.next in
     subst (λ n. Accepts (replay i.journal.entries) (NodeEvent (Steps pid n)) reply) (sym c.rows_asked-asked.ensures)
-    (ap (λ d. (debug_next d (debug_cut (event_of pid rows) (Ok reply))).answer) c.self.invariant.0.replays
+    (ap (λ d. (debug_next d (debug_cut_event (event_of pid rows) (Ok reply))).answer) c.self.invariant.0.replays
     ∙ (ap (λ e. (debug_next i.debugger.state e).answer) (not_cut i.debugger.state pid rows reply slices says) ∙ says))
 
 pub invariant_of-self-in-Ok : goal.invariant_of-self-in-Ok

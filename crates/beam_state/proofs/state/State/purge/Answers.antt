@@ -1,6 +1,6 @@
 use Rattle.std.proofs.Common.{◌≡◌, true, not, refl, ap, subst}
 use Rattle.beam_machine.specs.declared.event.Event.TheVariants as event
-use Rattle.beam_machine.specs.Quiet.{ends_watched}
+use Rattle.beam_machine.specs.Quiet.{ends_monitored}
 use Rattle.beam_machine.specs.State.{State}
 use Rattle.beam_state.specs.Parts.{Parts, node, parts}
 use Rattle.beam_state.proofs.Kept.{stays_lawful}
@@ -14,7 +14,7 @@ invariant_of-self c =
 
 pub returns-clause-memory : goal.returns-clause-memory
 returns-clause-memory c = λ e. (
-  ap not (subst (λ (s : Parts). ends_watched (node c.args.code.now s) c.args.name.now ≡ true) c.self.view_is
+  ap not (subst (λ (s : Parts). ends_monitored (node c.args.code.now s) c.args.name.now ≡ true) c.self.view_is
       (c.purge.ensures.memory c.self.inside.clock c.self.inside.instances c.self.inside.references e)),
   refl,
 )
