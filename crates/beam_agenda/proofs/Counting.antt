@@ -8,12 +8,12 @@ use Rattle.std.specs.List.{count_by}
 use Rattle.std.specs.Prelude.{Some, None, option_map}
 use Rattle.beam_agenda.specs.declared.flags.Above.{Above}
 use Rattle.beam_agenda.specs.declared.flags.Above.TheVariants.{Top, Level}
-use Rattle.beam_agenda.specs.FlagLevels.{Stands}
+use Rattle.beam_agenda.specs.FlagLevels.{LevelsAgree}
 use Rattle.beam_agenda.specs.FlagSizes.{length-groups}
 use Rattle.beam_agenda.specs.Groups.{is_set, groups, all_groups}
-use Rattle.beam_agenda.specs.Places.{first_place, place_from}
-use Rattle.beam_agenda.proofs.Groups.{one_if, set_false, group_small, group_has, groups-set, groups-set_same, groups-append, groups-more, in_group, place_by_groups}
-use Rattle.beam_agenda.proofs.Places.{place_here, place_later, place_past, place_near, place_far}
+use Rattle.beam_agenda.specs.Positions.{first_position, position_from}
+use Rattle.beam_agenda.proofs.Groups.{one_if, set_false, group_small, group_has, groups-set, groups-set_same, groups-append, groups-more, in_group, position_by_groups}
+use Rattle.beam_agenda.proofs.Positions.{position_here, position_later, position_past, position_near, position_far}
 use mathlib.Core.Bool.{beq, not}
 
 -- the list above a list of more than one group
@@ -68,9 +68,9 @@ count_small ns above g n h e = omega (arith, count_got ns above g n h e, group_s
 pub count_has : (ns above : List ℕ) (i n : ℕ) → i < length ns → is_set (get_or ns i 0) ≡ true → above ≡ all_groups ns → Some n ≡ slice_get above (i / 16) → 1 ≤ n
 count_has ns above i n l s h e = omega (arith, count_got ns above (i / 16) n h e, group_has ((length ns + 15) / 16) ns i l (omega arith), ap one_if s)
 
-pub stands_same : (ns : List ℕ) (above : Above) (i n : ℕ) → i < length ns → is_set (get_or ns i 0) ≡ is_set n → Stands ns above → Stands (set ns i n) above
-stands_same ns Top i n l e h = omega (arith, length-set ns i n)
-stands_same ns (Level above) i n l e h = (
+pub levels_same : (ns : List ℕ) (above : Above) (i n : ℕ) → i < length ns → is_set (get_or ns i 0) ≡ is_set n → LevelsAgree ns above → LevelsAgree (set ns i n) above
+levels_same ns Top i n l e h = omega (arith, length-set ns i n)
+levels_same ns (Level above) i n l e h = (
   omega (arith, h.0, length-set ns i n),
   h.1 ∙ (sym (groups-set_same ((length ns + 15) / 16) ns i n l (omega arith) e) ∙ ap (λ m. groups ((m + 15) / 16) (set ns i n)) (sym (length-set ns i n))),
 )
@@ -127,53 +127,53 @@ add_within ns above h part = (
   h.1 ∙ sym (all_groups-append ns ((length ns + 15) / 16) (omega arith)),
 )
 
-pub stands_as : (ns now : List ℕ) (above top : Above) → now ≡ ns → top ≡ above → Stands ns above → Stands now top
-stands_as ns now above top e a h = subst (λ ns. Stands ns top) (sym e) (subst (Stands ns) (sym a) h)
+pub levels_as : (ns now : List ℕ) (above top : Above) → now ≡ ns → top ≡ above → LevelsAgree ns above → LevelsAgree now top
+levels_as ns now above top e a h = subst (λ ns. LevelsAgree ns top) (sym e) (subst (LevelsAgree ns) (sym a) h)
 
 -- ---- the first of a group
 
 number_there : (m at : ℕ) (ns : List ℕ) → at < m → at < length ns → slice_get (take m ns) at ≡ Some (get_or ns at 0)
 number_there m at ns b l = slice_get-get_or (take m ns) at 0 (omega (arith, length-take m ns)) ∙ ap Some (get_or-take m ns at 0 b)
 
-pub found : (m at : ℕ) (ns : List ℕ) → at < m → at < length ns → (get_or ns at 0 ≡ 0 → ⊥) → Some at ≡ place_from is_set at (take m ns)
-found m at ns b l h = place_here is_set at (take m ns) (get_or ns at 0) (number_there m at ns b l) (is (is_set (get_or ns at 0)) refl)
+pub found : (m at : ℕ) (ns : List ℕ) → at < m → at < length ns → (get_or ns at 0 ≡ 0 → ⊥) → Some at ≡ position_from is_set at (take m ns)
+found m at ns b l h = position_here is_set at (take m ns) (get_or ns at 0) (number_there m at ns b l) (is (is_set (get_or ns at 0)) refl)
   where
     is : (t : Bool) → is_set (get_or ns at 0) ≡ t → is_set (get_or ns at 0) ≡ true
     is true e = e
     is false e = absurd (h (set_false (get_or ns at 0) e))
 
-pub passed : (m at : ℕ) (ns : List ℕ) → at < m → at < length ns → get_or ns at 0 ≡ 0 → place_from is_set (at + 1) (take m ns) ≡ place_from is_set at (take m ns)
+pub passed : (m at : ℕ) (ns : List ℕ) → at < m → at < length ns → get_or ns at 0 ≡ 0 → position_from is_set (at + 1) (take m ns) ≡ position_from is_set at (take m ns)
 passed m at ns b l h =
     let next : at + 1 ≡ suc at = omega arith in
-    ap (λ at. place_from is_set at (take m ns)) next ∙ sym (place_later is_set at (take m ns) (get_or ns at 0) (number_there m at ns b l) (ap is_set h))
+    ap (λ at. position_from is_set at (take m ns)) next ∙ sym (position_later is_set at (take m ns) (get_or ns at 0) (number_there m at ns b l) (ap is_set h))
 
-pub ended : (m at : ℕ) (ns : List ℕ) → length (take m ns) ≤ at → None ≡ place_from is_set at (take m ns)
-ended m at ns h = place_past is_set at (take m ns) (slice_get_past (take m ns) at h)
+pub ended : (m at : ℕ) (ns : List ℕ) → length (take m ns) ≤ at → None ≡ position_from is_set at (take m ns)
+ended m at ns h = position_past is_set at (take m ns) (slice_get_past (take m ns) at h)
 
 -- ---- the first of all
 
-pub first_same_group : (from at : ℕ) (ns : List ℕ) → Some at ≡ place_from is_set from (take (16 * (from / 16) + 16) ns) → Some at ≡ place_from is_set from ns
+pub first_same_group : (from at : ℕ) (ns : List ℕ) → Some at ≡ position_from is_set from (take (16 * (from / 16) + 16) ns) → Some at ≡ position_from is_set from ns
 first_same_group from at ns h =
     let j : ℕ = 16 * (from / 16) + 16 - from in
     let end : 16 * (from / 16) + 16 ≡ from + j = omega arith in
-    place_near is_set from j ns at (h ∙ ap (λ m. place_from is_set from (take m ns)) end)
+    position_near is_set from j ns at (h ∙ ap (λ m. position_from is_set from (take m ns)) end)
 
-later_groups : (from : ℕ) (ns : List ℕ) → None ≡ place_from is_set from (take (16 * (from / 16) + 16) ns) → place_from is_set from ns ≡ in_group ns (place_from is_set (from / 16 + 1) (all_groups ns))
+later_groups : (from : ℕ) (ns : List ℕ) → None ≡ position_from is_set from (take (16 * (from / 16) + 16) ns) → position_from is_set from ns ≡ in_group ns (position_from is_set (from / 16 + 1) (all_groups ns))
 later_groups from ns h =
     let j : ℕ = 16 * (from / 16) + 16 - from in
     let end : 16 * (from / 16) + 16 ≡ from + j = omega arith in
     let next : from + j ≡ 16 * (from / 16 + 1) = omega arith in
-    place_far is_set from j ns (h ∙ ap (λ m. place_from is_set from (take m ns)) end)
-    ∙ (ap (λ from. place_from is_set from ns) next ∙ place_by_groups (from / 16 + 1) ((length ns + 15) / 16) ns (omega arith))
+    position_far is_set from j ns (h ∙ ap (λ m. position_from is_set from (take m ns)) end)
+    ∙ (ap (λ from. position_from is_set from ns) next ∙ position_by_groups (from / 16 + 1) ((length ns + 15) / 16) ns (omega arith))
 
-pub no_later_group : (from : ℕ) (ns above : List ℕ) → None ≡ place_from is_set from (take (16 * (from / 16) + 16) ns) → above ≡ all_groups ns → None ≡ place_from is_set (from / 16 + 1) above
-    → None ≡ place_from is_set from ns
-no_later_group from ns above h e f = ap (in_group ns) (f ∙ ap (place_from is_set (from / 16 + 1)) e) ∙ sym (later_groups from ns h)
+pub no_later_group : (from : ℕ) (ns above : List ℕ) → None ≡ position_from is_set from (take (16 * (from / 16) + 16) ns) → above ≡ all_groups ns → None ≡ position_from is_set (from / 16 + 1) above
+    → None ≡ position_from is_set from ns
+no_later_group from ns above h e f = ap (in_group ns) (f ∙ ap (position_from is_set (from / 16 + 1)) e) ∙ sym (later_groups from ns h)
 
-pub first_later_group : (from g : ℕ) (ns above : List ℕ) → None ≡ place_from is_set from (take (16 * (from / 16) + 16) ns) → above ≡ all_groups ns → Some g ≡ place_from is_set (from / 16 + 1) above
-    → place_from is_set (16 * g) (take (16 * (16 * g / 16) + 16) ns) ≡ place_from is_set from ns
+pub first_later_group : (from g : ℕ) (ns above : List ℕ) → None ≡ position_from is_set from (take (16 * (from / 16) + 16) ns) → above ≡ all_groups ns → Some g ≡ position_from is_set (from / 16 + 1) above
+    → position_from is_set (16 * g) (take (16 * (16 * g / 16) + 16) ns) ≡ position_from is_set from ns
 first_later_group from g ns above h e f =
     let same : 16 * (16 * g / 16) + 16 ≡ 16 * g + 16 = omega arith in
-    ap (λ m. place_from is_set (16 * g) (take m ns)) same
-    ∙ (ap (λ ns. option_map (λ n. 16 * g + n) (first_place is_set ns)) (drop-take (16 * g) 16 ns)
-    ∙ (ap (in_group ns) (f ∙ ap (place_from is_set (from / 16 + 1)) e) ∙ sym (later_groups from ns h)))
+    ap (λ m. position_from is_set (16 * g) (take m ns)) same
+    ∙ (ap (λ ns. option_map (λ n. 16 * g + n) (first_position is_set ns)) (drop-take (16 * g) 16 ns)
+    ∙ (ap (in_group ns) (f ∙ ap (position_from is_set (from / 16 + 1)) e) ∙ sym (later_groups from ns h)))

@@ -2,20 +2,20 @@
 use Rattle.std.proofs.Common.{◌≡◌, ℕ, zero, suc, ◌+◌, ◌*◌, ◌/◌, ◌%◌, ◌<◌, ◌≤◌, ◌⊎◌, ◌||◌, nat_le, Bool, true, false, cond, List, [], ◌∷◌, length, drop, get_or, slice_get, refl, sym, ap, subst, ◌∙◌, inl, inr, add-one, arith}
 use Rattle.std.proofs.lemmas.Option.{slice_get-get_or}
 use Rattle.std.specs.Prelude.{Option, Some, None, option_map}
-use Rattle.beam_agenda.specs.Entries.{lesser, is_due_by}
+use Rattle.beam_agenda.specs.Entries.{earlier, is_due_by}
 use Rattle.beam_agenda.specs.Pairs.{pairs}
-use Rattle.beam_agenda.specs.Places.{first_place, place_from}
+use Rattle.beam_agenda.specs.Positions.{first_position, position_from}
 use Rattle.beam_agenda.specs.TimeSizes.{length-pairs}
 use Rattle.beam_agenda.proofs.Pairing.{double, two_times, double_half, suc_double_half, drop-pairs, parity, nat_le_true, nat_le_false}
-use Rattle.beam_agenda.proofs.Places.{place_later, place_within}
+use Rattle.beam_agenda.proofs.Positions.{position_later, position_within}
 
 abbrev pub due_at : ℕ → Option (Option ℕ) → Bool
 due_at by (Some due) = is_due_by by due
 due_at by None = false
 
 -- the first of two neighbours, if it is due, else the second
-abbrev pub of_two : ℕ → List (Option ℕ) → ℕ → ℕ
-of_two by ts k = cond (due_at by (slice_get ts (double k))) (double k) (suc (double k))
+abbrev pub due_of_pair : ℕ → List (Option ℕ) → ℕ → ℕ
+due_of_pair by ts k = cond (due_at by (slice_get ts (double k))) (double k) (suc (double k))
 
 -- ---- of two
 
@@ -32,7 +32,7 @@ due_three at a b false true true h k l = l
 due_three at a b false true false h k l = absurd (omega (arith, nat_le_false a b h, nat_le_true a at k, nat_le_false b at l))
 due_three at a b false false t h k l = l
 
-due_of_two : (at : ℕ) (a b : Option ℕ) → is_due_by at (lesser a b) ≡ (is_due_by at a || is_due_by at b)
+due_of_two : (at : ℕ) (a b : Option ℕ) → is_due_by at (earlier a b) ≡ (is_due_by at a || is_due_by at b)
 due_of_two at None b = refl
 due_of_two at (Some a) None = or_none (nat_le a at)
 due_of_two at (Some a) (Some b) = due_three at a b (nat_le a b) (nat_le a at) (nat_le b at) refl refl refl
@@ -40,43 +40,43 @@ due_of_two at (Some a) (Some b) = due_three at a b (nat_le a b) (nat_le a at) (n
 -- ---- from the beginning
 
 one : (by : ℕ) (a : Option ℕ) (t : Bool) → is_due_by by a ≡ t
-    → cond t (Some 0) None ≡ option_map (of_two by (a ∷ [])) (cond t (Some 0) None)
+    → cond t (Some 0) None ≡ option_map (due_of_pair by (a ∷ [])) (cond t (Some 0) None)
 one by a true h = ap (λ t. Some (cond t 0 1)) (sym h)
 one by a false h = refl
 
 two_on : (by : ℕ) (a b : Option ℕ) (rest : List (Option ℕ)) (o : Option ℕ)
-    → option_map (λ n. n + 1) (option_map (λ n. n + 1) (option_map (of_two by rest) o)) ≡ option_map (of_two by (a ∷ b ∷ rest)) (option_map (λ n. n + 1) o)
+    → option_map (λ n. n + 1) (option_map (λ n. n + 1) (option_map (due_of_pair by rest) o)) ≡ option_map (due_of_pair by (a ∷ b ∷ rest)) (option_map (λ n. n + 1) o)
 two_on by a b rest None = refl
 two_on by a b rest (Some n) =
-    subst (λ m. Some (of_two by rest n + 1 + 1) ≡ Some (of_two by (a ∷ b ∷ rest) m)) (sym (add-one n)) (ap Some (at (due_at by (slice_get rest (double n)))))
+    subst (λ m. Some (due_of_pair by rest n + 1 + 1) ≡ Some (due_of_pair by (a ∷ b ∷ rest) m)) (sym (add-one n)) (ap Some (at (due_at by (slice_get rest (double n)))))
   where
     at : (t : Bool) → cond t (double n) (suc (double n)) + 1 + 1 ≡ cond t (suc (suc (double n))) (suc (suc (suc (double n))))
     at true = omega arith
     at false = omega arith
 
 two : (by : ℕ) (a b : Option ℕ) (rest : List (Option ℕ)) (o : Option ℕ) (s t : Bool) → is_due_by by a ≡ s
-    → cond s (Some 0) (option_map (λ n. n + 1) (cond t (Some 0) (option_map (λ n. n + 1) (option_map (of_two by rest) o))))
-    ≡ option_map (of_two by (a ∷ b ∷ rest)) (cond (s || t) (Some 0) (option_map (λ n. n + 1) o))
+    → cond s (Some 0) (option_map (λ n. n + 1) (cond t (Some 0) (option_map (λ n. n + 1) (option_map (due_of_pair by rest) o))))
+    ≡ option_map (due_of_pair by (a ∷ b ∷ rest)) (cond (s || t) (Some 0) (option_map (λ n. n + 1) o))
 two by a b rest o true t h = ap (λ s. Some (cond s 0 1)) (sym h)
 two by a b rest o false true h = ap (λ s. Some (cond s 0 1)) (sym h)
 two by a b rest o false false h = two_on by a b rest o
 
-first-pairs : (by : ℕ) (ts : List (Option ℕ)) → first_place (is_due_by by) ts ≡ option_map (of_two by ts) (first_place (is_due_by by) (pairs ts))
+first-pairs : (by : ℕ) (ts : List (Option ℕ)) → first_position (is_due_by by) ts ≡ option_map (due_of_pair by ts) (first_position (is_due_by by) (pairs ts))
 first-pairs by [] = refl
 first-pairs by (a ∷ []) = one by a (is_due_by by a) refl
 first-pairs by (a ∷ b ∷ rest) =
     ap (λ o. cond (is_due_by by a) (Some 0) (option_map (λ n. n + 1) (cond (is_due_by by b) (Some 0) (option_map (λ n. n + 1) o)))) (first-pairs by rest)
-    ∙ (two by a b rest (first_place (is_due_by by) (pairs rest)) (is_due_by by a) (is_due_by by b) refl
-    ∙ ap (λ t. option_map (of_two by (a ∷ b ∷ rest)) (cond t (Some 0) (option_map (λ n. n + 1) (first_place (is_due_by by) (pairs rest))))) (sym (due_of_two by a b)))
+    ∙ (two by a b rest (first_position (is_due_by by) (pairs rest)) (is_due_by by a) (is_due_by by b) refl
+    ∙ ap (λ t. option_map (due_of_pair by (a ∷ b ∷ rest)) (cond t (Some 0) (option_map (λ n. n + 1) (first_position (is_due_by by) (pairs rest))))) (sym (due_of_two by a b)))
 
 -- ---- from a position
 
 -- one time alone that isn't due
-pub place_alone : (by from : ℕ) (ts : List (Option ℕ)) (due : Option ℕ) → length ts ≤ 1 → slice_get ts from ≡ Some due → is_due_by by due ≡ false → None ≡ place_from (is_due_by by) from ts
-place_alone by from [] due l h t = absurd (cc)
-place_alone by zero (a ∷ []) due l h t = let same : a ≡ due = cc in ap (λ t. option_map (λ n. 0 + n) (cond t (Some 0) None)) (sym t ∙ ap (is_due_by by) (sym same))
-place_alone by (suc from) (a ∷ []) due l h t = absurd (cc)
-place_alone by from (a ∷ b ∷ ts) due l h t = absurd (omega arith)
+pub position_alone : (by from : ℕ) (ts : List (Option ℕ)) (due : Option ℕ) → length ts ≤ 1 → slice_get ts from ≡ Some due → is_due_by by due ≡ false → None ≡ position_from (is_due_by by) from ts
+position_alone by from [] due l h t = absurd (cc)
+position_alone by zero (a ∷ []) due l h t = let same : a ≡ due = cc in ap (λ t. option_map (λ n. 0 + n) (cond t (Some 0) None)) (sym t ∙ ap (is_due_by by) (sym same))
+position_alone by (suc from) (a ∷ []) due l h t = absurd (cc)
+position_alone by from (a ∷ b ∷ ts) due l h t = absurd (omega arith)
 
 double_add : (k n : ℕ) → double (k + n) ≡ double k + double n
 double_add k n = omega (arith, two_times (k + n), two_times k, two_times n)
@@ -87,7 +87,7 @@ get_drop (suc m) n [] = refl
 get_drop (suc m) n (x ∷ ts) = let e : suc (m + n) ≡ suc m + n = omega arith in get_drop m n ts ∙ ap (slice_get (x ∷ ts)) e
 
 two_later : (by : ℕ) (ts : List (Option ℕ)) (k : ℕ) (o : Option ℕ)
-    → option_map (λ n. double k + n) (option_map (of_two by (drop (double k) ts)) o) ≡ option_map (of_two by ts) (option_map (λ n. k + n) o)
+    → option_map (λ n. double k + n) (option_map (due_of_pair by (drop (double k) ts)) o) ≡ option_map (due_of_pair by ts) (option_map (λ n. k + n) o)
 two_later by ts k None = refl
 two_later by ts k (Some n) =
     ap Some (ap (λ o. double k + cond (due_at by o) (double n) (suc (double n))) (get_drop (double k) (double n) ts)
@@ -98,31 +98,31 @@ two_later by ts k (Some n) =
     at true = refl
     at false = omega arith
 
-even_place : (by k : ℕ) (ts : List (Option ℕ)) → place_from (is_due_by by) (double k) ts ≡ option_map (of_two by ts) (place_from (is_due_by by) k (pairs ts))
-even_place by k ts =
+even_position : (by k : ℕ) (ts : List (Option ℕ)) → position_from (is_due_by by) (double k) ts ≡ option_map (due_of_pair by ts) (position_from (is_due_by by) k (pairs ts))
+even_position by k ts =
     ap (option_map (λ n. double k + n)) (first-pairs by (drop (double k) ts))
-    ∙ (ap (λ ps. option_map (λ n. double k + n) (option_map (of_two by (drop (double k) ts)) (first_place (is_due_by by) ps))) (sym (drop-pairs k ts))
-    ∙ two_later by ts k (first_place (is_due_by by) (drop k (pairs ts))))
+    ∙ (ap (λ ps. option_map (λ n. double k + n) (option_map (due_of_pair by (drop (double k) ts)) (first_position (is_due_by by) ps))) (sym (drop-pairs k ts))
+    ∙ two_later by ts k (first_position (is_due_by by) (drop k (pairs ts))))
 
 -- from a time that isn't due
 place-pairs : (by from : ℕ) (ts : List (Option ℕ)) (due : Option ℕ) → slice_get ts from ≡ Some due → is_due_by by due ≡ false
-    → place_from (is_due_by by) from ts ≡ option_map (of_two by ts) (place_from (is_due_by by) (from / 2 + from % 2) (pairs ts))
+    → position_from (is_due_by by) from ts ≡ option_map (due_of_pair by ts) (position_from (is_due_by by) (from / 2 + from % 2) (pairs ts))
 place-pairs by from ts due h t = at (parity from)
   where
-    at : (from % 2 ≡ 0) ⊎ (from % 2 ≡ 1) → place_from (is_due_by by) from ts ≡ option_map (of_two by ts) (place_from (is_due_by by) (from / 2 + from % 2) (pairs ts))
+    at : (from % 2 ≡ 0) ⊎ (from % 2 ≡ 1) → position_from (is_due_by by) from ts ≡ option_map (due_of_pair by ts) (position_from (is_due_by by) (from / 2 + from % 2) (pairs ts))
     at (inl even) =
         let same : from / 2 + from % 2 ≡ from / 2 = omega arith in
-        ap (λ n. place_from (is_due_by by) n ts) (double_half from even) ∙ (even_place by (from / 2) ts ∙ ap (λ n. option_map (of_two by ts) (place_from (is_due_by by) n (pairs ts))) (sym same))
+        ap (λ n. position_from (is_due_by by) n ts) (double_half from even) ∙ (even_position by (from / 2) ts ∙ ap (λ n. option_map (due_of_pair by ts) (position_from (is_due_by by) n (pairs ts))) (sym same))
     at (inr odd) =
         let same : from / 2 + from % 2 ≡ suc (from / 2) = omega arith in
         let next : suc from ≡ double (suc (from / 2)) = ap suc (suc_double_half from odd) in
-        place_later (is_due_by by) from ts due h t
-        ∙ (ap (λ n. place_from (is_due_by by) n ts) next ∙ (even_place by (suc (from / 2)) ts ∙ ap (λ n. option_map (of_two by ts) (place_from (is_due_by by) n (pairs ts))) (sym same)))
+        position_later (is_due_by by) from ts due h t
+        ∙ (ap (λ n. position_from (is_due_by by) n ts) next ∙ (even_position by (suc (from / 2)) ts ∙ ap (λ n. option_map (due_of_pair by ts) (position_from (is_due_by by) n (pairs ts))) (sym same)))
 
 -- ---- one list up
 
 two_is : (by : ℕ) (ts : List (Option ℕ)) (pair r : ℕ) → 2 * pair < length ts → ((due : Option ℕ) → slice_get ts (2 * pair) ≡ Some due → r ≡ cond (is_due_by by due) (2 * pair) (2 * pair + 1))
-    → r ≡ of_two by ts pair
+    → r ≡ due_of_pair by ts pair
 two_is by ts pair r l h =
     let due : Option ℕ = get_or ts (2 * pair) None in
     let there : slice_get ts (2 * pair) ≡ Some due = slice_get-get_or ts (2 * pair) None l in
@@ -130,19 +130,19 @@ two_is by ts pair r l h =
     h due there ∙ (ap (cond (is_due_by by due) (2 * pair)) next ∙ (ap (λ o. cond (due_at by o) (2 * pair) (suc (2 * pair))) (sym there)
     ∙ ap (λ n. cond (due_at by (slice_get ts n)) n (suc n)) (two_times pair)))
 
-pub pair_within : (by n : ℕ) (ts above : List (Option ℕ)) (pair : ℕ) → above ≡ pairs ts → Some pair ≡ place_from (is_due_by by) n above → 2 * pair < length ts
-pair_within by n ts above pair h f = omega (arith, place_within (is_due_by by) n above pair f, ap length h, length-pairs ts)
+pub pair_within : (by n : ℕ) (ts above : List (Option ℕ)) (pair : ℕ) → above ≡ pairs ts → Some pair ≡ position_from (is_due_by by) n above → 2 * pair < length ts
+pair_within by n ts above pair h f = omega (arith, position_within (is_due_by by) n above pair f, ap length h, length-pairs ts)
 
 pub climbs_some : (by from : ℕ) (ts above : List (Option ℕ)) (due : Option ℕ) (pair r : ℕ) → slice_get ts from ≡ Some due → is_due_by by due ≡ false → above ≡ pairs ts
-    → Some pair ≡ place_from (is_due_by by) (from / 2 + from % 2) above → ((due : Option ℕ) → slice_get ts (2 * pair) ≡ Some due → r ≡ cond (is_due_by by due) (2 * pair) (2 * pair + 1))
-    → Some r ≡ place_from (is_due_by by) from ts
+    → Some pair ≡ position_from (is_due_by by) (from / 2 + from % 2) above → ((due : Option ℕ) → slice_get ts (2 * pair) ≡ Some due → r ≡ cond (is_due_by by due) (2 * pair) (2 * pair + 1))
+    → Some r ≡ position_from (is_due_by by) from ts
 climbs_some by from ts above due pair r there misfit h f is =
     ap Some (two_is by ts pair r (pair_within by (from / 2 + from % 2) ts above pair h f) is)
-    ∙ (ap (option_map (of_two by ts)) (f ∙ ap (place_from (is_due_by by) (from / 2 + from % 2)) h)
+    ∙ (ap (option_map (due_of_pair by ts)) (f ∙ ap (position_from (is_due_by by) (from / 2 + from % 2)) h)
     ∙ sym (place-pairs by from ts due there misfit))
 
 pub climbs_none : (by from : ℕ) (ts above : List (Option ℕ)) (due : Option ℕ) → slice_get ts from ≡ Some due → is_due_by by due ≡ false → above ≡ pairs ts
-    → None ≡ place_from (is_due_by by) (from / 2 + from % 2) above → None ≡ place_from (is_due_by by) from ts
+    → None ≡ position_from (is_due_by by) (from / 2 + from % 2) above → None ≡ position_from (is_due_by by) from ts
 climbs_none by from ts above due there misfit h f =
-    ap (option_map (of_two by ts)) (f ∙ ap (place_from (is_due_by by) (from / 2 + from % 2)) h)
+    ap (option_map (due_of_pair by ts)) (f ∙ ap (position_from (is_due_by by) (from / 2 + from % 2)) h)
     ∙ sym (place-pairs by from ts due there misfit)

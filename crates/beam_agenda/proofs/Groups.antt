@@ -9,8 +9,8 @@ use Rattle.std.proofs.lemmas.List.Sums.{count_by-le-length, get_or-le-sum_by, su
 use Rattle.std.specs.List.{count_by}
 use Rattle.std.specs.Prelude.{Option, Some, None, option_map}
 use Rattle.beam_agenda.specs.Groups.{is_set, groups}
-use Rattle.beam_agenda.specs.Places.{first_place, place_from}
-use Rattle.beam_agenda.proofs.Places.{first_near, first_far, add_twice}
+use Rattle.beam_agenda.specs.Positions.{first_position, position_from}
+use Rattle.beam_agenda.proofs.Positions.{first_near, first_far, add_twice}
 
 abbrev pub one_if : Bool → ℕ
 one_if t = cond t 1 0
@@ -114,17 +114,17 @@ set_true n h = grind (arith, nat_tests)
 pub set_false : (n : ℕ) → is_set n ≡ false → n ≡ 0
 set_false n h = grind (arith, nat_tests)
 
-none_counted : (ns : List ℕ) → count_by is_set ns ≡ 0 → first_place is_set ns ≡ None
+none_counted : (ns : List ℕ) → count_by is_set ns ≡ 0 → first_position is_set ns ≡ None
 none_counted [] h = refl
 none_counted (n ∷ ns) h = at (is_set n) (none_counted ns) (omega (arith, h, sum_by-cons (λ n. one_if (is_set n)) n ns))
   where
-    at : (t : Bool) → (count_by is_set ns ≡ 0 → first_place is_set ns ≡ None) → one_if t + count_by is_set ns ≡ 0 → cond t (Some 0) (option_map (λ n. n + 1) (first_place is_set ns)) ≡ None
+    at : (t : Bool) → (count_by is_set ns ≡ 0 → first_position is_set ns ≡ None) → one_if t + count_by is_set ns ≡ 0 → cond t (Some 0) (option_map (λ n. n + 1) (first_position is_set ns)) ≡ None
     at true rest c = absurd (omega arith)
     at false rest c = ap (option_map (λ n. n + 1)) (rest (omega arith))
 
-some_counted : (ns : List ℕ) → first_place is_set ns ≡ None → count_by is_set ns ≡ 0
+some_counted : (ns : List ℕ) → first_position is_set ns ≡ None → count_by is_set ns ≡ 0
 some_counted [] h = refl
-some_counted (n ∷ ns) h = sum_by-cons (λ n. one_if (is_set n)) n ns ∙ at (is_set n) (first_place is_set ns) (some_counted ns) h
+some_counted (n ∷ ns) h = sum_by-cons (λ n. one_if (is_set n)) n ns ∙ at (is_set n) (first_position is_set ns) (some_counted ns) h
   where
     at : (t : Bool) (o : Option ℕ) → (o ≡ None → count_by is_set ns ≡ 0) → cond t (Some 0) (option_map (λ n. n + 1) o) ≡ None → one_if t + count_by is_set ns ≡ 0
     at true o rest e = absurd (cc)
@@ -134,38 +134,38 @@ some_counted (n ∷ ns) h = sum_by-cons (λ n. one_if (is_set n)) n ns ∙ at (i
 -- the first of that group
 abbrev pub in_group : List ℕ → Option ℕ → Option ℕ
 in_group ns None = None
-in_group ns (Some g) = option_map (λ n. 16 * g + n) (first_place is_set (take 16 (drop (16 * g) ns)))
+in_group ns (Some g) = option_map (λ n. 16 * g + n) (first_position is_set (take 16 (drop (16 * g) ns)))
 
 in_group_later : (ns : List ℕ) (j : ℕ) (o : Option ℕ) → option_map (λ n. 16 * j + n) (in_group (drop (16 * j) ns) o) ≡ in_group ns (option_map (λ g. j + g) o)
 in_group_later ns j None = refl
 in_group_later ns j (Some g) =
     let sum : 16 * j + 16 * g ≡ 16 * (j + g) = omega arith in
-    add_twice (16 * j) (16 * g) (first_place is_set (take 16 (drop (16 * g) (drop (16 * j) ns))))
-    ∙ (ap (λ ns'. option_map (λ n. 16 * j + 16 * g + n) (first_place is_set (take 16 ns'))) (drop-drop (16 * g) (16 * j) ns)
-    ∙ ap (λ m. option_map (λ n. m + n) (first_place is_set (take 16 (drop m ns)))) sum)
+    add_twice (16 * j) (16 * g) (first_position is_set (take 16 (drop (16 * g) (drop (16 * j) ns))))
+    ∙ (ap (λ ns'. option_map (λ n. 16 * j + 16 * g + n) (first_position is_set (take 16 ns'))) (drop-drop (16 * g) (16 * j) ns)
+    ∙ ap (λ m. option_map (λ n. m + n) (first_position is_set (take 16 (drop m ns)))) sum)
 
 add_one : (o : Option ℕ) → option_map (λ g. 1 + g) o ≡ option_map (λ n. n + 1) o
 add_one None = refl
 add_one (Some n) = let e : 1 + n ≡ n + 1 = omega arith in ap Some e
 
-first_by_groups : (k : ℕ) (ns : List ℕ) → length ns ≤ 16 * k → first_place is_set ns ≡ in_group ns (first_place is_set (groups k ns))
-first_by_groups zero ns h = subst (λ ns. first_place is_set ns ≡ None) (sym (nil_from_length ns (omega arith))) refl
+first_by_groups : (k : ℕ) (ns : List ℕ) → length ns ≤ 16 * k → first_position is_set ns ≡ in_group ns (first_position is_set (groups k ns))
+first_by_groups zero ns h = subst (λ ns. first_position is_set ns ≡ None) (sym (nil_from_length ns (omega arith))) refl
 first_by_groups (suc k) ns h = at (is_set (count_by is_set (take 16 ns))) refl (first_by_groups k (drop 16 ns) (omega (arith, length-drop 16 ns)))
   where
-    here : (o : Option ℕ) → first_place is_set (take 16 ns) ≡ o → 0 < count_by is_set (take 16 ns) → first_place is_set ns ≡ option_map (λ n. 16 * 0 + n) (first_place is_set (take 16 ns))
+    here : (o : Option ℕ) → first_position is_set (take 16 ns) ≡ o → 0 < count_by is_set (take 16 ns) → first_position is_set ns ≡ option_map (λ n. 16 * 0 + n) (first_position is_set (take 16 ns))
     here None f c = absurd (omega (arith, some_counted (take 16 ns) f))
     here (Some n) f c =
         let e : n ≡ 16 * 0 + n = omega arith in
         first_near is_set 16 ns n f ∙ (ap Some e ∙ ap (option_map (λ n. 16 * 0 + n)) (sym f))
 
-    at : (t : Bool) → is_set (count_by is_set (take 16 ns)) ≡ t → first_place is_set (drop 16 ns) ≡ in_group (drop 16 ns) (first_place is_set (groups k (drop 16 ns)))
-        → first_place is_set ns ≡ in_group ns (cond t (Some 0) (option_map (λ n. n + 1) (first_place is_set (groups k (drop 16 ns)))))
+    at : (t : Bool) → is_set (count_by is_set (take 16 ns)) ≡ t → first_position is_set (drop 16 ns) ≡ in_group (drop 16 ns) (first_position is_set (groups k (drop 16 ns)))
+        → first_position is_set ns ≡ in_group ns (cond t (Some 0) (option_map (λ n. n + 1) (first_position is_set (groups k (drop 16 ns)))))
     at false e rest =
         first_far is_set 16 ns (none_counted (take 16 ns) (set_false _ e))
         ∙ (ap (option_map (λ n. 16 + n)) rest
-        ∙ (in_group_later ns 1 (first_place is_set (groups k (drop 16 ns)))
-        ∙ ap (in_group ns) (add_one (first_place is_set (groups k (drop 16 ns))))))
-    at true e rest = here (first_place is_set (take 16 ns)) refl (set_true _ e)
+        ∙ (in_group_later ns 1 (first_position is_set (groups k (drop 16 ns)))
+        ∙ ap (in_group ns) (add_one (first_position is_set (groups k (drop 16 ns))))))
+    at true e rest = here (first_position is_set (take 16 ns)) refl (set_true _ e)
 
 drop-groups : (g k : ℕ) (ns : List ℕ) → drop g (groups k ns) ≡ groups (k - g) (drop (16 * g) ns)
 drop-groups zero k ns = let e : k ≡ k - 0 = omega arith in ap (λ k. groups k ns) e
@@ -177,8 +177,8 @@ drop-groups (suc g) (suc k) ns =
     ∙ (ap (groups (k - g)) (drop-drop (16 * g) 16 ns ∙ ap (λ m. drop m ns) at)
     ∙ ap (λ k. groups k (drop (16 * suc g) ns)) e)
 
-pub place_by_groups : (g k : ℕ) (ns : List ℕ) → length ns ≤ 16 * k → place_from is_set (16 * g) ns ≡ in_group ns (place_from is_set g (groups k ns))
-place_by_groups g k ns h =
+pub position_by_groups : (g k : ℕ) (ns : List ℕ) → length ns ≤ 16 * k → position_from is_set (16 * g) ns ≡ in_group ns (position_from is_set g (groups k ns))
+position_by_groups g k ns h =
     ap (option_map (λ n. 16 * g + n)) (first_by_groups (k - g) (drop (16 * g) ns) (omega (arith, length-drop (16 * g) ns)))
-    ∙ (in_group_later ns g (first_place is_set (groups (k - g) (drop (16 * g) ns)))
-    ∙ ap (λ ms. in_group ns (option_map (λ h. g + h) (first_place is_set ms))) (sym (drop-groups g k ns)))
+    ∙ (in_group_later ns g (first_position is_set (groups (k - g) (drop (16 * g) ns)))
+    ∙ ap (λ ms. in_group ns (option_map (λ h. g + h) (first_position is_set ms))) (sym (drop-groups g k ns)))

@@ -2,7 +2,7 @@ pub mod Counting
 pub mod Due
 pub mod Groups
 pub mod Pairing
-pub mod Parts
-pub mod Places
+pub mod FlagsAndTimes
+pub mod Positions
 pub mod Same
-pub mod Standing
+pub mod LevelAbove

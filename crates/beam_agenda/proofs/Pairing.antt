@@ -4,7 +4,7 @@ use Rattle.std.proofs.Math.ListN.{set}
 use Rattle.std.proofs.lemmas.Bool.Decides.{nat_tests}
 use Rattle.std.proofs.lemmas.Option.{same_Some, slice_get-get_or, slice_get_past}
 use Rattle.std.specs.Prelude.{Option, Some, None}
-use Rattle.beam_agenda.specs.Entries.{lesser}
+use Rattle.beam_agenda.specs.Entries.{earlier}
 use Rattle.beam_agenda.specs.Least.{least_of}
 use Rattle.beam_agenda.specs.Pairs.{pairs}
 
@@ -17,7 +17,7 @@ pub nat_le_false : (m n : ℕ) → nat_le m n ≡ false → n < m
 nat_le_false m n h = grind (arith, nat_tests)
 
 lesser_three : (a b c : ℕ) (ab bc ac : Bool) → nat_le a b ≡ ab → nat_le b c ≡ bc → nat_le a c ≡ ac
-    → lesser (cond ab (Some a) (Some b)) (Some c) ≡ lesser (Some a) (cond bc (Some b) (Some c))
+    → earlier (cond ab (Some a) (Some b)) (Some c) ≡ earlier (Some a) (cond bc (Some b) (Some c))
 lesser_three a b c true true true h k l = ap (λ q. cond q (Some a) (Some c)) l ∙ sym (ap (λ q. cond q (Some a) (Some b)) h)
 lesser_three a b c true true false h k l = absurd (omega (arith, nat_le_true a b h, nat_le_true b c k, nat_le_false a c l))
 lesser_three a b c true false ac h k l = refl
@@ -25,20 +25,20 @@ lesser_three a b c false true ac h k l = ap (λ q. cond q (Some b) (Some c)) k �
 lesser_three a b c false false true h k l = absurd (omega (arith, nat_le_false a b h, nat_le_false b c k, nat_le_true a c l))
 lesser_three a b c false false false h k l = ap (λ q. cond q (Some b) (Some c)) k ∙ sym (ap (λ q. cond q (Some a) (Some c)) l)
 
-pub lesser_none : (a : Option ℕ) → lesser a None ≡ a
-lesser_none None = refl
-lesser_none (Some a) = refl
+pub earlier_none : (a : Option ℕ) → earlier a None ≡ a
+earlier_none None = refl
+earlier_none (Some a) = refl
 
-pub lesser_of_three : (a b c : Option ℕ) → lesser (lesser a b) c ≡ lesser a (lesser b c)
-lesser_of_three None b c = refl
-lesser_of_three (Some a) None c = refl
-lesser_of_three (Some a) (Some b) None = lesser_none (lesser (Some a) (Some b))
-lesser_of_three (Some a) (Some b) (Some c) = lesser_three a b c (nat_le a b) (nat_le b c) (nat_le a c) refl refl refl
+pub earlier_of_three : (a b c : Option ℕ) → earlier (earlier a b) c ≡ earlier a (earlier b c)
+earlier_of_three None b c = refl
+earlier_of_three (Some a) None c = refl
+earlier_of_three (Some a) (Some b) None = earlier_none (earlier (Some a) (Some b))
+earlier_of_three (Some a) (Some b) (Some c) = lesser_three a b c (nat_le a b) (nat_le b c) (nat_le a c) refl refl refl
 
 pub least_of-pairs : (ts : List (Option ℕ)) → least_of (pairs ts) ≡ least_of ts
 least_of-pairs [] = refl
 least_of-pairs (a ∷ []) = refl
-least_of-pairs (a ∷ b ∷ rest) = ap (lesser (lesser a b)) (least_of-pairs rest) ∙ lesser_of_three a b (least_of rest)
+least_of-pairs (a ∷ b ∷ rest) = ap (earlier (earlier a b)) (least_of-pairs rest) ∙ earlier_of_three a b (least_of rest)
 
 -- ---- positions
 
@@ -71,23 +71,23 @@ pairs-append_even [] k e h = refl
 pairs-append_even (a ∷ []) zero e h = cc
 pairs-append_even (a ∷ []) (suc k) e h = absurd (omega arith)
 pairs-append_even (a ∷ b ∷ rest) zero e h = absurd (omega arith)
-pairs-append_even (a ∷ b ∷ rest) (suc k) e h = ap (λ ts. lesser a b ∷ ts) (pairs-append_even rest k e (omega arith))
+pairs-append_even (a ∷ b ∷ rest) (suc k) e h = ap (λ ts. earlier a b ∷ ts) (pairs-append_even rest k e (omega arith))
 
-pub pairs-append_odd : (ts : List (Option ℕ)) (k : ℕ) (e last : Option ℕ) → length ts ≡ suc (double k) → slice_get ts (double k) ≡ Some last → pairs (ts ++ e ∷ []) ≡ set (pairs ts) k (lesser last e)
+pub pairs-append_odd : (ts : List (Option ℕ)) (k : ℕ) (e last : Option ℕ) → length ts ≡ suc (double k) → slice_get ts (double k) ≡ Some last → pairs (ts ++ e ∷ []) ≡ set (pairs ts) k (earlier last e)
 pairs-append_odd [] k e last h g = absurd (omega arith)
-pairs-append_odd (a ∷ []) zero e last h g = ap (λ a. lesser a e ∷ []) (same_Some a last g)
+pairs-append_odd (a ∷ []) zero e last h g = ap (λ a. earlier a e ∷ []) (same_Some a last g)
 pairs-append_odd (a ∷ []) (suc k) e last h g = absurd (omega arith)
 pairs-append_odd (a ∷ b ∷ rest) zero e last h g = absurd (omega arith)
-pairs-append_odd (a ∷ b ∷ rest) (suc k) e last h g = ap (λ ts. lesser a b ∷ ts) (pairs-append_odd rest k e last (omega arith) g)
+pairs-append_odd (a ∷ b ∷ rest) (suc k) e last h g = ap (λ ts. earlier a b ∷ ts) (pairs-append_odd rest k e last (omega arith) g)
 
 -- ---- an entry that changes
 
 -- the time that stands for the two times at a position
-pub pair_there : (ts : List (Option ℕ)) (k : ℕ) (left right : Option ℕ) → slice_get ts (double k) ≡ Some left → slice_get ts (suc (double k)) ≡ Some right → slice_get (pairs ts) k ≡ Some (lesser left right)
+pub pair_there : (ts : List (Option ℕ)) (k : ℕ) (left right : Option ℕ) → slice_get ts (double k) ≡ Some left → slice_get ts (suc (double k)) ≡ Some right → slice_get (pairs ts) k ≡ Some (earlier left right)
 pair_there [] k left right h g = absurd (cc)
 pair_there (a ∷ []) zero left right h g = absurd (cc)
 pair_there (a ∷ []) (suc k) left right h g = absurd (cc)
-pair_there (a ∷ b ∷ rest) zero left right h g = ap (λ a. Some (lesser a b)) (same_Some a left h) ∙ ap (λ b. Some (lesser left b)) (same_Some b right g)
+pair_there (a ∷ b ∷ rest) zero left right h g = ap (λ a. Some (earlier a b)) (same_Some a left h) ∙ ap (λ b. Some (earlier left b)) (same_Some b right g)
 pair_there (a ∷ b ∷ rest) (suc k) left right h g = pair_there rest k left right h g
 
 pub pair_last : (ts : List (Option ℕ)) (k : ℕ) (left : Option ℕ) → slice_get ts (double k) ≡ Some left → slice_get ts (suc (double k)) ≡ None → slice_get (pairs ts) k ≡ Some left
@@ -101,15 +101,15 @@ pub pairs-set_left : (ts : List (Option ℕ)) (k : ℕ) (e pair : Option ℕ) �
 pairs-set_left [] k e pair h = refl
 pairs-set_left (a ∷ []) zero e pair h = ap (λ e. e ∷ []) (same_Some e pair h)
 pairs-set_left (a ∷ []) (suc k) e pair h = refl
-pairs-set_left (a ∷ b ∷ rest) zero e pair h = ap (λ e. e ∷ pairs rest) (same_Some (lesser e b) pair h)
-pairs-set_left (a ∷ b ∷ rest) (suc k) e pair h = ap (λ ts. lesser a b ∷ ts) (pairs-set_left rest k e pair h)
+pairs-set_left (a ∷ b ∷ rest) zero e pair h = ap (λ e. e ∷ pairs rest) (same_Some (earlier e b) pair h)
+pairs-set_left (a ∷ b ∷ rest) (suc k) e pair h = ap (λ ts. earlier a b ∷ ts) (pairs-set_left rest k e pair h)
 
 pub pairs-set_right : (ts : List (Option ℕ)) (k : ℕ) (e pair : Option ℕ) → slice_get (pairs (set ts (suc (double k)) e)) k ≡ Some pair → pairs (set ts (suc (double k)) e) ≡ set (pairs ts) k pair
 pairs-set_right [] k e pair h = refl
 pairs-set_right (a ∷ []) zero e pair h = ap (λ e. e ∷ []) (same_Some a pair h)
 pairs-set_right (a ∷ []) (suc k) e pair h = refl
-pairs-set_right (a ∷ b ∷ rest) zero e pair h = ap (λ e. e ∷ pairs rest) (same_Some (lesser a e) pair h)
-pairs-set_right (a ∷ b ∷ rest) (suc k) e pair h = ap (λ ts. lesser a b ∷ ts) (pairs-set_right rest k e pair h)
+pairs-set_right (a ∷ b ∷ rest) zero e pair h = ap (λ e. e ∷ pairs rest) (same_Some (earlier a e) pair h)
+pairs-set_right (a ∷ b ∷ rest) (suc k) e pair h = ap (λ ts. earlier a b ∷ ts) (pairs-set_right rest k e pair h)
 
 -- a time changes, and so does the one that stands for its pair
 pub pairs-set : (ts : List (Option ℕ)) (at : ℕ) (e pair : Option ℕ) → slice_get (pairs (set ts at e)) (at / 2) ≡ Some pair → pairs (set ts at e) ≡ set (pairs ts) (at / 2) pair
@@ -122,7 +122,7 @@ pairs-set ts at e pair h = either (parity at)
 there : (ts : List (Option ℕ)) (at : ℕ) (e : Option ℕ) → at < length ts → e ≡ get_or ts at e → slice_get ts at ≡ Some e
 there ts at e l h = slice_get-get_or ts at e l ∙ ap Some (sym h)
 
-pub of_two_is : (ts : List (Option ℕ)) (at : ℕ) (left right both : Option ℕ) → left ≡ get_or ts (2 * at) left → 2 * at + 1 < length ts → right ≡ get_or ts (2 * at + 1) right → both ≡ lesser left right
+pub of_two_is : (ts : List (Option ℕ)) (at : ℕ) (left right both : Option ℕ) → left ≡ get_or ts (2 * at) left → 2 * at + 1 < length ts → right ≡ get_or ts (2 * at + 1) right → both ≡ earlier left right
     → Some both ≡ slice_get (pairs ts) at
 of_two_is ts at left right both g l h e =
     let first : double at ≡ 2 * at = omega (arith, two_times at) in

@@ -5,7 +5,7 @@ pub mod FlagSizes
 pub mod Groups
 pub mod Least
 pub mod Pairs
-pub mod Parts
-pub mod Places
+pub mod FlagsAndTimes
+pub mod Positions
 pub mod TimeLevels
 pub mod TimeSizes

@@ -5,6 +5,6 @@ use Rattle.beam_agenda.specs.declared.times.Above.TheVariants.{Top, Level}
 use Rattle.beam_agenda.specs.Pairs.{pairs}
 
 -- the list above is the list of the pairs; a list of one time has no list above
-abbrev pub Stands : List (Option ℕ) → Above → Type 0
-Stands ts Top = length ts ≤ 1
-Stands ts (Level above) = (2 ≤ length ts) × (above.value ≡ pairs ts)
+abbrev pub LevelsAgree : List (Option ℕ) → Above → Type 0
+LevelsAgree ts Top = length ts ≤ 1
+LevelsAgree ts (Level above) = (2 ≤ length ts) × (above.value ≡ pairs ts)

@@ -2,9 +2,9 @@
 ghost use Rattle.std.specs.Prelude.{◌≡◌, ◌<◌, ◌+◌, [], ◌∷◌, ◌++◌, length, slice_set, OnOk, OnErr, IfSome};
 ghost use Rattle.beam_agenda.specs.First.{first_ready, least_due};
 
-use crate::entry::Entry;
+use crate::entry::AgendaEntry;
 use crate::flags::Flags;
-use crate::times::{Times, lesser};
+use crate::times::{Times, earlier};
 use std::alloc::{AllocError, Global};
 use std::marker::Model;
 
@@ -27,11 +27,11 @@ impl Drop for Agenda {
 
 impl Model for Agenda {
     ghost use Rattle.std.specs.Prelude.{◌≡◌, List};
-    ghost use Rattle.beam_agenda.specs.declared.entry.Entry.{Entry as TheEntry};
+    ghost use Rattle.beam_agenda.specs.declared.entry.AgendaEntry.{AgendaEntry as TheEntry};
 
     ghost Value = { List TheEntry };
 
-    ghost use Rattle.beam_agenda.specs.Parts.{entries_of, Covers};
+    ghost use Rattle.beam_agenda.specs.FlagsAndTimes.{entries_of, Covers};
     ghost use Rattle.beam_agenda.specs.Least.{least_of};
 
     ghost view = { λ a. entries_of a.flags a.times };
@@ -59,7 +59,7 @@ impl Agenda {
     }
 
     /// Changes an entry, in O(log n).
-    pub fn set(&mut self, index: usize, entry: Entry)
+    pub fn set(&mut self, index: usize, entry: AgendaEntry)
         requires { index < length self.old }
         ensures { self.new ≡ slice_set self.old index entry }
     {
@@ -72,14 +72,14 @@ impl Agenda {
     }
 
     /// Adds an entry at the end, in O(log n), amortized. Where memory is refused nothing changes.
-    pub fn push(&mut self, entry: Entry) -> Result<(), AllocError>
+    pub fn push(&mut self, entry: AgendaEntry) -> Result<(), AllocError>
         ensures ok { OnOk result (self.new ≡ self.old ++ entry ∷ []) }
         ensures err { OnErr result (self.new ≡ self.old) }
     {
         let count = self.times.len();
         self.flags.make_room(count)?;
         self.times.push(entry.due)?;
-        self.least = lesser(self.least, entry.due);
+        self.least = earlier(self.least, entry.due);
         self.flags.set(count, u8::from(entry.ready));
         Ok(())
     }

@@ -2,7 +2,7 @@
 
 /// Whether something is ready, and when it is due.
 #[derive(Clone, Copy, Debug, PartialEq, Eq)]
-pub struct Entry {
+pub struct AgendaEntry {
     pub ready: bool,
     pub due: Option<u64>,
 }

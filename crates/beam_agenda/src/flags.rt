@@ -2,7 +2,7 @@
 ghost use Rattle.std.specs.Prelude.{◌≡◌, ◌<◌, ◌≤◌, ◌+◌, ◌*◌, ◌/◌, [], ◌∷◌, ◌++◌, length, slice_get, slice_set, take, Some, OnOk, OnErr, IfOk, IfSome, nat_le, if◌then◌else◌};
 ghost use Rattle.std.specs.List.{count_by};
 ghost use Rattle.beam_agenda.specs.Groups.{is_set};
-ghost use Rattle.beam_agenda.specs.Places.{place_from};
+ghost use Rattle.beam_agenda.specs.Positions.{position_from};
 
 use std::alloc::{AllocError, Global};
 use std::marker::Model;
@@ -29,11 +29,11 @@ impl Model for Flags {
 
     ghost Value = { List ℕ };
 
-    ghost use Rattle.beam_agenda.specs.FlagLevels.{Stands};
+    ghost use Rattle.beam_agenda.specs.FlagLevels.{LevelsAgree};
 
     ghost view = { λ a. a.numbers.items };
 
-    ghost invariant = { λ a. Stands a.numbers.items a.above };
+    ghost invariant = { λ a. LevelsAgree a.numbers.items a.above };
 
     ghost size = { length };
 
@@ -59,7 +59,7 @@ fn count(numbers: &[u8]) -> u8
 /// The first position, at `from` or after it in its group of 16, whose number isn't 0.
 fn first_in_group(numbers: &[u8], from: usize) -> Option<usize>
     requires { from < length numbers.now }
-    ensures { result ≡ place_from is_set from (take (16 * (from / 16) + 16) numbers.now) }
+    ensures { result ≡ position_from is_set from (take (16 * (from / 16) + 16) numbers.now) }
 {
     let end = numbers.len().min(16 * (from / 16) + 16);
     for at in from..end {
@@ -159,7 +159,7 @@ impl Flags {
 
     /// The first position, at `from` or after it, whose number isn't 0, in O(log n).
     pub(crate) fn first_from(&self, from: usize) -> Option<usize>
-        ensures first { result ≡ place_from is_set from self.now }
+        ensures first { result ≡ position_from is_set from self.now }
         ensures within { IfSome result (λ n. n < length self.now) }
     {
         if from >= self.numbers.len() {

@@ -2,7 +2,7 @@
 //! due first in O(log n).
 //!
 //! Readiness and times are kept apart, each in a list with lists above it. A number of a list above is how many of a group of 16 are
-//! ready. A time of a list above is the lesser of two neighbours.
+//! ready. A time of a list above is the earlier of two neighbours.
 #![tactic(auto)]
 
 pub mod agenda;

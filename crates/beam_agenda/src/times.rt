@@ -1,8 +1,8 @@
 //! Times, each of which may be missing.
 ghost use Rattle.std.specs.Prelude.{◌≡◌, ◌<◌, ◌+◌, ◌*◌, [], ◌∷◌, ◌++◌, length, slice_get, slice_set, Option, ℕ, Some, OnOk, OnErr, IfOk, IfSome, if◌then◌else◌};
-ghost use Rattle.beam_agenda.specs.Entries.{lesser, is_due_by};
+ghost use Rattle.beam_agenda.specs.Entries.{earlier, is_due_by};
 ghost use Rattle.beam_agenda.specs.Pairs.{pairs};
-ghost use Rattle.beam_agenda.specs.Places.{place_from};
+ghost use Rattle.beam_agenda.specs.Positions.{position_from};
 ghost use Rattle.beam_agenda.specs.Least.{least_of};
 
 use std::alloc::{AllocError, Global};
@@ -30,11 +30,11 @@ impl Model for Times {
 
     ghost Value = { List (Option ℕ) };
 
-    ghost use Rattle.beam_agenda.specs.TimeLevels.{Stands};
+    ghost use Rattle.beam_agenda.specs.TimeLevels.{LevelsAgree};
 
     ghost view = { λ a. a.times.items };
 
-    ghost invariant = { λ a. Stands a.times.items a.above };
+    ghost invariant = { λ a. LevelsAgree a.times.items a.above };
 
     ghost size = { length };
 
@@ -43,9 +43,9 @@ impl Model for Times {
     ghost size_decreases = { λ a h. shorter a.times.items a.above h };
 }
 
-/// The lesser of two times.
-pub(crate) fn lesser(a: Option<u64>, b: Option<u64>) -> Option<u64>
-    ensures { result ≡ lesser a b }
+/// The earlier of two times.
+pub(crate) fn earlier(a: Option<u64>, b: Option<u64>) -> Option<u64>
+    ensures { result ≡ earlier a b }
 {
     match (a, b) {
         (Some(a), Some(b)) => Some(if a <= b { a } else { b }),
@@ -63,20 +63,20 @@ fn is_due_by(at: u64, due: Option<u64>) -> bool
     }
 }
 
-/// The time at a position of the list above: the lesser of the two times for which it stands.
+/// The time at a position of the list above: the earlier of the two times for which it stands.
 fn pair(times: &[Option<u64>], at: usize) -> Option<u64>
     requires { 2 * at < length times.now }
     ensures { Some result ≡ slice_get (pairs times.now) at }
 {
     let left = 2 * at;
     match times.get(left + 1) {
-        Some(right) => lesser(times[left], *right),
+        Some(right) => earlier(times[left], *right),
         None => times[left],
     }
 }
 
 /// The position of the first of the two times for which one of the list above stands, if it is due, else of the second.
-fn of_two(times: &[Option<u64>], by: u64, at: usize) -> usize
+fn due_of_pair(times: &[Option<u64>], by: u64, at: usize) -> usize
     requires { 2 * at < length times.now }
     ensures { (due : Option ℕ) → slice_get times.now (2 * at) ≡ Some due → result ≡ (if is_due_by by due then 2 * at else 2 * at + 1) }
 {
@@ -141,11 +141,11 @@ impl Times {
         match &mut self.above {
             Above::Top if count == 0 => {}
             Above::Top => {
-                let first = lesser(self.times[0], due);
+                let first = earlier(self.times[0], due);
                 self.above = Above::Level(Times::of_one(self.alloc, first)?);
             }
             Above::Level(above) if count % 2 == 0 => above.push(due)?,
-            Above::Level(above) => above.set(count / 2, lesser(self.times[count - 1], due)),
+            Above::Level(above) => above.set(count / 2, earlier(self.times[count - 1], due)),
         }
         self.times.push_reserved(due);
         Ok(())
@@ -169,7 +169,7 @@ impl Times {
 
     /// The first position, at `from` or after it, whose time is due by `by`, in O(log n).
     pub(crate) fn first_due(&self, by: u64, from: usize) -> Option<usize>
-        ensures first { result ≡ place_from (is_due_by by) from self.now }
+        ensures first { result ≡ position_from (is_due_by by) from self.now }
         ensures within { IfSome result (λ n. n < length self.now) }
     {
         let due = self.times.get(from)?;
@@ -180,7 +180,7 @@ impl Times {
             return None;
         };
         match above.first_due(by, from / 2 + from % 2) {
-            Some(pair) => Some(of_two(&self.times, by, pair)),
+            Some(pair) => Some(due_of_pair(&self.times, by, pair)),
             None => None,
         }
     }

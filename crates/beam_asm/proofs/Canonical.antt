@@ -16,7 +16,7 @@ use Rattle.beam_model.specs.File.{FileFault, form_fault, table_fault, code_fault
 use Rattle.beam_model.specs.Listing.{Listing}
 use Rattle.beam_model.specs.Loads.{IsLoadable}
 use Rattle.beam_model.specs.Assembly.{numbering_of, HasFile, without_line_number, without_line_numbers}
-use Rattle.beam_etf.proofs.Back.{written_back}
+use Rattle.beam_etf.proofs.RoundTrip.{written_back}
 use Rattle.beam_asm.proofs.FileAgain.{file_again}
 
 bind_ok : {A B F : Type 0} (r : Result A F) (f : A → Result B F) (y : B) → (r >>= f) ≡ Ok y → (x : A) × (r ≡ Ok x) × (f x ≡ Ok y)

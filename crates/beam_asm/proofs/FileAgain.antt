@@ -31,7 +31,7 @@ use Rattle.beam_check.specs.declared.error.CheckError.{CheckError}
 use Rattle.beam_check.specs.declared.error.CheckError.TheVariants as checks
 use Rattle.beam_asm.specs.declared.error.AsmError.TheVariants.{Check}
 use Rattle.beam_asm.specs.Refusals.{Fails, Refuses}
-use Rattle.beam_code.proofs.Assembled.{IsWritable, code_again}
+use Rattle.beam_code.proofs.RoundTrip.{IsWritable, code_again}
 
 -- ---- the first atom
 

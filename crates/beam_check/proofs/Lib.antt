@@ -1,8 +1,8 @@
 mod Depths
-mod Found
-pub mod KeptOperands
+mod FunctionsComplete
+pub mod ValidOperands
 mod Lists
-pub mod Marks
-mod Told
+pub mod LabelTests
+mod FunctionsSound
 pub mod WellFormed
 mod WorkedHeads

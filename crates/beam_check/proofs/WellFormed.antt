@@ -17,8 +17,8 @@ use Rattle.beam_model.specs.Opcodes.{kinds_of}
 use Rattle.beam_model.specs.Loadable.{are_labels_lawful, are_heads_lawful, are_exports_lawful, are_natives_known, are_limits_met, are_functions_lawful, functions_of, signature_of, exported_signature, are_signatures_new, is_entry_of, is_number_operand, is_within, all_operands}
 use Rattle.beam_model.specs.Loads.{IsLoadable}
 use Rattle.beam_model.specs.Heads.{label, AreFunctions, IsWellFormed}
-use Rattle.beam_check.proofs.Found.{functions_found}
-use Rattle.beam_check.proofs.Told.{IsNumbered, AreNumbered, functions_told}
+use Rattle.beam_check.proofs.FunctionsComplete.{functions_complete}
+use Rattle.beam_check.proofs.FunctionsSound.{IsNumbered, AreNumbered, functions_sound}
 
 split_and : (a b : Bool) → (a && b) ≡ true → (a ≡ true) × (b ≡ true)
 split_and true b e = (refl, e)
@@ -114,7 +114,7 @@ well_formed l e =
     record {
       labels = p.labels;
       functions = h.functions;
-      are_functions = functions_told l.name l.instructions h.functions (numbered l.instructions p.limits) h.found;
+      are_functions = functions_sound l.name l.instructions h.functions (numbered l.instructions p.limits) h.found;
       count = h.counted;
       distinct = h.distinct;
       entries = sym entries ∙ x.0;
@@ -126,7 +126,7 @@ well_formed l e =
 
 pub loadable : (l : Listing) → IsWellFormed l → IsLoadable l
 loadable l w =
-    let found : functions_of l ≡ Some w.functions = functions_found l.name w.functions l.instructions w.are_functions in
+    let found : functions_of l ≡ Some w.functions = functions_complete l.name w.functions l.instructions w.are_functions in
     let count : (length w.functions == l.function_count) ≡ true = rw w.count (equal_counts l.function_count) in
     let heads : are_heads_lawful l ≡ true = ap (are_functions_lawful l.function_count) found ∙ both_true (length w.functions == l.function_count) (are_signatures_new [] (map signature_of w.functions)) count w.distinct in
     let entries : list_all (is_entry_of (unwrap_or (functions_of l) [])) l.exports ≡ true = ap (λ (o : Option (List Function)). list_all (is_entry_of (unwrap_or o [])) l.exports) found ∙ w.entries in
@@ -143,11 +143,11 @@ exports_lawful l w = (parts (are_labels_lawful l) (are_heads_lawful l) (are_expo
 
 -- the functions that stand in the code are found
 pub found_functions : (l : Listing) (functions : List Function) → AreFunctions l.name functions l.instructions → functions_of l ≡ Some functions
-found_functions l functions are = functions_found l.name functions l.instructions are
+found_functions l functions are = functions_complete l.name functions l.instructions are
 
 -- the functions that are found stand in the code, where labels have numbers
 pub standing_functions : (l : Listing) (functions : List Function) → are_limits_met l ≡ true → functions_of l ≡ Some functions → AreFunctions l.name functions l.instructions
-standing_functions l functions limits e = functions_told l.name l.instructions functions (numbered l.instructions limits) e
+standing_functions l functions limits e = functions_sound l.name l.instructions functions (numbered l.instructions limits) e
 
 abbrev these : List Function → Option (List Function)
 these fs = Some fs
@@ -155,5 +155,5 @@ these fs = Some fs
 -- at most one list of functions stands in the code
 pub same_functions : (name : List ℕ) (fs gs : List Function) (code : List Instruction) → AreFunctions name fs code → AreFunctions name gs code → fs ≡ gs
 same_functions name fs gs code a b =
-    let one : these fs ≡ these gs = sym (functions_found name fs code a) ∙ functions_found name gs code b in
+    let one : these fs ≡ these gs = sym (functions_complete name fs code a) ∙ functions_complete name gs code b in
     cc (one)

@@ -1,4 +1,4 @@
 pub mod Stage
 pub mod Fault
-pub mod Marked
-pub mod KeptOperands
+pub mod LabelSet
+pub mod ValidOperands

@@ -9,10 +9,10 @@ ghost use Rattle.beam_check.specs.Fault.{StandsIn};
 use crate::entries::are_entries;
 use crate::error::CheckError;
 use crate::functions::functions_of;
-use crate::kept::{
-    are_labels_lawful_where, are_limits_kept_where, are_natives_known_where, are_operands_kept,
-};
 use crate::signatures::{are_exports_distinct, are_functions_distinct};
+use crate::valid_operands::{
+    are_labels_lawful_where, are_limits_kept_where, are_natives_known_where, are_operands_valid,
+};
 use beam_model::function::Function;
 use beam_model::listing::Listing;
 use beam_shapes::search::frames;
@@ -73,8 +73,8 @@ pub fn check(alloc: Global, listing: &Listing) -> Result<(), CheckError>
     ensures only { IsWellFormed listing.now → IsOkUnless result CheckError.NoMemory }
     ensures fault { IfErr result (λ e. StandsIn e listing.now) }
 {
-    let kept = are_operands_kept(alloc, listing)?;
-    if !are_labels_lawful_where(alloc, listing, kept)? {
+    let valid = are_operands_valid(alloc, listing)?;
+    if !are_labels_lawful_where(alloc, listing, valid)? {
         return Err(CheckError::BadLabel);
     }
     let Some(functions) = lawful_functions(alloc, listing)? else {
@@ -83,10 +83,10 @@ pub fn check(alloc: Global, listing: &Listing) -> Result<(), CheckError>
     if !are_exports_lawful(alloc, listing, functions)? {
         return Err(CheckError::BadExport);
     }
-    if !are_natives_known_where(listing, kept) {
+    if !are_natives_known_where(listing, valid) {
         return Err(CheckError::UnknownBif);
     }
-    if !are_limits_kept_where(listing, kept) {
+    if !are_limits_kept_where(listing, valid) {
         return Err(CheckError::LimitExceeded);
     }
     if !frames(alloc, listing)? {

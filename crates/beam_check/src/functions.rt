@@ -55,14 +55,14 @@ fn informed_by<'a>(owner: &Atom, operands: &'a [Operand]) -> Option<Stage<'a>>
     }
 }
 
-fn behind_nothing<'a>(instruction: &'a Instruction) -> Option<Stage<'a>>
+fn at_start<'a>(instruction: &'a Instruction) -> Option<Stage<'a>>
     ensures { option_map shown result ≡ at_start instruction.now }
 {
     instruction.label()?;
     Some(Stage::FirstLabel)
 }
 
-fn behind_first_label<'a>(owner: &Atom, instruction: &'a Instruction) -> Option<Stage<'a>>
+fn after_first_label<'a>(owner: &Atom, instruction: &'a Instruction) -> Option<Stage<'a>>
     ensures { option_map shown result ≡ after_first_label owner.now instruction.now.opcode instruction.now.operands }
 {
     match instruction.opcode {
@@ -72,14 +72,14 @@ fn behind_first_label<'a>(owner: &Atom, instruction: &'a Instruction) -> Option<
     }
 }
 
-fn behind_func_info<'a>(instruction: &'a Instruction) -> Option<Stage<'a>>
+fn after_func_info<'a>(instruction: &'a Instruction) -> Option<Stage<'a>>
     ensures { option_map shown result ≡ after_func_info instruction.now }
 {
     instruction.label()?;
     Some(Stage::Body)
 }
 
-fn behind_body<'a>(instruction: &'a Instruction) -> Option<Stage<'a>>
+fn within_body<'a>(instruction: &'a Instruction) -> Option<Stage<'a>>
     ensures { option_map shown result ≡ within_body instruction.now.opcode }
 {
     match instruction.opcode {
@@ -89,7 +89,7 @@ fn behind_body<'a>(instruction: &'a Instruction) -> Option<Stage<'a>>
     }
 }
 
-fn behind_body_label<'a>(owner: &Atom, instruction: &'a Instruction) -> Option<Stage<'a>>
+fn after_body_label<'a>(owner: &Atom, instruction: &'a Instruction) -> Option<Stage<'a>>
     ensures { option_map shown result ≡ after_body_label owner.now instruction.now.opcode instruction.now.operands }
 {
     match instruction.opcode {
@@ -102,15 +102,15 @@ fn behind_body_label<'a>(owner: &Atom, instruction: &'a Instruction) -> Option<S
 
 impl<'a> Stage<'a> {
     /// The stage after an instruction, if the instruction may stand here.
-    fn behind(self, owner: &Atom, instruction: &'a Instruction) -> Option<Stage<'a>>
+    fn next_stage(self, owner: &Atom, instruction: &'a Instruction) -> Option<Stage<'a>>
         ensures { option_map shown result ≡ next_stage owner.now (shown self.entry) instruction.now }
     {
         match self {
-            Stage::Nothing => behind_nothing(instruction),
-            Stage::FirstLabel => behind_first_label(owner, instruction),
-            Stage::Informed(_, _) => behind_func_info(instruction),
-            Stage::Body => behind_body(instruction),
-            Stage::BodyLabel => behind_body_label(owner, instruction),
+            Stage::Nothing => at_start(instruction),
+            Stage::FirstLabel => after_first_label(owner, instruction),
+            Stage::Informed(_, _) => after_func_info(instruction),
+            Stage::Body => within_body(instruction),
+            Stage::BodyLabel => after_body_label(owner, instruction),
         }
     }
 
@@ -147,7 +147,7 @@ pub fn functions_of(alloc: Global, listing: &Listing) -> Result<Option<Vec<Funct
     let mut stage = Stage::Nothing;
     let mut rest = listing.instructions.as_slice();
     while let Some((instruction, others)) = rest.split_first() {
-        let Some(next) = stage.behind(&listing.module, instruction) else {
+        let Some(next) = stage.next_stage(&listing.module, instruction) else {
             return Ok(None);
         };
         stage.note(instruction, &mut functions)?;

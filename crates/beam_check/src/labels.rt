@@ -2,7 +2,7 @@
 ghost use Rattle.std.specs.Prelude.{◌≡◌, ℕ, ◌==◌, ◌&&◌, not, if◌then◌else◌, nat_lt, true, false, [], ◌∷◌, ◌++◌, ◌||◌, IfOk, OnOk, IfSome, IfNone};
 ghost use Rattle.std.specs.List.{list_all, zip};
 ghost use Rattle.beam_model.specs.Loadable.{defined_labels, is_among, are_new, is_none_label, all_operands, are_labels_lawful};
-ghost use Rattle.beam_check.specs.Marked.{is_marked, AreMarked, is_argument_marked, is_marked_in, is_target, are_marked_targets};
+ghost use Rattle.beam_check.specs.LabelSet.{has_label, HasLabels, is_argument_marked, is_marked_in, is_target, are_marked_targets};
 
 use beam_genop::kinds;
 use beam_model::instruction::{Argument, Instruction, Operand};
@@ -20,26 +20,26 @@ fn add(labels: &mut IndexSet<u32>, label: u32) -> Result<bool, AllocError>
 }
 
 /// Labels. Those below a number, as compilers number them, are marked in a table, and others stand in a set.
-pub struct Labels {
+pub struct LabelSet {
     near: Vec<bool>,
     far: IndexSet<u32>,
 }
 
-impl Drop for Labels {
+impl Drop for LabelSet {
     fn drop(self) {
-        let Labels {
+        let LabelSet {
             near: _near,
             far: _far,
         } = self;
     }
 }
 
-impl Labels {
+impl LabelSet {
     /// None, with a table for the labels below a number.
-    fn new(alloc: Global, size: usize) -> Result<Labels, AllocError>
-        ensures { IfOk result (λ labels. (n : ℕ) → is_marked labels n ≡ false) }
+    fn new(alloc: Global, size: usize) -> Result<LabelSet, AllocError>
+        ensures { IfOk result (λ labels. (n : ℕ) → has_label labels n ≡ false) }
     {
-        Ok(Labels {
+        Ok(LabelSet {
             near: vec![in alloc; false; size]?,
             far: IndexSet::new(alloc),
         })
@@ -48,8 +48,8 @@ impl Labels {
     /// Adds a label, and answers whether it is new.
     #[inline(always)]
     fn insert(&mut self, label: u32) -> Result<bool, AllocError>
-        ensures new { IfOk result (λ added. added ≡ not (is_marked self.old label)) }
-        ensures marked { OnOk result ((n : ℕ) → is_marked self.new n ≡ (n == label || is_marked self.old n)) }
+        ensures new { IfOk result (λ added. added ≡ not (has_label self.old label)) }
+        ensures marked { OnOk result ((n : ℕ) → has_label self.new n ≡ (n == label || has_label self.old n)) }
     {
         let index = label as usize;
         if index < self.near.len() {
@@ -64,7 +64,7 @@ impl Labels {
     /// Whether a label is one of them.
     #[inline(always)]
     fn contains(&self, label: u32) -> bool
-        ensures { result ≡ is_marked self.now label }
+        ensures { result ≡ has_label self.now label }
     {
         let index = label as usize;
         if index < self.near.len() {
@@ -81,13 +81,13 @@ pub fn defined(
     alloc: Global,
     instructions: &[Instruction],
     limit: u32,
-) -> Result<Option<Labels>, AllocError>
-    ensures some { IfOk result (λ o. IfSome o (λ s. AreMarked (defined_labels instructions.now) s × (are_new [] (defined_labels instructions.now) ≡ true)
+) -> Result<Option<LabelSet>, AllocError>
+    ensures some { IfOk result (λ o. IfSome o (λ s. HasLabels (defined_labels instructions.now) s × (are_new [] (defined_labels instructions.now) ≡ true)
         × (list_all (λ n. nat_lt n limit) (defined_labels instructions.now) ≡ true))) }
     ensures none { IfOk result (λ o. IfNone o ((are_new [] (defined_labels instructions.now) && list_all (λ n. nat_lt n limit) (defined_labels instructions.now))
         ≡ false)) }
 {
-    let mut labels = Labels::new(alloc, instructions.len())?;
+    let mut labels = LabelSet::new(alloc, instructions.len())?;
     let mut rest = instructions;
     while let Some((instruction, others)) = rest.split_first() {
         if let Some(label) = instruction.label() {
@@ -103,8 +103,8 @@ pub fn defined(
     Ok(Some(labels))
 }
 
-pub fn is_argument_defined(labels: &Labels, argument: &Argument) -> bool
-    ensures { result ≡ is_argument_marked (is_marked labels.now) argument.now }
+pub fn is_argument_defined(labels: &LabelSet, argument: &Argument) -> bool
+    ensures { result ≡ is_argument_marked (has_label labels.now) argument.now }
 {
     match argument {
         Argument::Label(label) => *label > 0 && labels.contains(*label),
@@ -112,16 +112,16 @@ pub fn is_argument_defined(labels: &Labels, argument: &Argument) -> bool
     }
 }
 
-fn are_arguments_defined(labels: &Labels, arguments: &[Argument]) -> bool
-    ensures { result ≡ list_all (is_argument_marked (is_marked labels.now)) arguments.now }
+fn are_arguments_defined(labels: &LabelSet, arguments: &[Argument]) -> bool
+    ensures { result ≡ list_all (is_argument_marked (has_label labels.now)) arguments.now }
 {
     arguments
         .iter()
         .all(|argument| is_argument_defined(labels, argument))
 }
 
-pub fn is_defined_in(labels: &Labels, operand: &Operand) -> bool
-    ensures { result ≡ is_marked_in (is_marked labels.now) operand.now }
+pub fn is_defined_in(labels: &LabelSet, operand: &Operand) -> bool
+    ensures { result ≡ is_marked_in (has_label labels.now) operand.now }
 {
     match operand {
         Operand::One(argument) => is_argument_defined(labels, argument),
@@ -136,8 +136,8 @@ fn is_none_label(operand: &Operand) -> bool
     matches!(operand, Operand::One(Argument::Label(0)))
 }
 
-fn is_defined(labels: &Labels, kind: Kind, operand: &Operand) -> bool
-    ensures { result ≡ is_target (is_marked labels.now) kind operand.now }
+fn is_defined(labels: &LabelSet, kind: Kind, operand: &Operand) -> bool
+    ensures { result ≡ is_target (has_label labels.now) kind operand.now }
 {
     match kind {
         Kind::FailLabel => is_none_label(operand) || is_defined_in(labels, operand),
@@ -145,8 +145,8 @@ fn is_defined(labels: &Labels, kind: Kind, operand: &Operand) -> bool
     }
 }
 
-fn are_pairs_defined(labels: &Labels, kinds: &[Kind], operands: &[Operand]) -> bool
-    ensures { result ≡ list_all (λ p. is_target (is_marked labels.now) p.0 p.1) (zip kinds.now operands.now) }
+fn are_pairs_defined(labels: &LabelSet, kinds: &[Kind], operands: &[Operand]) -> bool
+    ensures { result ≡ list_all (λ p. is_target (has_label labels.now) p.0 p.1) (zip kinds.now operands.now) }
 {
     kinds
         .iter()
@@ -154,14 +154,14 @@ fn are_pairs_defined(labels: &Labels, kinds: &[Kind], operands: &[Operand]) -> b
         .all(|(kind, operand)| is_defined(labels, *kind, operand))
 }
 
-fn are_operands_defined(labels: &Labels, kinds: &[Kind], operands: &[Operand]) -> bool
-    ensures { result ≡ all_operands (is_target (is_marked labels.now)) kinds.now operands.now }
+fn are_operands_defined(labels: &LabelSet, kinds: &[Kind], operands: &[Operand]) -> bool
+    ensures { result ≡ all_operands (is_target (has_label labels.now)) kinds.now operands.now }
 {
     kinds.len() == operands.len() && are_pairs_defined(labels, kinds, operands)
 }
 
-fn are_targets(labels: &Labels, instruction: &Instruction) -> bool
-    ensures { result ≡ are_marked_targets (is_marked labels.now) instruction.now }
+fn are_targets(labels: &LabelSet, instruction: &Instruction) -> bool
+    ensures { result ≡ are_marked_targets (has_label labels.now) instruction.now }
 {
     are_operands_defined(
         labels,
@@ -170,8 +170,8 @@ fn are_targets(labels: &Labels, instruction: &Instruction) -> bool
     )
 }
 
-fn are_all_targets(labels: &Labels, instructions: &[Instruction]) -> bool
-    ensures { result ≡ list_all (are_marked_targets (is_marked labels.now)) instructions.now }
+fn are_all_targets(labels: &LabelSet, instructions: &[Instruction]) -> bool
+    ensures { result ≡ list_all (are_marked_targets (has_label labels.now)) instructions.now }
 {
     instructions
         .iter()
@@ -179,7 +179,7 @@ fn are_all_targets(labels: &Labels, instructions: &[Instruction]) -> bool
 }
 
 /// Whether each label is defined once and is below the label count, and each one named is defined.
-#[tactic(auto, using(crate::proofs::Marks::all_targets_same))]
+#[tactic(auto, using(crate::proofs::LabelTests::all_targets_same))]
 pub fn are_labels_lawful(alloc: Global, listing: &Listing) -> Result<bool, AllocError>
     ensures { IfOk result (λ lawful. lawful ≡ are_labels_lawful listing.now) }
 {

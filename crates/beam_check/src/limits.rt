@@ -26,7 +26,7 @@ fn are_arguments_within(arguments: &[Argument]) -> bool
     arguments.iter().all(is_argument_within)
 }
 
-fn is_number(operand: &Operand) -> bool
+fn is_number_operand(operand: &Operand) -> bool
     ensures { result ≡ is_number_operand operand.now }
 {
     matches!(operand, Operand::One(Argument::Number(_)))
@@ -56,7 +56,7 @@ fn is_label_operand(operand: &Operand) -> bool
     matches!(operand, Operand::One(Argument::Label(_)))
 }
 
-fn is_register(operand: &Operand) -> bool
+fn is_register_operand(operand: &Operand) -> bool
     ensures { result ≡ is_register_operand operand.now }
 {
     match operand {
@@ -66,16 +66,16 @@ fn is_register(operand: &Operand) -> bool
     }
 }
 
-fn is_source(operand: &Operand) -> bool
+fn is_source_operand(operand: &Operand) -> bool
     ensures { result ≡ is_source_operand operand.now }
 {
     match operand {
         Operand::One(Argument::Term(_)) => true,
-        _ => is_register(operand),
+        _ => is_register_operand(operand),
     }
 }
 
-fn is_import(operand: &Operand) -> bool
+fn is_import_operand(operand: &Operand) -> bool
     ensures { result ≡ is_import_operand operand.now }
 {
     match operand {
@@ -84,7 +84,7 @@ fn is_import(operand: &Operand) -> bool
     }
 }
 
-fn is_list(operand: &Operand) -> bool
+fn is_list_operand(operand: &Operand) -> bool
     ensures { result ≡ is_list_operand operand.now }
 {
     match operand {
@@ -97,15 +97,15 @@ pub fn is_within(kind: Kind, operand: &Operand) -> bool
     ensures { result ≡ is_within kind operand.now }
 {
     match kind {
-        Kind::Number => is_number(operand),
+        Kind::Number => is_number_operand(operand),
         Kind::Arity => is_arity(operand),
         Kind::FrameSize => is_frame_size(operand),
         Kind::Label | Kind::FailLabel => is_label_operand(operand),
         Kind::Atom => atom_in(operand).is_some(),
-        Kind::Source => is_source(operand),
-        Kind::Register => is_register(operand),
-        Kind::Import | Kind::Native(_) => is_import(operand),
-        Kind::List => is_list(operand),
+        Kind::Source => is_source_operand(operand),
+        Kind::Register => is_register_operand(operand),
+        Kind::Import | Kind::Native(_) => is_import_operand(operand),
+        Kind::List => is_list_operand(operand),
     }
 }
 
@@ -135,7 +135,7 @@ fn are_instructions_within(instructions: &[Instruction]) -> bool
 }
 
 /// Whether operands are of their kinds, and registers and arities within their limits.
-pub fn are_limits_kept(listing: &Listing) -> bool
+pub fn are_limits_met(listing: &Listing) -> bool
     ensures { result ≡ are_limits_met listing.now }
 {
     are_instructions_within(&listing.instructions)

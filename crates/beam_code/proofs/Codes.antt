@@ -16,8 +16,8 @@ use Rattle.beam_model.specs.Compact.{OperandFault, ◌>>=◌, operand_at}
 use Rattle.beam_model.specs.CompactForm.{IsSpelling}
 use Rattle.beam_model.specs.CodeChunk.{CodeParts, CodeFault, truncated, bad_operand, meaning_of, position_after, spelled_at, or_bad_operand, meant_at, operands_at, or_unsupported_opcode, opcode_in, opcode_at, is_end, listed_operands, instruction_after_opcode, instructions_at, word_at, expected_at, code_of}
 use Rattle.beam_model.specs.Tables.{Tables}
-use Rattle.beam_operand.proofs.Spelled.{operand_spelled}
-use Rattle.beam_operand.proofs.Told.{operand_told}
+use Rattle.beam_operand.proofs.ReadingComplete.{operand_spelled}
+use Rattle.beam_operand.proofs.ReadingSound.{operand_sound}
 use Rattle.beam_model.specs.Sequence.{InSequence}
 use Rattle.beam_model.specs.ChunkForm.{IsWord}
 use Rattle.beam_model.specs.CodeForm.{IsOperand, AreOperands, IsInstruction, IsCode}
@@ -93,7 +93,7 @@ spelled_told : (code : List ℕ) (at : ℕ) (p : CompactOperand × ℕ) → spel
 unfolding spelled_at
 spelled_told code at p e =
     let b = behind_is code at (operand_at (drop at code)) p e in
-    let t = operand_told (drop at code) (p.0, b.0) b.1 in
+    let t = operand_sound (drop at code) (p.0, b.0) b.1 in
     let rest : drop p.1 code ≡ b.0 = ap (λ (k : ℕ). drop k code) b.2 ∙ left code t.text b.0 at t.parts in
     record { front = t.text; parts = t.parts ∙ ap (λ (u : List ℕ). t.text ++ u) (sym rest); is = t.is }
 

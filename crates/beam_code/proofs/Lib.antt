@@ -1,16 +1,16 @@
-pub mod Answered
-pub mod Standing
+pub mod ReadResults
+pub mod InstructionsAtStarts
 pub mod Codes
 pub mod Loops
-pub mod Places
+pub mod ReadingLayout
 pub mod Grouped
 pub mod Written
 pub mod Meaning
-pub mod Assembled
+pub mod RoundTrip
 pub mod Lent
 pub mod Short
 pub mod Whole
 pub mod Wide
-pub mod Noted
+pub mod LabelBytes
 pub mod Ascending
 mod Shared

@@ -14,7 +14,7 @@ use Rattle.beam_model.specs.Tables.{Tables}
 use Rattle.beam_model.specs.Opcodes.{kinds_of}
 use Rattle.beam_code.specs.declared.error.CodeError.{CodeError}
 use Rattle.beam_code.specs.declared.error.CodeError.TheVariants.{UnsupportedOpcode, BadOperand, Truncated, NoMemory}
-use Rattle.beam_code.specs.declared.instruction.Head.{Head}
+use Rattle.beam_code.specs.declared.instruction.InstructionSpan.{InstructionSpan}
 use Rattle.beam_code.specs.Faults.{Fails}
 use Rattle.beam_code.specs.Bytes.{standing_at}
 use Rattle.beam_code.specs.Shared.{put_last, made_of, IsWithin, IsPut}
@@ -63,7 +63,7 @@ put_longer old pool own new next r read put =
     let b = behind_them old pool next r read in
     omega (arith, ap length (put ∙ ap (λ (os : List Operand). os ++ own) b.front), length-append old own)
 
-pub instruction_put : (atoms : List (List ℕ)) (imports : List Import) (literals : List TermValue) (code : List ℕ) (opcode : Opcode) (at next : ℕ) (old pool new : List Operand) (h : Head)
+pub instruction_put : (atoms : List (List ℕ)) (imports : List Import) (literals : List TermValue) (code : List ℕ) (opcode : Opcode) (at next : ℕ) (old pool new : List Operand) (h : InstructionSpan)
     → put_last old (operands_at atoms imports literals code (kinds_of opcode) at) ≡ Ok (pool, next) → new ≡ take (length old) pool ++ listed_operands opcode (drop (length old) pool)
     → h.opcode ≡ opcode → h.from ≡ length old → h.from + h.count ≡ length new
     → (instruction_after_opcode atoms imports literals code opcode at ≡ Ok (made_of new h, next)) × IsPut old new h
@@ -88,29 +88,29 @@ part_before : (old more : List Operand) (from count : ℕ) → from + count ≤ 
 part_before old more from count le =
     ap (take count) (drop-append-le from old more (omega (arith, le))) ∙ take-append-le count (drop from old) more (omega (arith, le, length-drop from old))
 
-made_before : (old more : List Operand) (heads : List Head) → All (IsWithin old) heads → map (made_of (old ++ more)) heads ≡ map (made_of old) heads
+made_before : (old more : List Operand) (heads : List InstructionSpan) → All (IsWithin old) heads → map (made_of (old ++ more)) heads ≡ map (made_of old) heads
 made_before old more [] within = refl
 made_before old more (h ∷ hs) within =
     let one : made_of (old ++ more) h ≡ made_of old h =
     ap (λ (os : List Operand). instruction_of h.opcode os) (part_before old more h.from h.count (All-head (IsWithin old) h hs within)) in
     ap₂ (λ (i : Instruction) (is : List Instruction). i ∷ is) one (made_before old more hs (All-tail (IsWithin old) h hs within))
 
-grown : (old new : List Operand) (h : Head) → IsPut old new h → new ≡ old ++ drop (length old) new
+grown : (old new : List Operand) (h : InstructionSpan) → IsPut old new h → new ≡ old ++ drop (length old) new
 grown old new h p = sym (take-append-drop (length old) new) ∙ ap (λ (os : List Operand). os ++ drop (length old) new) p.front
 
-pub made_more : (old new : List Operand) (heads : List Head) (h : Head) → All (IsWithin old) heads → IsPut old new h → map (made_of new) (heads ++ h ∷ []) ≡ map (made_of old) heads ++ made_of new h ∷ []
+pub made_more : (old new : List Operand) (heads : List InstructionSpan) (h : InstructionSpan) → All (IsWithin old) heads → IsPut old new h → map (made_of new) (heads ++ h ∷ []) ≡ map (made_of old) heads ++ made_of new h ∷ []
 made_more old new heads h within p =
     let others : map (made_of new) heads ≡ map (made_of old) heads =
     ap (λ (os : List Operand). map (made_of os) heads) (grown old new h p) ∙ made_before old (drop (length old) new) heads within in
     map_push (made_of new) heads h ∙ ap (λ (is : List Instruction). is ++ made_of new h ∷ []) others
 
-pub within_more : (old new : List Operand) (heads : List Head) (h : Head) → All (IsWithin old) heads → IsPut old new h → All (IsWithin new) (heads ++ h ∷ [])
+pub within_more : (old new : List Operand) (heads : List InstructionSpan) (h : InstructionSpan) → All (IsWithin old) heads → IsPut old new h → All (IsWithin new) (heads ++ h ∷ [])
 within_more old new heads h within p =
     let longer : length old ≤ length new = omega (arith, p.from, p.to) in
     All-push (IsWithin new) heads h (All-weaker (IsWithin old) (IsWithin new) (λ g le. omega (arith, le, longer)) heads within) (omega (arith, p.to))
 
 -- the operands of an instruction by itself
-pub made_alone : (pool : List Operand) (h : Head) → IsPut [] pool h → made_of pool h ≡ instruction_of h.opcode pool
+pub made_alone : (pool : List Operand) (h : InstructionSpan) → IsPut [] pool h → made_of pool h ≡ instruction_of h.opcode pool
 made_alone pool h p =
     let from : h.from ≡ 0 = p.from in
     let all : drop h.from pool ≡ pool = ap (λ (n : ℕ). drop n pool) from in

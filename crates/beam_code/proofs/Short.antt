@@ -9,7 +9,7 @@ use Rattle.beam_model.specs.declared.compact.Compact.{Compact}
 use Rattle.beam_model.specs.declared.compact.Compact.TheVariants.{Number, Integer, X, Y, Label}
 use Rattle.beam_model.specs.declared.instruction.Argument.TheVariants as argument
 use Rattle.beam_model.specs.Compact.{tag_number, unsupported_operand, value_at, number_at, atom_or_nil, register_of_tag, register_at, extended_of, single_of_tag, single_at}
-use Rattle.beam_operand.proofs.Again.{tag_is, natural_again, number_read, integer_read, atom_read, x_read, y_read, label_read}
+use Rattle.beam_operand.proofs.RoundTrip.{tag_is, natural_again, number_read, integer_read, atom_read, x_read, y_read, label_read}
 use Rattle.beam_code.specs.Bytes.{CodeBytes}
 use Rattle.beam_code.proofs.Lent.{some_mapped, lendable}
 use Rattle.beam_code.specs.Operands.{meant_in, argument_in, argument_at, index_in, index_at, IsFront}

@@ -16,7 +16,7 @@ use Rattle.beam_model.specs.declared.opcode.Kind.{Kind}
 use Rattle.beam_model.specs.declared.opcode.Kind.TheVariants as kind
 use Rattle.beam_model.specs.Compact.{tag_number, as_operand, single_of_tag, operand_of_tag, operand_at}
 use Rattle.beam_model.specs.CodeChunk.{meaning_of, position_after, spelled_at, meant_at}
-use Rattle.beam_operand.proofs.Again.{tag_is}
+use Rattle.beam_operand.proofs.RoundTrip.{tag_is}
 use Rattle.beam_code.specs.Whole.{number_of_byte, register_of_byte, label_of_byte, argument_of_byte}
 use Rattle.beam_code.proofs.Short.{IsShort, short_of, low_tag, short_value, read_as, next_is}
 

@@ -16,7 +16,7 @@ use Rattle.beam_model.specs.declared.opcode.Kind.{Kind}
 use Rattle.beam_model.specs.declared.opcode.Kind.TheVariants as kind
 use Rattle.beam_model.specs.Compact.{tag_number, value_at, operand_of_tag, operand_at}
 use Rattle.beam_model.specs.CodeChunk.{meaning_of, position_after, spelled_at, meant_at}
-use Rattle.beam_operand.proofs.Again.{tag_is}
+use Rattle.beam_operand.proofs.RoundTrip.{tag_is}
 use Rattle.beam_operand.proofs.Small.{chosen}
 use Rattle.beam_code.specs.Whole.{numbered_import, import_of_byte, number_in_two, number_in_three, wide_number, two_or_three, argument_of_bytes}
 use Rattle.beam_code.proofs.Short.{short_of, wide_value, read_as}

@@ -2,8 +2,8 @@ pub mod Ascending
 pub mod Bytes
 pub mod Faults
 pub mod Operands
-pub mod Parts
-pub mod Places
+pub mod ReadChunk
+pub mod ChunkLayout
 pub mod Shared
 pub mod Starts
 pub mod Whole

@@ -10,11 +10,11 @@ ghost use Rattle.beam_model.specs.Opcodes.{kinds_of};
 ghost use Rattle.beam_code.specs.Bytes.{instructions_in, start_of, end_of, raw_in, spelled_in, AreLabels, AreStarts};
 ghost use Rattle.beam_code.specs.Faults.{Gives};
 ghost use Rattle.beam_code.specs.Operands.{argument_of, HasSmall, meant_in, argument_at, index_at, IsFront};
-ghost use Rattle.beam_code.specs.Parts.{parts_of, tables_of};
+ghost use Rattle.beam_code.specs.ReadChunk.{parts_of, tables_of};
 
 use crate::error::CodeError;
-use crate::instruction::{Places, standing};
-use crate::operands::{ArgumentRef, Operands};
+use crate::instruction::{ChunkLayout, standing};
+use crate::operands::{ArgumentRef, OperandReader};
 use crate::read::{CodeChunk, code_chunk};
 use crate::share::{atom_terms, shared_imports};
 use beam_genop::by_number;
@@ -36,7 +36,7 @@ pub struct CodeBytes {
     imports: Vec<Import>,
     literals: Vec<Term>,
     code: Vec<u8>,
-    places: Places,
+    places: ChunkLayout,
 }
 
 impl Drop for CodeBytes {
@@ -58,8 +58,8 @@ impl Model for CodeBytes {
     ghost use Rattle.beam_term.specs.Coding.{term_code};
     ghost use Rattle.beam_term.specs.TermValue.{atom_term};
     ghost use Rattle.beam_code.specs.Bytes.{CodeBytes as TheBytes, AreStarts, AreLabels};
-    ghost use Rattle.beam_code.specs.Parts.{tables_of};
-    ghost use Rattle.beam_code.specs.Places.{chunk_with};
+    ghost use Rattle.beam_code.specs.ReadChunk.{tables_of};
+    ghost use Rattle.beam_code.specs.ChunkLayout.{chunk_with};
 
     ghost Value = { TheBytes };
 
@@ -239,7 +239,7 @@ impl CodeBytes {
     }
 
     #[inline(always)]
-    fn operands(&self, at: usize, opcode: Opcode) -> Operands<'_>
+    fn operands(&self, at: usize, opcode: Opcode) -> OperandReader<'_>
         requires { opcode ≡ (spelled_in self.now at).instruction.opcode }
         ensures tables { result.tables ≡ self.now.tables }
         ensures kinds { result.kinds ≡ kinds_of opcode }
@@ -247,7 +247,7 @@ impl CodeBytes {
     {
         // Reading a field makes the type's invariant known.
         let _ = &self.places;
-        Operands {
+        OperandReader {
             bytes: self,
             opcode,
             count: 0,
@@ -258,7 +258,7 @@ impl CodeBytes {
     /// A reader of the operands of the instruction of a position, which has this opcode, one after another and in place. In O(1),
     /// without memory.
     #[inline(always)]
-    pub fn operands_at(&self, at: usize, opcode: Opcode) -> Operands<'_>
+    pub fn operands_at(&self, at: usize, opcode: Opcode) -> OperandReader<'_>
         requires within { at < length (instructions_in self.now) }
         requires opcode { opcode ≡ (spelled_in self.now at).instruction.opcode }
         ensures tables { result.tables ≡ self.now.tables }
@@ -268,7 +268,7 @@ impl CodeBytes {
     {
         // Reading a field makes the type's invariant known.
         let _ = &self.places;
-        Operands {
+        OperandReader {
             bytes: self,
             opcode,
             count: 0,
@@ -295,7 +295,7 @@ impl CodeBytes {
     }
 }
 
-/// Operands where they stand.
+/// OperandReader where they stand.
 impl CodeBytes {
     /// The byte at a position.
     #[inline(always)]
@@ -565,7 +565,7 @@ impl<'a> Instr<'a> {
 
     /// Its operands, to be read one after another where they stand. In O(1), without memory.
     #[inline(always)]
-    pub fn operands(&self) -> Operands<'a>
+    pub fn operands(&self) -> OperandReader<'a>
         ensures tables { result.tables ≡ self.now.tables }
         ensures kinds { result.kinds ≡ kinds_of self.now.instruction.opcode }
         // A line's operand differs: a listing has 0.
@@ -576,7 +576,7 @@ impl<'a> Instr<'a> {
 
     /// A reader of its operands, as `operands`, where its opcode is known: that isn't read again.
     #[inline(always)]
-    pub fn operands_of(&self, opcode: Opcode) -> Operands<'a>
+    pub fn operands_of(&self, opcode: Opcode) -> OperandReader<'a>
         requires { opcode ≡ self.now.instruction.opcode }
         ensures tables { result.tables ≡ self.now.tables }
         ensures kinds { result.kinds ≡ kinds_of opcode }

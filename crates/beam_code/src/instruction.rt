@@ -7,8 +7,8 @@ ghost use Rattle.beam_model.specs.Opcodes.{kinds_of};
 ghost use Rattle.beam_model.specs.CodeChunk.{operands_at, opcode_at, is_end, listed_operands, instruction_after_opcode, instructions_at};
 ghost use Rattle.beam_code.specs.Bytes.{standing_at};
 ghost use Rattle.beam_code.specs.Faults.{Gives};
-ghost use Rattle.beam_code.specs.Parts.{tables_of};
-ghost use Rattle.beam_code.specs.Places.{HavePlaces};
+ghost use Rattle.beam_code.specs.ReadChunk.{tables_of};
+ghost use Rattle.beam_code.specs.ChunkLayout.{HasLayout};
 ghost use Rattle.beam_code.specs.Shared.{put_last, made_of, IsWithin, IsPut};
 
 use crate::error::CodeError;
@@ -24,7 +24,7 @@ use std::alloc::{AllocError, Global};
 use std::sync::Arc;
 
 /// Where the instructions of a chunk stand. Positions count the chunk's bytes.
-pub struct Places {
+pub struct ChunkLayout {
     /// Where each begins.
     pub starts: Starts,
     /// The labels in the order of their numbers, each with the byte after its label instruction.
@@ -33,9 +33,9 @@ pub struct Places {
     pub end: u32,
 }
 
-impl Drop for Places {
+impl Drop for ChunkLayout {
     fn drop(self) {
-        let Places {
+        let ChunkLayout {
             starts: _starts,
             labels: _labels,
             end: _end,
@@ -48,7 +48,7 @@ const FIRST: usize = 20;
 
 /// Where the operands of an instruction stand in a vector that others share.
 #[derive(Clone, Copy)]
-struct Head {
+struct InstructionSpan {
     opcode: Opcode,
     from: u32,
     count: u32,
@@ -117,7 +117,7 @@ fn instruction(
     opcode: Opcode,
     at: usize,
     pool: &mut Vec<Operand>,
-) -> Result<(Head, usize), CodeError>
+) -> Result<(InstructionSpan, usize), CodeError>
     requires { at ≤ length code.now }
     ensures exact { Gives (λ r. (made_of pool.new.items r.0, r.1)) result (instruction_after_opcode atoms.now imports.now literals.now code.now opcode at) }
     ensures put { IfOk result (λ r. IsPut pool.old.items pool.new.items r.0) }
@@ -141,7 +141,7 @@ fn instruction(
     }
     let from = start as u32;
     let count = (end - start) as u32;
-    let head = Head {
+    let head = InstructionSpan {
         opcode,
         from,
         count,
@@ -152,7 +152,7 @@ fn instruction(
 /// The instructions whose operands stand in a vector, which they share.
 fn sharing(
     alloc: Global,
-    heads: &[Head],
+    heads: &[InstructionSpan],
     pool: &Arc<Vec<Operand>>,
 ) -> Result<Vec<Instruction>, AllocError>
     requires { All (IsWithin (arc_value pool.now).items) heads.now }
@@ -211,10 +211,10 @@ pub fn instructions(
     imports: &[Import],
     literals: &[Term],
     code: &[u8],
-) -> Result<(Vec<Instruction>, Places), CodeError>
+) -> Result<(Vec<Instruction>, ChunkLayout), CodeError>
     requires { 20 ≤ length code.now }
     ensures exact { Gives (λ r. r.0.items) result (instructions_at atoms.now imports.now literals.now code.now (length code.now) 20) }
-    ensures places { IfOk result (λ r. HavePlaces (tables_of atoms.now imports.now literals.now) code.now r.0.items r.1) }
+    ensures places { IfOk result (λ r. HasLayout (tables_of atoms.now imports.now literals.now) code.now r.0.items r.1) }
 {
     if code.len() > u32::MAX as usize {
         return Err(CodeError::NoMemory);
@@ -232,7 +232,7 @@ pub fn instructions(
             let labels = labels(alloc, &instructions, &starts, end)?;
             return Ok((
                 instructions,
-                Places {
+                ChunkLayout {
                     starts,
                     labels,
                     end,

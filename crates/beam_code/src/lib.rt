@@ -18,6 +18,6 @@ mod write;
 pub use bytes::{CodeBytes, Instr};
 pub use error::CodeError;
 pub use numbering::Numbering;
-pub use operands::{ArgumentRef, Operands};
+pub use operands::{ArgumentRef, OperandReader};
 pub use read::{CodeChunk, read_code};
 pub use write::write_code;

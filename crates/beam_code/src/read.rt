@@ -4,11 +4,11 @@ ghost use Rattle.std.specs.Prelude.{◌≡◌, ◌+◌, ◌≤◌, ◌<◌, ◌^
 ghost use Rattle.beam_model.specs.CodeChunk.{CodeParts, word_at, expected_at, code_of};
 ghost use Rattle.beam_model.specs.CodeForm.{IsCode};
 ghost use Rattle.beam_code.specs.Faults.{Gives};
-ghost use Rattle.beam_code.specs.Parts.{parts_of, tables_of};
-ghost use Rattle.beam_code.specs.Places.{HavePlaces};
+ghost use Rattle.beam_code.specs.ReadChunk.{parts_of, tables_of};
+ghost use Rattle.beam_code.specs.ChunkLayout.{HasLayout};
 
 use crate::error::CodeError;
-use crate::instruction::{Places, instructions};
+use crate::instruction::{ChunkLayout, instructions};
 use beam_model::function::Import;
 use beam_model::instruction::Instruction;
 use beam_term::{Atom, Term};
@@ -57,9 +57,9 @@ pub fn code_chunk(
     atoms: &[Atom],
     imports: &[Import],
     literals: &[Term],
-) -> Result<(CodeChunk, Places), CodeError>
+) -> Result<(CodeChunk, ChunkLayout), CodeError>
     ensures exact { Gives (λ r. parts_of r.0) result (code_of atoms.now imports.now literals.now code.now) }
-    ensures places { IfOk result (λ r. HavePlaces (tables_of atoms.now imports.now literals.now) code.now r.0.instructions.items r.1) }
+    ensures places { IfOk result (λ r. HasLayout (tables_of atoms.now imports.now literals.now) code.now r.0.instructions.items r.1) }
 {
     let _size = expect_word(code, 0, 16)?;
     let _format = expect_word(code, 4, 0)?;

@@ -13,8 +13,8 @@ use Rattle.beam_machine.specs.State.{with_signals}
 use Rattle.beam_laws.proofs.Hearing.{as_before}
 use Rattle.beam_laws.proofs.Orderly.{Orderly}
 use Rattle.beam_stack.proofs.Anys.{none, alike}
-use Rattle.beam_codesrv.specs.declared.lingering.Old.{Old}
-use Rattle.beam_codesrv.specs.declared.lingering.Old.TheVariants.{One, Several}
+use Rattle.beam_codesrv.specs.declared.lingering.OldInstances.{OldInstances}
+use Rattle.beam_codesrv.specs.declared.lingering.OldInstances.TheVariants.{One, Several}
 use Rattle.beam_codesrv.specs.Ends.{lingers_in, end_if, heard_of, told}
 
 -- the first n items mapped
@@ -39,12 +39,12 @@ partly_there f (suc n) (x ∷ xs) d = partly_there f n xs d
 
 -- a process that lingers in an old instance hasn't ended
 
-pub ended_not : (old : Old) (p : Process) (reason value : TermValue) → lingers_in old (ended p reason value) ≡ false
+pub ended_not : (old : OldInstances) (p : Process) (reason value : TermValue) → lingers_in old (ended p reason value) ≡ false
 ended_not (One None) p reason value = refl
 ended_not (One (Some number)) p reason value = refl
 ended_not (Several numbers) p reason value = sym (none numbers.now.keys)
 
-pub lingering_lives : (old : Old) (ps : List Process) (at : ℕ) (p d : Process) → Orderly ps → at < length ps → p ≡ get_or ps at d → lingers_in old p ≡ true → is_ended p.status ≡ false
+pub lingering_lives : (old : OldInstances) (ps : List Process) (at : ℕ) (p d : Process) → Orderly ps → at < length ps → p ≡ get_or ps at d → lingers_in old p ≡ true → is_ended p.status ≡ false
 lingering_lives old ps at p d o within is there = go p.status refl
   where
     go : (status : Status) → p.status ≡ status → is_ended p.status ≡ false
@@ -61,7 +61,7 @@ nobody test ps fails = none ps ∙ sym (alike test (λ p. false) ps fails)
 
 -- the signals in transit to a process don't decide whether it lingers
 
-pub same_lingers : (old : Old) (signals : List Signal) (p : Process) → lingers_in old (with_signals signals p) ≡ lingers_in old p
+pub same_lingers : (old : OldInstances) (signals : List Signal) (p : Process) → lingers_in old (with_signals signals p) ≡ lingers_in old p
 same_lingers (One None) signals p = refl
 same_lingers (One (Some number)) signals p = as_before (lingers_in (One (Some number))) signals p refl
 same_lingers (Several numbers) signals p = as_before (lingers_in (Several numbers)) signals p refl
@@ -90,5 +90,5 @@ each_killed test pids (p ∷ ps) same =
     ap (λ q. q ∷ map (end_if test) (map (λ p. with_signals (heard_of pids p) p) ps)) (one_killed test pids p same)
     ∙ ap (λ qs. ends_or_hears test pids p ∷ qs) (each_killed test pids ps same)
 
-pub told_and_ended : (old : Old) (ps : List Process) → map (end_if (lingers_in old)) (told (lingers_in old) ps) ≡ killing (lingers_in old) ps
+pub told_and_ended : (old : OldInstances) (ps : List Process) → map (end_if (lingers_in old)) (told (lingers_in old) ps) ≡ killing (lingers_in old) ps
 told_and_ended old ps = each_killed (lingers_in old) (pids_of (lingers_in old) ps) ps (same_lingers old)

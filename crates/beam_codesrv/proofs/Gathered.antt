@@ -7,12 +7,12 @@ use Rattle.beam_machine.specs.Private.{Sent}
 use Rattle.beam_machine.specs.Process.{Process}
 use Rattle.beam_machine.specs.State.{process_of}
 use Rattle.beam_laws.proofs.Orderly.{Numbered}
-use Rattle.beam_watches.specs.declared.watches.Watch.{Watch}
-use Rattle.beam_codesrv.specs.Ends.{there_passes, watchers, down_by, end_downs, notices}
+use Rattle.beam_watches.specs.declared.monitored_by.MonitorOrigin.{MonitorOrigin}
+use Rattle.beam_codesrv.specs.Ends.{there_passes, monitor_origins, down_by, end_downs, notices}
 
 -- ---- the DOWNs of these watches
 
-pids_more : (test : Process → Bool) (f : ℕ → List Watch) (p : Process) (ps : List Process)
+pids_more : (test : Process → Bool) (f : ℕ → List MonitorOrigin) (p : Process) (ps : List Process)
     → flat_map (λ pid. map down_by (f pid)) (pids_of test (p ∷ ps)) ≡ end_downs test f p ++ flat_map (λ pid. map down_by (f pid)) (pids_of test ps)
 pids_more test f p ps = go (test p)
   where
@@ -21,14 +21,14 @@ pids_more test f p ps = go (test p)
     go true = refl
     go false = refl
 
-pub end_further : (test : Process → Bool) (f : ℕ → List Watch) (old new all : List Sent) (p : Process) (ps : List Process) → new ≡ old ++ end_downs test f p
+pub end_further : (test : Process → Bool) (f : ℕ → List MonitorOrigin) (old new all : List Sent) (p : Process) (ps : List Process) → new ≡ old ++ end_downs test f p
     → old ++ flat_map (λ pid. map down_by (f pid)) (pids_of test (p ∷ ps)) ≡ all → new ++ flat_map (λ pid. map down_by (f pid)) (pids_of test ps) ≡ all
 end_further test f old new all p ps is so_far =
     ap (λ ss. ss ++ flat_map (λ pid. map down_by (f pid)) (pids_of test ps)) is
     ∙ (append_assoc old (end_downs test f p) (flat_map (λ pid. map down_by (f pid)) (pids_of test ps))
     ∙ (ap (λ ss. old ++ ss) (sym (pids_more test f p ps)) ∙ so_far))
 
-of_passing : (test : Process → Bool) (f g : ℕ → List Watch) (ps : List Process) → ((i : ℕ) (p : Process) → slice_get ps i ≡ Some p → test p ≡ true → f p.pid ≡ g p.pid)
+of_passing : (test : Process → Bool) (f g : ℕ → List MonitorOrigin) (ps : List Process) → ((i : ℕ) (p : Process) → slice_get ps i ≡ Some p → test p ≡ true → f p.pid ≡ g p.pid)
     → flat_map (λ pid. map down_by (f pid)) (pids_of test ps) ≡ flat_map (λ pid. map down_by (g pid)) (pids_of test ps)
 of_passing test f g [] same = refl
 of_passing test f g (p ∷ ps) same =
@@ -47,8 +47,8 @@ at_pid ps i n e =
     ap (λ b. cond b (slice_get ps (n - 1)) None) there ∙ ap (slice_get ps) place
 
 -- the watches that a walk gathered are the watches of all processes that pass the test
-pub are_notices : (test : Process → Bool) (ps : List Process) (f : ℕ → List Watch) → Numbered ps → ((n : ℕ) → there_passes test (process_of ps n) ≡ true → f n ≡ watchers n ps)
+pub are_notices : (test : Process → Bool) (ps : List Process) (f : ℕ → List MonitorOrigin) → Numbered ps → ((n : ℕ) → there_passes test (process_of ps n) ≡ true → f n ≡ monitor_origins n ps)
     → flat_map (λ pid. map down_by (f pid)) (pids_of test ps) ≡ notices test ps
 are_notices test ps f numbered gathered =
-    of_passing test f (λ pid. watchers pid ps) ps
+    of_passing test f (λ pid. monitor_origins pid ps) ps
     (λ i p e passes. gathered p.pid (ap (there_passes test) (at_pid ps i p.pid (numbered i p e).0 ∙ e) ∙ passes))

@@ -16,7 +16,7 @@ use Rattle.beam_laws.specs.Signals.{each_sent, signals_to}
 use Rattle.beam_laws.proofs.Hearing.{gets_none}
 use Rattle.beam_laws.proofs.Orderly.{Numbered}
 use Rattle.beam_laws.proofs.Posting.{signals_append, all_posted_at, said, each_sent_to}
-use Rattle.beam_codesrv.specs.Ends.{heard_of, told, live_monitors, watches_by, watchers, down_by, notices}
+use Rattle.beam_codesrv.specs.Ends.{heard_of, told, live_monitors, origins_by, monitor_origins, down_by, notices}
 
 -- ---- a list by its places
 
@@ -52,14 +52,14 @@ as_sent at receiver (m ∷ ms) e =
     ap (λ n. record { to = n; signal = Down m.reference killed } ∷ map down_by (map (λ m. record { receiver = receiver; reference = m.reference }) ms)) e
     ∙ ap (λ ss. sent ∷ ss) (as_sent at receiver ms e)
 
-watchers_sent : (pid at : ℕ) (ps : List Process) → AreFrom at ps → map down_by (watchers pid ps) ≡ each_sent at (downs_to pid) ps
-watchers_sent pid at [] numbered = refl
-watchers_sent pid at (p ∷ ps) numbered =
+origins_sent : (pid at : ℕ) (ps : List Process) → AreFrom at ps → map down_by (monitor_origins pid ps) ≡ each_sent at (downs_to pid) ps
+origins_sent pid at [] numbered = refl
+origins_sent pid at (p ∷ ps) numbered =
     let here : p.pid ≡ at = omega (arith, numbered 0 p refl) in
     let rest : AreFrom (at + 1) ps = λ i q e. (numbered (suc i) q e ∙ omega arith) in
-    map-append down_by (watches_by p.pid pid (live_monitors p)) (watchers pid ps)
-    ∙ (ap (λ ss. ss ++ map down_by (watchers pid ps)) (as_sent at p.pid (filter (monitors_process pid) (live_monitors p)) here)
-    ∙ ap (λ ss. map (λ signal. record { to = at; signal = signal }) (downs_to pid p) ++ ss) (watchers_sent pid (at + 1) ps rest))
+    map-append down_by (origins_by p.pid pid (live_monitors p)) (monitor_origins pid ps)
+    ∙ (ap (λ ss. ss ++ map down_by (monitor_origins pid ps)) (as_sent at p.pid (filter (monitors_process pid) (live_monitors p)) here)
+    ∙ ap (λ ss. map (λ signal. record { to = at; signal = signal }) (downs_to pid p) ++ ss) (origins_sent pid (at + 1) ps rest))
 
 -- ---- all signals that are posted, seen from one process
 
@@ -73,11 +73,11 @@ each_alike f g [] same = refl
 each_alike f g (x ∷ xs) same = ap (λ ys. ys ++ flat_map f xs) (same x) ∙ ap (λ ys. g x ++ ys) (each_alike f g xs same)
 
 seen : (pids : List ℕ) (ps : List Process) (n : ℕ) → Numbered ps
-    → signals_to n (flat_map (λ pid. map down_by (watchers pid ps)) pids) ≡ flat_map (λ pid. said (downs_to pid) (process_of ps n)) pids
+    → signals_to n (flat_map (λ pid. map down_by (monitor_origins pid ps)) pids) ≡ flat_map (λ pid. said (downs_to pid) (process_of ps n)) pids
 seen pids ps n numbered =
-    signals_of_each n (λ pid. map down_by (watchers pid ps)) pids
-    ∙ each_alike (λ pid. signals_to n (map down_by (watchers pid ps))) (λ pid. said (downs_to pid) (process_of ps n)) pids
-    (λ pid. ap (signals_to n) (watchers_sent pid 1 ps (λ i p e. (numbered i p e).0)) ∙ each_sent_to (downs_to pid) ps n)
+    signals_of_each n (λ pid. map down_by (monitor_origins pid ps)) pids
+    ∙ each_alike (λ pid. signals_to n (map down_by (monitor_origins pid ps))) (λ pid. said (downs_to pid) (process_of ps n)) pids
+    (λ pid. ap (signals_to n) (origins_sent pid 1 ps (λ i p e. (numbered i p e).0)) ∙ each_sent_to (downs_to pid) ps n)
 
 -- an ended process hears nothing, and any other a DOWN for each of its monitors of these pids
 hears_so : (pids : List ℕ) (p : Process) → with_signals (flat_map (λ pid. downs_to pid p) pids) p ≡ with_signals (heard_of pids p) p

@@ -13,7 +13,7 @@ use Rattle.beam_machine.specs.Code.{Code, Instance, Versions, versions_of, listi
 use Rattle.beam_machine.specs.Change.{changed, deleted, purged, loaded, has_instance, with_versions, is_live, old_of}
 use Rattle.beam_laws.specs.Numbers.{bears, how_many}
 use Rattle.beam_laws.proofs.Numbering.{counted, deleted_fewer, purged_fewer, loaded_one, one_at_most}
-use Rattle.beam_codesrv.specs.Homes.{Pair, Module, versions_in, code_of, number_of, with_change, has_any, put, is_bare, tidied, changed_in, old_number, dropped_of, Homes, with_home, without, Stands, AreNamedOnce}
+use Rattle.beam_codesrv.specs.Homes.{Pair, ModuleEntry, versions_in, code_of, number_of, with_change, has_any, put, is_bare, tidied, changed_in, old_number, dropped_of, Homes, with_home, without, IsIndexOf, AreNamedOnce}
 
 same_name : (s t : List ℕ) → same_text s t ≡ true → s ≡ t
 same_name s t e = (bytes_eq-Decides s t).0 e
@@ -26,11 +26,11 @@ itself a = grind (arith, nat_tests)
 
 -- ---- names
 
-fresh : (eq : List ℕ → Bool) (ms : List Module) → AllByRecursion (λ y. eq y ≡ false) (keys_of ms) → lookup eq ms ≡ None
+fresh : (eq : List ℕ → Bool) (ms : List ModuleEntry) → AllByRecursion (λ y. eq y ≡ false) (keys_of ms) → lookup eq ms ≡ None
 fresh eq [] h = refl
 fresh eq (m ∷ ms) h = ap (λ b. cond b (Some m.1) (lookup eq ms)) h.0 ∙ fresh eq ms h.1
 
-pub named_once : (ms : List Module) → IsDistinct same_text (keys_of ms) → AreNamedOnce ms
+pub named_once : (ms : List ModuleEntry) → IsDistinct same_text (keys_of ms) → AreNamedOnce ms
 unfolding IsDistinct
 named_once [] h = tt
 named_once (m ∷ ms) h = (fresh (same_text m.0) ms h.0, named_once ms h.1)
@@ -40,7 +40,7 @@ named_once (m ∷ ms) h = (fresh (same_text m.0) ms h.0, named_once ms h.1)
 flipped : (a b : List ℕ) → same_text a b ≡ same_text b a
 flipped a b = nat_list_eq_equiv.symm a b
 
-pub current_found : (ms : List Module) (name : List ℕ) → (versions_of (code_of ms) name).current ≡ option_and_then (λ v. v.0) (lookup (same_text name) ms)
+pub current_found : (ms : List ModuleEntry) (name : List ℕ) → (versions_of (code_of ms) name).current ≡ option_and_then (λ v. v.0) (lookup (same_text name) ms)
 current_found [] name = refl
 current_found (m ∷ ms) name =
     ap (λ b. (cond b (versions_in m) (versions_of (code_of ms) name)).current) (flipped m.0 name)
@@ -49,7 +49,7 @@ current_found (m ∷ ms) name =
       | false ↦ current_found ms name
     ]
 
-pub old_found : (ms : List Module) (name : List ℕ) → (versions_of (code_of ms) name).old ≡ option_and_then (λ v. v.1) (lookup (same_text name) ms)
+pub old_found : (ms : List ModuleEntry) (name : List ℕ) → (versions_of (code_of ms) name).old ≡ option_and_then (λ v. v.1) (lookup (same_text name) ms)
 old_found [] name = refl
 old_found (m ∷ ms) name =
     ap (λ b. (cond b (versions_in m) (versions_of (code_of ms) name)).old) (flipped m.0 name)
@@ -60,53 +60,53 @@ old_found (m ∷ ms) name =
 
 -- ---- changes of the modules
 
-pub not_there : (f : Pair → Pair) (name : List ℕ) (ms : List Module) → None ≡ lookup (same_text name) ms → ms ≡ with_change f name ms
+pub not_there : (f : Pair → Pair) (name : List ℕ) (ms : List ModuleEntry) → None ≡ lookup (same_text name) ms → ms ≡ with_change f name ms
 not_there f name [] = λ e. refl
 not_there f name (m ∷ ms) = elim (same_text name m.0) as (λ b. None ≡ cond b (Some m.1) (lookup (same_text name) ms) → m ∷ ms ≡ cond b ((m.0, f m.1) ∷ ms) (m ∷ with_change f name ms)) [
   | true ↦ λ e. cc
   | false ↦ λ e. ap (λ rest. m ∷ rest) (not_there f name ms e)
 ]
 
-written : (f : Pair → Pair) (name : List ℕ) (ms : List Module) (v : Pair) → Some v ≡ lookup (same_text name) ms → set_value (same_text name) ms (f v) ≡ with_change f name ms
+written : (f : Pair → Pair) (name : List ℕ) (ms : List ModuleEntry) (v : Pair) → Some v ≡ lookup (same_text name) ms → set_value (same_text name) ms (f v) ≡ with_change f name ms
 written f name [] v = λ e. refl
 written f name (m ∷ ms) v = elim (same_text name m.0) as (λ b. Some v ≡ cond b (Some m.1) (lookup (same_text name) ms) → cond b ((m.0, f v) ∷ ms) (m ∷ set_value (same_text name) ms (f v)) ≡ cond b ((m.0, f m.1) ∷ ms) (m ∷ with_change f name ms)) [
   | true ↦ λ e. ap (λ w. (m.0, f w) ∷ ms) (ap (λ o. unwrap_or o v) e)
   | false ↦ λ e. ap (λ rest. m ∷ rest) (written f name ms v e)
 ]
 
-pub changed_there : (f : Pair → Pair) (name : List ℕ) (ms after : List Module) (v w : Pair) → Some v ≡ lookup (same_text name) ms → after ≡ set_value (same_text name) ms w → w ≡ f v → after ≡ with_change f name ms
+pub changed_there : (f : Pair → Pair) (name : List ℕ) (ms after : List ModuleEntry) (v w : Pair) → Some v ≡ lookup (same_text name) ms → after ≡ set_value (same_text name) ms w → w ≡ f v → after ≡ with_change f name ms
 changed_there f name ms after v w there is moved = is ∙ (ap (set_value (same_text name) ms) moved ∙ written f name ms v there)
 
-pub tidied_change : (f : Pair → Pair) (name : List ℕ) (ms : List Module) → tidied name (with_change f name ms) ≡ changed_in f name ms
+pub tidied_change : (f : Pair → Pair) (name : List ℕ) (ms : List ModuleEntry) → tidied name (with_change f name ms) ≡ changed_in f name ms
 tidied_change f name [] = refl
 tidied_change f name (m ∷ ms) = go (tidied_change f name ms) (same_text name m.0) refl
   where
-    go : tidied name (with_change f name ms) ≡ changed_in f name ms → (b : Bool) → same_text name m.0 ≡ b → tidied name (cond {A = List Module} b ((m.0, f m.1) ∷ ms) (m ∷ with_change f name ms)) ≡ cond {A = List Module} b (put m.0 (f m.1) ms) (m ∷ changed_in f name ms)
-    go k true e = ap (λ b. cond {A = List Module} b (put m.0 (f m.1) ms) ((m.0, f m.1) ∷ tidied name ms)) e
+    go : tidied name (with_change f name ms) ≡ changed_in f name ms → (b : Bool) → same_text name m.0 ≡ b → tidied name (cond {A = List ModuleEntry} b ((m.0, f m.1) ∷ ms) (m ∷ with_change f name ms)) ≡ cond {A = List ModuleEntry} b (put m.0 (f m.1) ms) (m ∷ changed_in f name ms)
+    go k true e = ap (λ b. cond {A = List ModuleEntry} b (put m.0 (f m.1) ms) ((m.0, f m.1) ∷ tidied name ms)) e
     go k false e =
-        ap (λ b. cond {A = List Module} b (put m.0 m.1 (with_change f name ms)) (m ∷ tidied name (with_change f name ms))) e
+        ap (λ b. cond {A = List ModuleEntry} b (put m.0 m.1 (with_change f name ms)) (m ∷ tidied name (with_change f name ms))) e
         ∙ ap (λ rest. m ∷ rest) k
 
-pub tidy_removed : (name : List ℕ) (ms : List Module) → is_bare (lookup (same_text name) ms) ≡ true → remove_entry (same_text name) ms ≡ tidied name ms
+pub tidy_removed : (name : List ℕ) (ms : List ModuleEntry) → is_bare (lookup (same_text name) ms) ≡ true → remove_entry (same_text name) ms ≡ tidied name ms
 tidy_removed name [] = λ e. refl
 tidy_removed name (m ∷ ms) = elim (same_text name m.0) as (λ b. is_bare (cond b (Some m.1) (lookup (same_text name) ms)) ≡ true
-    → cond {A = List Module} b ms (m ∷ remove_entry (same_text name) ms) ≡ cond {A = List Module} b (put m.0 m.1 ms) (m ∷ tidied name ms)) [
-      | true ↦ elim (has_any m.1) as (λ b. not b ≡ true → ms ≡ cond {A = List Module} b (m ∷ ms) ms) [ true ↦ λ e. cc | false ↦ λ e. refl ]
+    → cond {A = List ModuleEntry} b ms (m ∷ remove_entry (same_text name) ms) ≡ cond {A = List ModuleEntry} b (put m.0 m.1 ms) (m ∷ tidied name ms)) [
+      | true ↦ elim (has_any m.1) as (λ b. not b ≡ true → ms ≡ cond {A = List ModuleEntry} b (m ∷ ms) ms) [ true ↦ λ e. cc | false ↦ λ e. refl ]
       | false ↦ λ e. ap (λ rest. m ∷ rest) (tidy_removed name ms e)
     ]
 
-pub tidy_kept : (name : List ℕ) (ms : List Module) → is_bare (lookup (same_text name) ms) ≡ false → ms ≡ tidied name ms
+pub tidy_kept : (name : List ℕ) (ms : List ModuleEntry) → is_bare (lookup (same_text name) ms) ≡ false → ms ≡ tidied name ms
 tidy_kept name [] = λ e. refl
 tidy_kept name (m ∷ ms) = elim (same_text name m.0) as (λ b. is_bare (cond b (Some m.1) (lookup (same_text name) ms)) ≡ false
-    → m ∷ ms ≡ cond {A = List Module} b (put m.0 m.1 ms) (m ∷ tidied name ms)) [
-      | true ↦ elim (has_any m.1) as (λ b. not b ≡ false → m ∷ ms ≡ cond {A = List Module} b (m ∷ ms) ms) [ true ↦ λ e. refl | false ↦ λ e. cc ]
+    → m ∷ ms ≡ cond {A = List ModuleEntry} b (put m.0 m.1 ms) (m ∷ tidied name ms)) [
+      | true ↦ elim (has_any m.1) as (λ b. not b ≡ false → m ∷ ms ≡ cond {A = List ModuleEntry} b (m ∷ ms) ms) [ true ↦ λ e. refl | false ↦ λ e. cc ]
       | false ↦ λ e. ap (λ rest. m ∷ rest) (tidy_kept name ms e)
     ]
 
 -- ---- changes of the code
 
 -- a name that isn't there has no instance
-nameless : (ms : List Module) (name : List ℕ) → lookup (same_text name) ms ≡ None → has_instance (versions_of (code_of ms) name) ≡ false
+nameless : (ms : List ModuleEntry) (name : List ℕ) → lookup (same_text name) ms ≡ None → has_instance (versions_of (code_of ms) name) ≡ false
 nameless ms name none =
     ap (λ o. is_some o || is_some (versions_of (code_of ms) name).old) (current_found ms name ∙ ap (option_and_then (λ v. v.0)) none)
     ∙ ap is_some (old_found ms name ∙ ap (option_and_then (λ v. v.1)) none)
@@ -115,19 +115,19 @@ or_false : (a b : Bool) → b ≡ false → (a || b) ≡ a
 or_false true b e = refl
 or_false false b e = e
 
-kept_out : (b : Bool) (m : Module) (ms : List Module) → cond {A = Code} b (versions_in m ∷ code_of ms) (code_of ms) ≡ code_of (cond {A = List Module} b (m ∷ ms) ms)
+kept_out : (b : Bool) (m : ModuleEntry) (ms : List ModuleEntry) → cond {A = Code} b (versions_in m ∷ code_of ms) (code_of ms) ≡ code_of (cond {A = List ModuleEntry} b (m ∷ ms) ms)
 kept_out true m ms = refl
 kept_out false m ms = refl
 
-pub changed_is : (change : Versions → Versions) (f : Pair → Pair) → ((m : Module) → change (versions_in m) ≡ versions_in (m.0, f m.1))
-    → (ms : List Module) (name : List ℕ) → AreNamedOnce ms → changed change (code_of ms) name ≡ code_of (changed_in f name ms)
+pub changed_is : (change : Versions → Versions) (f : Pair → Pair) → ((m : ModuleEntry) → change (versions_in m) ≡ versions_in (m.0, f m.1))
+    → (ms : List ModuleEntry) (name : List ℕ) → AreNamedOnce ms → changed change (code_of ms) name ≡ code_of (changed_in f name ms)
 changed_is change f is [] name once = refl
 changed_is change f is (m ∷ ms) name once =
     ap (λ b. cond {A = Code} b (with_versions name (change (versions_in m)) (code_of ms)) (versions_in m ∷ changed change (code_of ms) name)) (flipped m.0 name)
     ∙ go (changed_is change f is ms name once.1) (same_text name m.0) refl
   where
     go : changed change (code_of ms) name ≡ code_of (changed_in f name ms) → (b : Bool) → same_text name m.0 ≡ b
-        → cond {A = Code} b (with_versions name (change (versions_in m)) (code_of ms)) (versions_in m ∷ changed change (code_of ms) name) ≡ code_of (cond {A = List Module} b (put m.0 (f m.1) ms) (m ∷ changed_in f name ms))
+        → cond {A = Code} b (with_versions name (change (versions_in m)) (code_of ms)) (versions_in m ∷ changed change (code_of ms) name) ≡ code_of (cond {A = List ModuleEntry} b (put m.0 (f m.1) ms) (m ∷ changed_in f name ms))
     go k true e =
         let alone : has_instance (versions_of (code_of ms) name) ≡ false = nameless ms name (subst (λ x. lookup (same_text x) ms ≡ None) (sym (same_name name m.0 e)) once.0) in
         ap (λ v. with_versions name v (code_of ms)) (is m)
@@ -136,7 +136,7 @@ changed_is change f is (m ∷ ms) name once =
     go k false e = ap (λ rest. versions_in m ∷ rest) k
 
 -- a module that is there
-pub loaded_again : (i : Instance) (ms : List Module) → is_some (lookup (same_text i.listing.name) ms) ≡ true
+pub loaded_again : (i : Instance) (ms : List ModuleEntry) → is_some (lookup (same_text i.listing.name) ms) ≡ true
     → loaded (code_of ms) i.number i.listing ≡ code_of (with_change (λ v. (Some i, v.0)) i.listing.name ms)
 loaded_again i [] = λ there. cc
 loaded_again i (m ∷ ms) = λ there.
@@ -148,7 +148,7 @@ loaded_again i (m ∷ ms) = λ there.
     ]) there
 
 -- a new module
-pub loaded_first : (i : Instance) (ms : List Module) → is_some (lookup (same_text i.listing.name) ms) ≡ false
+pub loaded_first : (i : Instance) (ms : List ModuleEntry) → is_some (lookup (same_text i.listing.name) ms) ≡ false
     → loaded (code_of ms) i.number i.listing ≡ code_of (insert_entry same_text ms i.listing.name (Some i, None))
 loaded_first i [] = λ new. refl
 loaded_first i (m ∷ ms) = λ new.
@@ -161,7 +161,7 @@ loaded_first i (m ∷ ms) = λ new.
 
 -- ---- by number
 
-pub live_is : (home : Homes) (n : ℕ) (code : Code) → Stands home code → is_some (home n) ≡ is_live code n
+pub live_is : (home : Homes) (n : ℕ) (code : Code) → IsIndexOf home code → is_some (home n) ≡ is_live code n
 live_is home n code h = ap is_some (h.homes n)
 
 -- the listing of a number among those of a module and the rest
@@ -332,17 +332,17 @@ loaded_homes number l (v ∷ rest) n free once = go (loaded_homes number l rest 
 
 -- ---- the table
 
-dropped_is : (name : List ℕ) (ms : List Module) → dropped_of name ms ≡ old_of (code_of ms) name
+dropped_is : (name : List ℕ) (ms : List ModuleEntry) → dropped_of name ms ≡ old_of (code_of ms) name
 dropped_is name ms = go (lookup (same_text name) ms) ∙ ap number_of (sym (old_found ms name))
   where
     go : (o : Option Pair) → option_and_then old_number o ≡ number_of (option_and_then (λ v. v.1) o)
     go None = refl
     go (Some v) = refl
 
-changed_stands : (change : Versions → Versions) (f : Pair → Pair) → ((m : Module) → change (versions_in m) ≡ versions_in (m.0, f m.1)) → LeavesCurrent change
+changed_stands : (change : Versions → Versions) (f : Pair → Pair) → ((m : ModuleEntry) → change (versions_in m) ≡ versions_in (m.0, f m.1)) → LeavesCurrent change
     → ((n : ℕ) (code : Code) (name : List ℕ) → how_many n (changed change code name) ≤ how_many n code)
-    → (home new : Homes) (dropped : Option ℕ) (name : List ℕ) (ms after : List Module) → AreNamedOnce ms → Stands home (code_of ms) → dropped ≡ dropped_of name ms → after ≡ changed_in f name ms
-    → ((n : ℕ) → new n ≡ without dropped home n) → Stands new (code_of after)
+    → (home new : Homes) (dropped : Option ℕ) (name : List ℕ) (ms after : List ModuleEntry) → AreNamedOnce ms → IsIndexOf home (code_of ms) → dropped ≡ dropped_of name ms → after ≡ changed_in f name ms
+    → ((n : ℕ) → new n ≡ without dropped home n) → IsIndexOf new (code_of after)
 changed_stands change f is leaves fewer home new dropped name ms after named h d a homes =
     let same : code_of after ≡ changed change (code_of ms) name = ap code_of a ∙ sym (changed_is change f is ms name named) in
     record {
@@ -356,20 +356,20 @@ changed_stands change f is leaves fewer home new dropped name ms after named h d
           omega (arith, count, fewer n (code_of ms) name, h.once n);
     }
 
-pub deleted_stands : (home new : Homes) (dropped : Option ℕ) (name : List ℕ) (ms after : List Module) → AreNamedOnce ms → Stands home (code_of ms) → dropped ≡ dropped_of name ms
-    → after ≡ changed_in (λ v. (None, v.0)) name ms → ((n : ℕ) → new n ≡ without dropped home n) → Stands new (code_of after)
+pub deleted_stands : (home new : Homes) (dropped : Option ℕ) (name : List ℕ) (ms after : List ModuleEntry) → AreNamedOnce ms → IsIndexOf home (code_of ms) → dropped ≡ dropped_of name ms
+    → after ≡ changed_in (λ v. (None, v.0)) name ms → ((n : ℕ) → new n ≡ without dropped home n) → IsIndexOf new (code_of after)
 deleted_stands = changed_stands (λ v. record v { current = None; old = v.current }) (λ v. (None, v.0)) (λ m. refl) (λ v n rest. refl) deleted_fewer
 
-pub purged_stands : (home new : Homes) (dropped : Option ℕ) (name : List ℕ) (ms after : List Module) → AreNamedOnce ms → Stands home (code_of ms) → dropped ≡ dropped_of name ms
-    → after ≡ changed_in (λ v. (v.0, None)) name ms → ((n : ℕ) → new n ≡ without dropped home n) → Stands new (code_of after)
+pub purged_stands : (home new : Homes) (dropped : Option ℕ) (name : List ℕ) (ms after : List ModuleEntry) → AreNamedOnce ms → IsIndexOf home (code_of ms) → dropped ≡ dropped_of name ms
+    → after ≡ changed_in (λ v. (v.0, None)) name ms → ((n : ℕ) → new n ≡ without dropped home n) → IsIndexOf new (code_of after)
 purged_stands = changed_stands (λ v. record v { old = None }) (λ v. (v.0, None)) (λ m. refl) (λ v n rest. refl) purged_fewer
 
-pub deleted_code : (name : List ℕ) (ms after : List Module) (code : Code) → code_of ms ≡ code → AreNamedOnce ms → after ≡ changed_in (λ v. (None, v.0)) name ms → code_of after ≡ deleted code name
+pub deleted_code : (name : List ℕ) (ms after : List ModuleEntry) (code : Code) → code_of ms ≡ code → AreNamedOnce ms → after ≡ changed_in (λ v. (None, v.0)) name ms → code_of after ≡ deleted code name
 deleted_code name ms after code view named a =
     ap code_of a
     ∙ (sym (changed_is (λ v. record v { current = None; old = v.current }) (λ v. (None, v.0)) (λ m. refl) ms name named) ∙ ap (λ c. deleted c name) view)
 
-pub purged_code : (name : List ℕ) (ms after : List Module) (code : Code) → code_of ms ≡ code → AreNamedOnce ms → after ≡ changed_in (λ v. (v.0, None)) name ms → code_of after ≡ purged code name
+pub purged_code : (name : List ℕ) (ms after : List ModuleEntry) (code : Code) → code_of ms ≡ code → AreNamedOnce ms → after ≡ changed_in (λ v. (v.0, None)) name ms → code_of after ≡ purged code name
 purged_code name ms after code view named a =
     ap code_of a
     ∙ (sym (changed_is (λ v. record v { old = None }) (λ v. (v.0, None)) (λ m. refl) ms name named) ∙ ap (λ c. purged c name) view)
@@ -390,14 +390,14 @@ one_more i l code new same is free once n = go (i.number == n) refl
         let other : bears n (Some (record { number = i.number; listing = l })) ≡ 0 = ap (λ b. cond b 1 0) e in
         omega (arith, count, loaded_one n i.number l code, other, once n)
 
-pub again_code : (i : Instance) (l : Listing) (name : List ℕ) (ms after : List Module) (code : Code) → code_of ms ≡ code → i.listing ≡ l → name ≡ l.name
+pub again_code : (i : Instance) (l : Listing) (name : List ℕ) (ms after : List ModuleEntry) (code : Code) → code_of ms ≡ code → i.listing ≡ l → name ≡ l.name
     → true ≡ is_some (lookup (same_text name) ms) → after ≡ with_change (λ v. (Some i, v.0)) name ms → code_of after ≡ loaded code i.number l
 again_code i l name ms after code view shared named there is =
     let own : name ≡ i.listing.name = named ∙ ap (λ x. x.name) (sym shared) in
     ap code_of (is ∙ ap (λ n. with_change (λ v. (Some i, v.0)) n ms) own)
     ∙ (sym (loaded_again i ms (ap (λ n. is_some (lookup (same_text n) ms)) (sym own) ∙ sym there)) ∙ (λ j. loaded (view j) i.number (shared j)))
 
-pub first_code : (i : Instance) (l : Listing) (name : List ℕ) (ms after : List Module) (code : Code) → code_of ms ≡ code → i.listing ≡ l → name ≡ l.name
+pub first_code : (i : Instance) (l : Listing) (name : List ℕ) (ms after : List ModuleEntry) (code : Code) → code_of ms ≡ code → i.listing ≡ l → name ≡ l.name
     → false ≡ is_some (lookup (same_text name) ms) → after ≡ insert_entry same_text ms name (Some i, None) → code_of after ≡ loaded code i.number l
 first_code i l name ms after code view shared named none is =
     let own : name ≡ i.listing.name = named ∙ ap (λ x. x.name) (sym shared) in
@@ -405,8 +405,8 @@ first_code i l name ms after code view shared named none is =
     ∙ (sym (loaded_first i ms (ap (λ n. is_some (lookup (same_text n) ms)) (sym own) ∙ sym none)) ∙ (λ j. loaded (view j) i.number (shared j)))
 
 -- the homes of the code with a new instance of a number that no other has
-loaded_stands : (home new : Homes) (i : Instance) (code after : Code) → Stands home code → listing_of code i.number ≡ None → after ≡ loaded code i.number i.listing
-    → ((n : ℕ) → new n ≡ without (old_of code i.listing.name) (with_home i.number i.listing home) n) → Stands new after
+loaded_stands : (home new : Homes) (i : Instance) (code after : Code) → IsIndexOf home code → listing_of code i.number ≡ None → after ≡ loaded code i.number i.listing
+    → ((n : ℕ) → new n ≡ without (old_of code i.listing.name) (with_home i.number i.listing home) n) → IsIndexOf new after
 loaded_stands home new i code after h fresh is homes =
     let free : how_many i.number code ≡ 0 = free_number i.number code fresh in
     record {
@@ -417,17 +417,17 @@ loaded_stands home new i code after h fresh is homes =
       once = one_more i i.listing code after refl is free h.once;
     }
 
-pub again_stands : (home new : Homes) (i : Instance) (name : List ℕ) (ms after : List Module) (code : Code) → code_of ms ≡ code → Stands home (code_of ms) → listing_of code i.number ≡ None
+pub again_stands : (home new : Homes) (i : Instance) (name : List ℕ) (ms after : List ModuleEntry) (code : Code) → code_of ms ≡ code → IsIndexOf home (code_of ms) → listing_of code i.number ≡ None
     → name ≡ i.listing.name → true ≡ is_some (lookup (same_text name) ms) → after ≡ with_change (λ v. (Some i, v.0)) name ms
-    → ((n : ℕ) → new n ≡ without (dropped_of name ms) (with_home i.number i.listing home) n) → Stands new (code_of after)
+    → ((n : ℕ) → new n ≡ without (dropped_of name ms) (with_home i.number i.listing home) n) → IsIndexOf new (code_of after)
 again_stands home new i name ms after code view h fresh named there is homes =
     loaded_stands home new i (code_of ms) (code_of after) h (ap (λ c. listing_of c i.number) view ∙ fresh)
     (again_code i i.listing name ms after (code_of ms) refl refl named there is)
     (λ n. homes n ∙ ap (λ o. without o (with_home i.number i.listing home) n) (dropped_is name ms ∙ ap (old_of (code_of ms)) named))
 
-pub first_stands : (home new : Homes) (i : Instance) (name : List ℕ) (ms after : List Module) (code : Code) → code_of ms ≡ code → Stands home (code_of ms) → listing_of code i.number ≡ None
+pub first_stands : (home new : Homes) (i : Instance) (name : List ℕ) (ms after : List ModuleEntry) (code : Code) → code_of ms ≡ code → IsIndexOf home (code_of ms) → listing_of code i.number ≡ None
     → name ≡ i.listing.name → false ≡ is_some (lookup (same_text name) ms) → after ≡ insert_entry same_text ms name (Some i, None)
-    → ((n : ℕ) → new n ≡ with_home i.number i.listing home n) → Stands new (code_of after)
+    → ((n : ℕ) → new n ≡ with_home i.number i.listing home n) → IsIndexOf new (code_of after)
 first_stands home new i name ms after code view h fresh named none is homes =
     loaded_stands home new i (code_of ms) (code_of after) h (ap (λ c. listing_of c i.number) view ∙ fresh)
     (first_code i i.listing name ms after (code_of ms) refl refl named none is)

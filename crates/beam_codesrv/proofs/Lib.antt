@@ -7,6 +7,6 @@ pub mod Upgrades
 pub mod Several
 pub mod Untaken
 pub mod Heard
-pub mod Watched
+pub mod Monitored
 pub mod Gathered
 pub mod Purged

@@ -6,8 +6,8 @@ use Rattle.std.specs.Prelude.{Option, Some, None, is_some, filter, flat_map}
 use Rattle.std.specs.List.{list_any}
 use Rattle.beam_term.specs.TermValue.{nil_term}
 use Rattle.beam_model.specs.Listing.{Listing}
-use Rattle.beam_machine.specs.declared.event.Mode.{Mode}
-use Rattle.beam_machine.specs.declared.event.Mode.TheVariants.{Strict, Soft, Hard}
+use Rattle.beam_machine.specs.declared.event.UpgradeMode.{UpgradeMode}
+use Rattle.beam_machine.specs.declared.event.UpgradeMode.TheVariants.{Strict, Soft, Hard}
 use Rattle.beam_machine.specs.declared.process.Signal.{Signal}
 use Rattle.beam_machine.specs.Code.{Code}
 use Rattle.beam_machine.specs.Process.{Process, ended, killed}
@@ -67,7 +67,7 @@ no_further test ns code ls e = or_false (list_any test ns) ∙ ap (passes_so_far
 -- ---- whether old code stands in the way of an upgrade
 
 -- whether old code of one of these modules stands in the way of its upgrade
-abbrev pub One : Mode → Code → List Process → ℕ → ℕ → ℕ → List Listing → Bool
+abbrev pub One : UpgradeMode → Code → List Process → ℕ → ℕ → ℕ → List Listing → Bool
 One mode code ps clock instances references ls = list_any (λ l. stands_in_way mode (node code ps clock instances references) l.name) ls
 
 any_is : (o : Option ℕ) → passes (λ n. true) o ≡ is_some o

@@ -11,13 +11,13 @@ use Rattle.beam_machine.specs.Process.{Process, is_ended, ended, killed}
 use Rattle.beam_machine.specs.Quiet.{is_monitored}
 use Rattle.beam_machine.specs.State.{process_of, with_signals, monitors_process, downs}
 use Rattle.beam_machine.specs.Row.{own_number}
-use Rattle.beam_watches.specs.declared.watches.Watch.{Watch}
-use Rattle.beam_codesrv.specs.declared.lingering.Old.{Old}
-use Rattle.beam_codesrv.specs.declared.lingering.Old.TheVariants.{One, Several}
+use Rattle.beam_watches.specs.declared.monitored_by.MonitorOrigin.{MonitorOrigin}
+use Rattle.beam_codesrv.specs.declared.lingering.OldInstances.{OldInstances}
+use Rattle.beam_codesrv.specs.declared.lingering.OldInstances.TheVariants.{One, Several}
 use Rattle.beam_codesrv.specs.Several.{lingers_in_any}
 
 -- a process lingers in one of these old instances
-abbrev pub lingers_in : Old → Process → Bool
+abbrev pub lingers_in : OldInstances → Process → Bool
 lingers_in (One number) p = lingers_at number p
 lingers_in (Several numbers) p = lingers_in_any numbers.now.keys p
 
@@ -51,29 +51,29 @@ abbrev pub live_monitors : Process → List Monitor
 live_monitors p = if is_ended p.status then [] else p.monitors
 
 -- a process monitors a process that passes a test
-abbrev pub watches_one : (Process → Bool) → List Process → Process → Bool
-watches_one test ps p = list_any (λ m. number_passes test ps (own_number m.pid)) (live_monitors p)
+abbrev pub monitors_one_passing : (Process → Bool) → List Process → Process → Bool
+monitors_one_passing test ps p = list_any (λ m. number_passes test ps (own_number m.pid)) (live_monitors p)
 
 -- a process that passes a test is watched
-abbrev pub one_watched : (Process → Bool) → List Process → Bool
-one_watched test ps = list_any (λ p. test p && is_monitored ps p.pid) ps
+abbrev pub one_monitored : (Process → Bool) → List Process → Bool
+one_monitored test ps = list_any (λ p. test p && is_monitored ps p.pid) ps
 
 -- of these monitors of a process, the watches of a pid
-abbrev pub watches_by : ℕ → ℕ → List Monitor → List Watch
-watches_by receiver pid ms = map (λ m. record { receiver = receiver; reference = m.reference }) (filter (monitors_process pid) ms)
+abbrev pub origins_by : ℕ → ℕ → List Monitor → List MonitorOrigin
+origins_by receiver pid ms = map (λ m. record { receiver = receiver; reference = m.reference }) (filter (monitors_process pid) ms)
 
 -- the watches of a pid, by the receivers' pids and then the references
-abbrev pub watchers : ℕ → List Process → List Watch
-watchers pid ps = flat_map (λ p. watches_by p.pid pid (live_monitors p)) ps
+abbrev pub monitor_origins : ℕ → List Process → List MonitorOrigin
+monitor_origins pid ps = flat_map (λ p. origins_by p.pid pid (live_monitors p)) ps
 
 -- a watch's DOWN
-abbrev pub down_by : Watch → Sent
+abbrev pub down_by : MonitorOrigin → Sent
 down_by w = record { to = w.receiver; signal = Down w.reference killed }
 
 -- the DOWNs of the end of a process, by the watches of its pid, if it passes a test
-abbrev pub end_downs : (Process → Bool) → (ℕ → List Watch) → Process → List Sent
+abbrev pub end_downs : (Process → Bool) → (ℕ → List MonitorOrigin) → Process → List Sent
 end_downs test watches_of p = if test p then map down_by (watches_of p.pid) else []
 
 -- the DOWNs of the ends of the processes that pass a test, by their pids
 abbrev pub notices : (Process → Bool) → List Process → List Sent
-notices test ps = flat_map (λ pid. map down_by (watchers pid ps)) (pids_of test ps)
+notices test ps = flat_map (λ pid. map down_by (monitor_origins pid ps)) (pids_of test ps)

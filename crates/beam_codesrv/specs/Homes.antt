@@ -10,13 +10,13 @@ use Rattle.beam_laws.specs.Numbers.{how_many}
 abbrev pub Pair : Type 0
 Pair = Option Instance × Option Instance
 
-abbrev pub Module : Type 0
-Module = List ℕ × Pair
+abbrev pub ModuleEntry : Type 0
+ModuleEntry = List ℕ × Pair
 
-abbrev pub versions_in : Module → Versions
+abbrev pub versions_in : ModuleEntry → Versions
 versions_in m = record { name = m.0; current = m.1.0; old = m.1.1 }
 
-abbrev pub code_of : List Module → Code
+abbrev pub code_of : List ModuleEntry → Code
 code_of [] = []
 code_of (m ∷ rest) = versions_in m ∷ code_of rest
 
@@ -26,7 +26,7 @@ number_of = option_map (λ i. i.number)
 -- ---- changes of a module
 
 -- the modules with the instances of one changed, if it is there
-abbrev pub with_change : (Pair → Pair) → List ℕ → List Module → List Module
+abbrev pub with_change : (Pair → Pair) → List ℕ → List ModuleEntry → List ModuleEntry
 with_change change name [] = []
 with_change change name (m ∷ rest) = if same_text name m.0 then (m.0, change m.1) ∷ rest else m ∷ with_change change name rest
 
@@ -34,7 +34,7 @@ abbrev pub has_any : Pair → Bool
 has_any v = is_some v.0 || is_some v.1
 
 -- a module before the others, if it has an instance
-abbrev pub put : List ℕ → Pair → List Module → List Module
+abbrev pub put : List ℕ → Pair → List ModuleEntry → List ModuleEntry
 put name v rest = if has_any v then (name, v) ∷ rest else rest
 
 -- whether a module is there without an instance
@@ -43,12 +43,12 @@ is_bare None = false
 is_bare (Some v) = not (has_any v)
 
 -- the modules without the one of that name, if that has no instance
-abbrev pub tidied : List ℕ → List Module → List Module
+abbrev pub tidied : List ℕ → List ModuleEntry → List ModuleEntry
 tidied name [] = []
 tidied name (m ∷ rest) = if same_text name m.0 then put m.0 m.1 rest else m ∷ tidied name rest
 
 -- the modules with the instances of one changed; it goes if it has none any more
-abbrev pub changed_in : (Pair → Pair) → List ℕ → List Module → List Module
+abbrev pub changed_in : (Pair → Pair) → List ℕ → List ModuleEntry → List ModuleEntry
 changed_in change name [] = []
 changed_in change name (m ∷ rest) = if same_text name m.0 then put m.0 (change m.1) rest else m ∷ changed_in change name rest
 
@@ -56,7 +56,7 @@ abbrev pub old_number : Pair → Option ℕ
 old_number v = number_of v.1
 
 -- the number of a module's old instance, which goes with each change
-abbrev pub dropped_of : List ℕ → List Module → Option ℕ
+abbrev pub dropped_of : List ℕ → List ModuleEntry → Option ℕ
 dropped_of name ms = option_and_then old_number (lookup (same_text name) ms)
 
 -- ---- homes
@@ -74,11 +74,11 @@ without None home n = home n
 without (Some number) home n = if number == n then None else home n
 
 -- a number has a home exactly if an instance has that number, and at most one instance has it
-pub record Stands (home : Homes) (code : Code) : Type 0 where
+pub record IsIndexOf (home : Homes) (code : Code) : Type 0 where
   pub homes : (n : ℕ) → home n ≡ listing_of code n
   pub once : (n : ℕ) → how_many n code ≤ 1
 
 -- no two modules have one name
-abbrev pub AreNamedOnce : List Module → Type 0
+abbrev pub AreNamedOnce : List ModuleEntry → Type 0
 AreNamedOnce [] = Unit {0}
 AreNamedOnce (m ∷ rest) = (lookup (same_text m.0) rest ≡ None) × AreNamedOnce rest

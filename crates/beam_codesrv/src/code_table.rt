@@ -41,7 +41,7 @@ impl Model for CodeTable {
     ghost use Rattle.indexmap.specs.IndexMap.{get};
     ghost use Rattle.beam_term.specs.Coding.{term_code};
     ghost use Rattle.beam_machine.specs.Code.{Code};
-    ghost use Rattle.beam_codesrv.specs.Homes.{code_of, Stands};
+    ghost use Rattle.beam_codesrv.specs.Homes.{code_of, IsIndexOf};
 
     ghost Value = { Code };
 
@@ -49,7 +49,7 @@ impl Model for CodeTable {
 
     ghost view = { λ t. code_of t.modules.entries };
 
-    ghost invariant = { λ t. Stands (get nat_eq t.homes) (code_of t.modules.entries) };
+    ghost invariant = { λ t. IsIndexOf (get nat_eq t.homes) (code_of t.modules.entries) };
 }
 
 /// Takes out the home of an instance that goes.

@@ -4,7 +4,7 @@ ghost use Rattle.std.specs.List.{list_any};
 ghost use Rattle.beam_laws.specs.Orderly.{Orderly};
 ghost use Rattle.beam_machine.specs.Process.{Process as TheProcess, is_ended};
 ghost use Rattle.beam_machine.specs.Change.{killing};
-ghost use Rattle.beam_codesrv.specs.Ends.{lingers_in, end_if, one_watched};
+ghost use Rattle.beam_codesrv.specs.Ends.{lingers_in, end_if, one_monitored};
 
 use crate::telling::tell;
 use beam_proc::entry::ProcessEntry;
@@ -13,34 +13,34 @@ use std::alloc::{AllocError, Global};
 
 /// Old instances: that of one module, if it has one, or those of several.
 #[derive(Clone, Copy)]
-pub(crate) enum Old<'a> {
+pub(crate) enum OldInstances<'a> {
     One(Option<u32>),
     Several(&'a IndexSet<u32>),
 }
 
 /// Whether there is no instance.
-fn is_none(old: Old<'_>) -> bool
+fn is_none(old: OldInstances<'_>) -> bool
     ensures { result ≡ true → (p : TheProcess) → lingers_in old.entry p ≡ false }
 {
     match old {
-        Old::One(number) => number.is_none(),
-        Old::Several(numbers) => numbers.is_empty(),
+        OldInstances::One(number) => number.is_none(),
+        OldInstances::Several(numbers) => numbers.is_empty(),
     }
 }
 
 /// Whether a process lingers in one of the old instances. It takes no memory.
-pub(crate) fn lingers(old: Old<'_>, process: &ProcessEntry) -> bool
+pub(crate) fn lingers(old: OldInstances<'_>, process: &ProcessEntry) -> bool
     ensures { result ≡ lingers_in old.entry process.now }
 {
     match old {
-        Old::One(Some(number)) => process.lingers(number),
-        Old::One(None) => false,
-        Old::Several(numbers) => process.lingers_in_any(numbers),
+        OldInstances::One(Some(number)) => process.lingers(number),
+        OldInstances::One(None) => false,
+        OldInstances::Several(numbers) => process.lingers_in_any(numbers),
     }
 }
 
 /// Whether a process lingers in one of the old instances. Each process is looked at once, and none if there is no instance.
-pub(crate) fn one_lingers(old: Old<'_>, processes: &[ProcessEntry]) -> bool
+pub(crate) fn one_lingers(old: OldInstances<'_>, processes: &[ProcessEntry]) -> bool
     ensures { result ≡ list_any (lingers_in old.entry) processes.now }
 {
     if is_none(old) {
@@ -57,7 +57,7 @@ pub(crate) fn one_lingers(old: Old<'_>, processes: &[ProcessEntry]) -> bool
 }
 
 /// Ends a process if it lingers in one of the old instances. It takes no memory.
-fn end_lingering(old: Old<'_>, process: &mut ProcessEntry)
+fn end_lingering(old: OldInstances<'_>, process: &mut ProcessEntry)
     requires { lingers_in old process.old ≡ true → is_ended process.old.status ≡ false }
     ensures { process.new ≡ end_if (lingers_in old.entry) process.old }
 {
@@ -67,7 +67,7 @@ fn end_lingering(old: Old<'_>, process: &mut ProcessEntry)
 }
 
 /// Ends all processes that linger in one of the old instances. It takes no memory.
-pub(crate) fn end_all(old: Old<'_>, processes: &mut [ProcessEntry])
+pub(crate) fn end_all(old: OldInstances<'_>, processes: &mut [ProcessEntry])
     requires { Orderly processes.old }
     ensures { processes.new ≡ map (end_if (lingers_in old.entry)) processes.old }
 {
@@ -80,13 +80,13 @@ pub(crate) fn end_all(old: Old<'_>, processes: &mut [ProcessEntry])
 /// one ended. Memory is refused only where one of them is watched, and then nothing changes.
 pub(crate) fn end_and_tell(
     alloc: Global,
-    old: Old<'_>,
+    old: OldInstances<'_>,
     processes: &mut [ProcessEntry],
 ) -> Result<bool, AllocError>
     requires { Orderly processes.old }
     ensures ok { OnOk result (processes.new ≡ killing (lingers_in old.entry) processes.old) }
     ensures some { IfOk result (λ some. some ≡ list_any (lingers_in old.entry) processes.old) }
-    ensures watched { OnErr result (one_watched (lingers_in old.entry) processes.old ≡ true) }
+    ensures monitored { OnErr result (one_monitored (lingers_in old.entry) processes.old ≡ true) }
     ensures err { OnErr result (processes.new ≡ processes.old) }
 {
     if !one_lingers(old, processes) {

@@ -14,7 +14,7 @@ ghost use Rattle.beam_codesrv.specs.Replacement.{node, said};
 
 use crate::code_table::CodeTable;
 use crate::error::CodeError;
-use crate::lingering::{Old, end_all, end_and_tell, one_lingers};
+use crate::lingering::{OldInstances, end_all, end_and_tell, one_lingers};
 use crate::posting::take_all_back;
 use crate::telling::tell;
 use beam_bif::built_in::is_erlang;
@@ -50,7 +50,7 @@ impl CodeTable {
         ensures processes { OnOk result (processes.new ≡ killing (lingers_in_old self.old image.now.name) processes.old) }
         ensures err { OnErr result ((self.new ≡ self.old) × (processes.new ≡ processes.old)) }
     {
-        let old = Old::One(self.old(image.module()));
+        let old = OldInstances::One(self.old(image.module()));
         if !one_lingers(old, processes) {
             return self.put(number, image);
         }
@@ -147,7 +147,7 @@ impl CodeTable {
         ensures { (clock n references : ℕ) → next_soft_purge (node self.old processes.now clock n references) name.now
             ≡ replied (node self.new processes.now clock n references) (Changed result) }
     {
-        if one_lingers(Old::One(self.old(name)), processes) {
+        if one_lingers(OldInstances::One(self.old(name)), processes) {
             return false;
         }
         self.drop_old(name);
@@ -168,7 +168,7 @@ impl CodeTable {
         ensures memory { (clock n references : ℕ) → OnErr result (ends_monitored (node self.old processes.old clock n references) name.now ≡ true) }
         ensures err { OnErr result ((self.new ≡ self.old) × (processes.new ≡ processes.old)) }
     {
-        let ended = end_and_tell(alloc, Old::One(self.old(name)), processes)?;
+        let ended = end_and_tell(alloc, OldInstances::One(self.old(name)), processes)?;
         self.drop_old(name);
         Ok(ended)
     }

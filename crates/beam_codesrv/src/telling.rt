@@ -8,17 +8,17 @@ ghost use Rattle.beam_machine.specs.Change.{pids_of};
 ghost use Rattle.beam_machine.specs.Process.{killed};
 ghost use Rattle.beam_machine.specs.Row.{own_number};
 ghost use Rattle.beam_machine.specs.State.{process_of};
-ghost use Rattle.beam_watches.specs.Index.{watches_of};
-ghost use Rattle.beam_codesrv.specs.Ends.{lingers_in, there_passes, number_passes, watches_one, one_watched, live_monitors, watches_by, watchers, down_by, end_downs, notices, told};
+ghost use Rattle.beam_watches.specs.Origins.{origins_of};
+ghost use Rattle.beam_codesrv.specs.Ends.{lingers_in, there_passes, number_passes, monitors_one_passing, one_monitored, live_monitors, origins_by, monitor_origins, down_by, end_downs, notices, told};
 
-use crate::lingering::{Old, lingers};
+use crate::lingering::{OldInstances, lingers};
 use crate::posting::post_all;
 use beam_machine::process::Signal;
 use beam_proc::entry::ProcessEntry;
 use beam_proc::private::Sent;
 use beam_term::{Atom, Term};
+use beam_watches::monitored_by::{MonitorOrigin, MonitoredBy};
 use beam_watches::monitors::{Monitors, own_number};
-use beam_watches::watches::{Watch, Watches};
 use std::alloc::{AllocError, Global};
 
 /// The process of that number, also one that has ended.
@@ -30,7 +30,7 @@ fn process(processes: &[ProcessEntry], number: u32) -> Option<&ProcessEntry>
 }
 
 /// Whether the process of that number lingers.
-fn number_lingers(old: Old<'_>, processes: &[ProcessEntry], number: u32) -> bool
+fn number_lingers(old: OldInstances<'_>, processes: &[ProcessEntry], number: u32) -> bool
     ensures { result ≡ there_passes (lingers_in old.entry) (process_of processes.now number) }
 {
     match process(processes, number) {
@@ -40,7 +40,7 @@ fn number_lingers(old: Old<'_>, processes: &[ProcessEntry], number: u32) -> bool
 }
 
 /// Whether a pid is that of a process that lingers in one of the old instances.
-fn pid_lingers(old: Old<'_>, processes: &[ProcessEntry], pid: &Term) -> bool
+fn pid_lingers(old: OldInstances<'_>, processes: &[ProcessEntry], pid: &Term) -> bool
     ensures { result ≡ number_passes (lingers_in old.entry) processes.now (own_number pid.now) }
 {
     match own_number(pid) {
@@ -50,7 +50,7 @@ fn pid_lingers(old: Old<'_>, processes: &[ProcessEntry], pid: &Term) -> bool
 }
 
 /// Whether one of these monitors is of a process that lingers.
-fn are_of_one(old: Old<'_>, processes: &[ProcessEntry], monitors: &Monitors) -> bool
+fn are_of_one(old: OldInstances<'_>, processes: &[ProcessEntry], monitors: &Monitors) -> bool
     ensures { result ≡ list_any (λ m. number_passes (lingers_in old.entry) processes.now (own_number m.pid)) monitors.now }
 {
     for (_reference, pid) in monitors.iter() {
@@ -62,8 +62,12 @@ fn are_of_one(old: Old<'_>, processes: &[ProcessEntry], monitors: &Monitors) -> 
 }
 
 /// Whether a process monitors one that lingers.
-fn watches_one(old: Old<'_>, processes: &[ProcessEntry], process: &ProcessEntry) -> bool
-    ensures { result ≡ watches_one (lingers_in old.entry) processes.now process.now }
+fn monitors_lingering(
+    old: OldInstances<'_>,
+    processes: &[ProcessEntry],
+    process: &ProcessEntry,
+) -> bool
+    ensures { result ≡ monitors_one_passing (lingers_in old.entry) processes.now process.now }
 {
     match process.living() {
         Some(living) => are_of_one(old, processes, living.monitors()),
@@ -72,12 +76,12 @@ fn watches_one(old: Old<'_>, processes: &[ProcessEntry], process: &ProcessEntry)
 }
 
 /// Whether a process that lingers is watched. It takes no memory.
-fn one_is_watched(old: Old<'_>, processes: &[ProcessEntry]) -> bool
-    ensures { result ≡ list_any (watches_one (lingers_in old.entry) processes.now) processes.now }
+fn one_is_monitored(old: OldInstances<'_>, processes: &[ProcessEntry]) -> bool
+    ensures { result ≡ list_any (monitors_one_passing (lingers_in old.entry) processes.now) processes.now }
 {
     let mut rest = processes;
     while let Some((process, more)) = rest.split_first() {
-        if watches_one(old, processes, process) {
+        if monitors_lingering(old, processes, process) {
             return true;
         }
         rest = more;
@@ -87,14 +91,14 @@ fn one_is_watched(old: Old<'_>, processes: &[ProcessEntry]) -> bool
 
 /// Adds a monitor to the watches of the process that it monitors, if that process lingers.
 fn add_monitor(
-    old: Old<'_>,
+    old: OldInstances<'_>,
     processes: &[ProcessEntry],
-    watch: Watch,
+    origin: MonitorOrigin,
     pid: &Term,
-    watches: &mut Watches,
+    origins: &mut MonitoredBy,
 ) -> Result<(), AllocError>
     ensures { OnOk result ((n : ℕ) → there_passes (lingers_in old.entry) (process_of processes.now n) ≡ true
-        → watches_of watches.new n ≡ watches_of watches.old n ++ watches_by watch.receiver n (record { reference = watch.reference; pid = pid.now } ∷ [])) }
+        → origins_of origins.new n ≡ origins_of origins.old n ++ origins_by origin.receiver n (record { reference = origin.reference; pid = pid.now } ∷ [])) }
 {
     let Some(number) = own_number(pid) else {
         return Ok(());
@@ -102,62 +106,62 @@ fn add_monitor(
     if !number_lingers(old, processes, number) {
         return Ok(());
     }
-    watches.push(number, watch)
+    origins.push(number, origin)
 }
 
 /// Adds monitors of a process to the watches of those that linger.
 fn add_monitors(
-    old: Old<'_>,
+    old: OldInstances<'_>,
     processes: &[ProcessEntry],
     receiver: u32,
     monitors: &Monitors,
-    watches: &mut Watches,
+    origins: &mut MonitoredBy,
 ) -> Result<(), AllocError>
     ensures { OnOk result ((n : ℕ) → there_passes (lingers_in old.entry) (process_of processes.now n) ≡ true
-        → watches_of watches.new n ≡ watches_of watches.old n ++ watches_by receiver n monitors.now) }
+        → origins_of origins.new n ≡ origins_of origins.old n ++ origins_by receiver n monitors.now) }
 {
     for (reference, pid) in monitors.iter() {
-        let watch = Watch {
+        let origin = MonitorOrigin {
             receiver,
             reference: *reference,
         };
-        add_monitor(old, processes, watch, pid, watches)?;
+        add_monitor(old, processes, origin, pid, origins)?;
     }
     Ok(())
 }
 
 /// Adds what a process monitors to the watches of those that linger.
-fn add_watches(
-    old: Old<'_>,
+fn add_origins(
+    old: OldInstances<'_>,
     processes: &[ProcessEntry],
     process: &ProcessEntry,
-    watches: &mut Watches,
+    origins: &mut MonitoredBy,
 ) -> Result<(), AllocError>
     ensures { OnOk result ((n : ℕ) → there_passes (lingers_in old.entry) (process_of processes.now n) ≡ true
-        → watches_of watches.new n ≡ watches_of watches.old n ++ watches_by process.now.pid n (live_monitors process.now)) }
+        → origins_of origins.new n ≡ origins_of origins.old n ++ origins_by process.now.pid n (live_monitors process.now)) }
 {
     match process.living() {
-        Some(living) => add_monitors(old, processes, process.pid(), living.monitors(), watches),
+        Some(living) => add_monitors(old, processes, process.pid(), living.monitors(), origins),
         None => Ok(()),
     }
 }
 
 /// The watches of all processes that linger.
-fn watches_of_lingering(
+fn origins_of_lingering(
     alloc: Global,
-    old: Old<'_>,
+    old: OldInstances<'_>,
     processes: &[ProcessEntry],
-) -> Result<Watches, AllocError>
-    ensures { IfOk result (λ watches. (n : ℕ) → there_passes (lingers_in old.entry) (process_of processes.now n) ≡ true
-        → watches_of watches n ≡ watchers n processes.now) }
+) -> Result<MonitoredBy, AllocError>
+    ensures { IfOk result (λ origins. (n : ℕ) → there_passes (lingers_in old.entry) (process_of processes.now n) ≡ true
+        → origins_of origins n ≡ monitor_origins n processes.now) }
 {
-    let mut watches = Watches::new(alloc);
+    let mut origins = MonitoredBy::new(alloc);
     let mut rest = processes;
     while let Some((process, more)) = rest.split_first() {
-        add_watches(old, processes, process, &mut watches)?;
+        add_origins(old, processes, process, &mut origins)?;
         rest = more;
     }
-    Ok(watches)
+    Ok(origins)
 }
 
 /// The reason with which a change of code ends processes: the atom `killed`.
@@ -171,16 +175,20 @@ fn killed(alloc: Global) -> Result<Term, AllocError>
 }
 
 /// Adds the DOWNs of these watches.
-fn add_downs(reason: &Term, watches: &[Watch], sent: &mut Vec<Sent>) -> Result<(), AllocError>
+fn add_downs(
+    reason: &Term,
+    origins: &[MonitorOrigin],
+    sent: &mut Vec<Sent>,
+) -> Result<(), AllocError>
     requires { reason.now ≡ killed }
-    ensures { OnOk result (sent.new.items ≡ sent.old.items ++ map down_by watches.now) }
+    ensures { OnOk result (sent.new.items ≡ sent.old.items ++ map down_by origins.now) }
 {
-    let mut rest = watches;
-    while let Some((watch, more)) = rest.split_first() {
+    let mut rest = origins;
+    while let Some((origin, more)) = rest.split_first() {
         sent.push(Sent {
-            to: watch.receiver,
+            to: origin.receiver,
             signal: Signal::Down {
-                reference: watch.reference,
+                reference: origin.reference,
                 reason: reason.clone()?,
             },
         })?;
@@ -191,49 +199,53 @@ fn add_downs(reason: &Term, watches: &[Watch], sent: &mut Vec<Sent>) -> Result<(
 
 /// Adds the DOWNs of the end of a process, if the process lingers.
 fn add_end(
-    old: Old<'_>,
+    old: OldInstances<'_>,
     process: &ProcessEntry,
     reason: &Term,
-    watches: &Watches,
+    origins: &MonitoredBy,
     sent: &mut Vec<Sent>,
 ) -> Result<(), AllocError>
     requires { reason.now ≡ killed }
-    ensures { OnOk result (sent.new.items ≡ sent.old.items ++ end_downs (lingers_in old.entry) (watches_of watches.now) process.now) }
+    ensures { OnOk result (sent.new.items ≡ sent.old.items ++ end_downs (lingers_in old.entry) (origins_of origins.now) process.now) }
 {
     if !lingers(old, process) {
         return Ok(());
     }
-    add_downs(reason, watches.of(process.pid()), sent)
+    add_downs(reason, origins.of(process.pid()), sent)
 }
 
 /// The DOWNs of the ends of all that linger, in their order.
 fn ends(
     alloc: Global,
-    old: Old<'_>,
+    old: OldInstances<'_>,
     processes: &[ProcessEntry],
     reason: &Term,
-    watches: &Watches,
+    origins: &MonitoredBy,
 ) -> Result<Vec<Sent>, AllocError>
     requires { reason.now ≡ killed }
-    ensures { IfOk result (λ sent. sent.items ≡ flat_map (λ pid. map down_by (watches_of watches.now pid)) (pids_of (lingers_in old.entry) processes.now)) }
+    ensures { IfOk result (λ sent. sent.items ≡ flat_map (λ pid. map down_by (origins_of origins.now pid)) (pids_of (lingers_in old.entry) processes.now)) }
 {
     let mut sent = Vec::new(alloc);
     let mut rest = processes;
     while let Some((process, more)) = rest.split_first() {
-        add_end(old, process, reason, watches, &mut sent)?;
+        add_end(old, process, reason, origins, &mut sent)?;
         rest = more;
     }
     Ok(sent)
 }
 
 /// The DOWNs of the ends of all that linger, in the order of their pids, and of each by the receivers and the references.
-fn notices(alloc: Global, old: Old<'_>, processes: &[ProcessEntry]) -> Result<Vec<Sent>, AllocError>
+fn notices(
+    alloc: Global,
+    old: OldInstances<'_>,
+    processes: &[ProcessEntry],
+) -> Result<Vec<Sent>, AllocError>
     requires { Orderly processes.now }
     ensures { IfOk result (λ sent. sent.items ≡ notices (lingers_in old.entry) processes.now) }
 {
-    let watches = watches_of_lingering(alloc, old, processes)?;
+    let origins = origins_of_lingering(alloc, old, processes)?;
     let reason = killed(alloc)?;
-    let sent = ends(alloc, old, processes, &reason, &watches)?;
+    let sent = ends(alloc, old, processes, &reason, &origins)?;
     Ok(sent)
 }
 
@@ -241,16 +253,16 @@ fn notices(alloc: Global, old: Old<'_>, processes: &[ProcessEntry]) -> Result<Ve
 /// of these processes is watched, and then nothing changes.
 pub(crate) fn tell(
     alloc: Global,
-    old: Old<'_>,
+    old: OldInstances<'_>,
     processes: &mut [ProcessEntry],
 ) -> Result<Vec<Sent>, AllocError>
     requires { Orderly processes.old }
     ensures posted { IfOk result (λ sent. processes.new ≡ posted_all processes.old sent.items) }
     ensures told { OnOk result (processes.new ≡ told (lingers_in old.entry) processes.old) }
-    ensures watched { OnErr result (one_watched (lingers_in old.entry) processes.old ≡ true) }
+    ensures monitored { OnErr result (one_monitored (lingers_in old.entry) processes.old ≡ true) }
     ensures err { OnErr result (processes.new ≡ processes.old) }
 {
-    if !one_is_watched(old, processes) {
+    if !one_is_monitored(old, processes) {
         return Ok(Vec::new(alloc));
     }
     let sent = notices(alloc, old, processes)?;

@@ -16,10 +16,10 @@ ghost use Rattle.beam_codesrv.specs.Several.{passes, AreOld};
 
 use crate::code_table::CodeTable;
 use crate::error::CodeError;
-use crate::lingering::{Old, end_and_tell, one_lingers};
+use crate::lingering::{OldInstances, end_and_tell, one_lingers};
 use beam_bif::built_in::is_erlang;
 use beam_image::Image;
-use beam_machine::event::{Mode, NumberList, Numbers, Reply};
+use beam_machine::event::{NumberList, Numbers, Reply, UpgradeMode};
 use beam_proc::entry::ProcessEntry;
 use beam_term::Atom;
 use indexmap::IndexSet;
@@ -77,14 +77,14 @@ fn add_number(numbers: &mut IndexSet<u32>, number: Option<u32>) -> Result<(), Al
 }
 
 /// Whether one of the old instances of modules stands in the way of their upgrade. The processes are walked over once at most.
-fn any_stands_in_way(mode: Mode, old: &IndexSet<u32>, processes: &[ProcessEntry]) -> bool
+fn any_stands_in_way(mode: UpgradeMode, old: &IndexSet<u32>, processes: &[ProcessEntry]) -> bool
     ensures { (code : Code) (ls : List Listing) (clock instances references : ℕ) → AreOld code ls old.now.keys
         → result ≡ list_any (λ l. stands_in_way mode (node code processes.now clock instances references) l.name) ls }
 {
     match mode {
-        Mode::Strict => !old.is_empty(),
-        Mode::Soft => one_lingers(Old::Several(old), processes),
-        Mode::Hard => false,
+        UpgradeMode::Strict => !old.is_empty(),
+        UpgradeMode::Soft => one_lingers(OldInstances::Several(old), processes),
+        UpgradeMode::Hard => false,
     }
 }
 
@@ -92,7 +92,7 @@ fn any_stands_in_way(mode: Mode, old: &IndexSet<u32>, processes: &[ProcessEntry]
 /// none. Where memory is refused nothing changes.
 fn make_way(
     alloc: Global,
-    mode: Mode,
+    mode: UpgradeMode,
     old: &IndexSet<u32>,
     processes: &mut [ProcessEntry],
 ) -> Result<(), AllocError>
@@ -103,10 +103,10 @@ fn make_way(
     ensures err { OnErr result (processes.new ≡ processes.old) }
 {
     match mode {
-        Mode::Strict => Ok(()),
-        Mode::Soft => Ok(()),
-        Mode::Hard => {
-            end_and_tell(alloc, Old::Several(old), processes)?;
+        UpgradeMode::Strict => Ok(()),
+        UpgradeMode::Soft => Ok(()),
+        UpgradeMode::Hard => {
+            end_and_tell(alloc, OldInstances::Several(old), processes)?;
             Ok(())
         }
     }
@@ -184,7 +184,7 @@ impl CodeTable {
         alloc: Global,
         processes: &mut [ProcessEntry],
         instances: &mut u32,
-        mode: Mode,
+        mode: UpgradeMode,
         images: &[Image],
     ) -> Result<Reply, CodeError>
         requires ordered { Ordered self.old instances.old }

@@ -15,7 +15,7 @@ use Rattle.beam_machine.specs.Process.{Process, is_running, is_ended}
 use Rattle.beam_machine.specs.Row.{Outcome, makes, sends, asks, sleeps, outcome}
 use Rattle.beam_machine.specs.State.{State, hearing_by}
 use Rattle.beam_laws.specs.Orderly.{Follows}
-use Rattle.beam_laws.specs.Private.{having, posted_all, after_private, before, with_given}
+use Rattle.beam_laws.specs.Private.{with_name_and_transit, posted_all, after_private, before, with_name_and_transit_of}
 use Rattle.beam_laws.proofs.Delayed.{further_later}
 use Rattle.beam_laws.proofs.Ending.{runs_on}
 use Rattle.beam_laws.proofs.Follows.{Comes, on, outcome_comes}
@@ -106,7 +106,7 @@ rows_follow pid name spots code (suc n) passes p f = go (is_running p.status) re
         follows_by pid name (private_to_spot spots false code n) h p (outcome code p) f (outcome_comes p.pid p.name code p (refl, (refl, runs_on p.status r)))
 
 -- a process with another name, and other signals in transit to it
-pub having_follows : (pid : ℕ) (name m : Option (List ℕ)) (transit : List Signal) (r : Process) → Follows pid name r → Follows pid m (having m transit r)
+pub having_follows : (pid : ℕ) (name m : Option (List ℕ)) (transit : List Signal) (r : Process) → Follows pid name r → Follows pid m (with_name_and_transit m transit r)
 having_follows pid name m transit r f = go r.status refl
   where
     nameless : (reason value : TermValue) → r.status ≡ Ended reason value → (n : List ℕ) → r.name ≡ Some n → m ≡ Some n
@@ -129,10 +129,10 @@ having_follows pid name m transit r f = go r.status refl
 
 -- ---- rows of a process that is still the one with which they began
 
-having_pid : (name : Option (List ℕ)) (transit : List Signal) (p : Process) → (having name transit p).pid ≡ p.pid
+having_pid : (name : Option (List ℕ)) (transit : List Signal) (p : Process) → (with_name_and_transit name transit p).pid ≡ p.pid
 having_pid name transit p = elim (is_ended p.status) as (λ b. (cond {A = Process} b p (record p { name = name; transit = transit })).pid ≡ p.pid) [ true ↦ refl | false ↦ refl ]
 
-having_status : (name : Option (List ℕ)) (transit : List Signal) (p : Process) → (having name transit p).status ≡ p.status
+having_status : (name : Option (List ℕ)) (transit : List Signal) (p : Process) → (with_name_and_transit name transit p).status ≡ p.status
 having_status name transit p = elim (is_ended p.status) as (λ b. (cond {A = Process} b p (record p { name = name; transit = transit })).status ≡ p.status) [ true ↦ refl | false ↦ refl ]
 
 module _ (s : State) (pid : ℕ) (rows : Private) (h : AreRowsOf s pid rows) where
@@ -151,7 +151,7 @@ module _ (s : State) (pid : ℕ) (rows : Private) (h : AreRowsOf s pid rows) whe
   process_runs = subst RunsBefore (sym h.done) (runs_before h.spots s.code h.limit h.passes h.first)
 
   -- the rows are the node's next rows
-  pub rows_next : (m : ℕ) → steps s pid (rows.count + m) ≡ before rows.count (steps (after_private s pid (with_given h.now rows)) pid m)
+  pub rows_next : (m : ℕ) → steps s pid (rows.count + m) ≡ before rows.count (steps (after_private s pid (with_name_and_transit_of h.now rows)) pid m)
   rows_next m =
       let alone : Private = private_rows s.code rows.count h.first in
       let same : Same rows alone = subst (λ (rows : Private). Same rows (private_rows s.code rows.count h.first)) (sym h.done) (as_many h.spots s.code h.limit h.passes h.first) in
@@ -160,25 +160,25 @@ module _ (s : State) (pid : ℕ) (rows : Private) (h : AreRowsOf s pid rows) whe
       -- the node after these rows: with the process that they made, and the signals that they sent posted
       given : Process → List Sent → State
       given p sent =
-          let q : Process = having h.now.name h.now.transit p in
+          let q : Process = with_name_and_transit h.now.name h.now.transit p in
           record s { processes = hearing_by pid q.status (posted_all (put_process s pid q).processes sent) }
 
       from : (count : ℕ) (p : Process) (sent : List Sent) → (rows.count ≡ count) × ((rows.process ≡ p) × (rows.sent ≡ sent))
           → steps s pid (count + m) ≡ before count (steps (given p sent) pid m)
-          → steps s pid (rows.count + m) ≡ before rows.count (steps (after_private s pid (with_given h.now rows)) pid m)
+          → steps s pid (rows.count + m) ≡ before rows.count (steps (after_private s pid (with_name_and_transit_of h.now rows)) pid m)
       from count p sent e k =
-          subst (λ c. steps s pid (c + m) ≡ before c (steps (after_private s pid (with_given h.now rows)) pid m)) (sym e.0)
+          subst (λ c. steps s pid (c + m) ≡ before c (steps (after_private s pid (with_name_and_transit_of h.now rows)) pid m)) (sym e.0)
           (subst (λ p. steps s pid (count + m) ≡ before count (steps (given p rows.sent) pid m)) (sym e.1.0)
           (subst (λ sent. steps s pid (count + m) ≡ before count (steps (given p sent) pid m)) (sym e.1.1) k))
 
   -- the node after the rows and the node's row keeps what every `Steps` keeps
-  pub rows_keep : (P : State → Type 0) → ((s : State) (pid n : ℕ) → P s → P (next s (Steps pid n)).state) → P s → P (installed s pid (with_given h.now rows)).state
+  pub rows_keep : (P : State → Type 0) → ((s : State) (pid n : ℕ) → P s → P (next s (Steps pid n)).state) → P s → P (installed s pid (with_name_and_transit_of h.now rows)).state
   rows_keep P keeps p =
       let count : ℕ = rows.count + node_rows rows.end in
       subst P (steps_state s pid count ∙ ap (λ (r : Rows). r.state) (rows_next (node_rows rows.end))) (keeps s pid count p)
 
   -- the node after the rows, before the node's row, keeps what every `Steps` keeps
-  pub rows_alone_keep : (P : State → Type 0) → ((s : State) (pid n : ℕ) → P s → P (next s (Steps pid n)).state) → P s → P (after_private s pid (with_given h.now rows))
+  pub rows_alone_keep : (P : State → Type 0) → ((s : State) (pid n : ℕ) → P s → P (next s (Steps pid n)).state) → P s → P (after_private s pid (with_name_and_transit_of h.now rows))
   rows_alone_keep P keeps p =
       let count : ℕ = rows.count + 0 in
       subst P (steps_state s pid count ∙ ap (λ (r : Rows). r.state) (rows_next 0)) (keeps s pid count p)

@@ -11,7 +11,7 @@ use Rattle.beam_machine.specs.Private.{Private, Sent, End, at_limit, after_row, 
 use Rattle.beam_machine.specs.Process.{Process, is_ended, then_of}
 use Rattle.beam_machine.specs.State.{State, process_of, live_process, with_process}
 use Rattle.beam_laws.specs.Monitors.{ArePart, Rise, AreRising}
-use Rattle.beam_laws.specs.Private.{having, posted_all, after_private, before, with_given}
+use Rattle.beam_laws.specs.Private.{with_name_and_transit, posted_all, after_private, before, with_name_and_transit_of}
 use Rattle.beam_laws.proofs.Ending.{is_there, alive_is}
 use Rattle.beam_proc.specs.Ending.{end_of}
 use Rattle.beam_proc.specs.declared.private.End.{End as TheEnd}
@@ -29,7 +29,7 @@ use Rattle.beam_core.proofs.Telling.{HavePids}
 abbrev pub Replaces : Parts → ℕ → Process → Parts → Process → Type 0
 Replaces s pid p t was =
     (q : Process) → process_of s.processes pid ≡ Some q
-    → (t ≡ with_processes s (with_process s.processes pid (having q.name q.transit p))) × (was ≡ record q { name = None; transit = [] })
+    → (t ≡ with_processes s (with_process s.processes pid (with_name_and_transit q.name q.transit p))) × (was ≡ record q { name = None; transit = [] })
 
 -- ---- why the rows end
 
@@ -83,16 +83,16 @@ module _ (code : Code) (old posted : Parts) (pid : ℕ) (rows : Private) (h : Ar
   sender = more pid told h.now
 
   abbrev pub made : Process
-  made = having h.now.name sender.transit rows.process
+  made = with_name_and_transit h.now.name sender.transit rows.process
 
   module _ (put : Parts) (was : Process) (does : Replaces posted pid p put was) where
-    done : (put ≡ with_processes posted (with_process posted.processes pid (having h.now.name sender.transit p))) × (was ≡ record sender { name = None; transit = [] })
+    done : (put ≡ with_processes posted (with_process posted.processes pid (with_name_and_transit h.now.name sender.transit p))) × (was ≡ record sender { name = None; transit = [] })
     done = does sender (sender_there code old posted put pid h.now rows h.there lives told all posts)
 
     puts : put ≡ with_processes posted (with_process posted.processes pid made)
-    puts = done.0 ∙ ap (λ p. with_processes posted (with_process posted.processes pid (having h.now.name sender.transit p))) same
+    puts = done.0 ∙ ap (λ p. with_processes posted (with_process posted.processes pid (with_name_and_transit h.now.name sender.transit p))) same
 
-    taken : HavePids old.processes → node code put ≡ after_private (node code old) pid (with_given h.now rows)
+    taken : HavePids old.processes → node code put ≡ after_private (node code old) pid (with_name_and_transit_of h.now rows)
     taken = took_effect code old posted put pid h.now rows h.there lives told all posts puts
 
     -- the node after the rows took effect keeps what every `Steps` keeps
@@ -104,8 +104,8 @@ module _ (code : Code) (old posted : Parts) (pid : ℕ) (rows : Private) (h : Ar
     effect pids other = λ q there.
         let none : node_rows rows.end ≡ 0 = no_row rows.end other in
         let it : h.now ≡ q = is_there h.now q (sym h.there ∙ there) in (
-          ap (λ q. installed (node code old) pid (with_given q rows)) (sym it)
-              ∙ (ap (λ k. before rows.count (steps (after_private (node code old) pid (with_given h.now rows)) pid k)) none
+          ap (λ q. installed (node code old) pid (with_name_and_transit_of q rows)) (sym it)
+              ∙ (ap (λ k. before rows.count (steps (after_private (node code old) pid (with_name_and_transit_of h.now rows)) pid k)) none
               ∙ (ap (λ (t : State). before rows.count (steps t pid 0)) (sym (taken pids))
               ∙ ap (λ k. record { count = rows.count + k; state = node code put }) (sym none))),
           stands code old posted put pid h.now rows h.there lives told all posts puts ∙ ap Some (sym stands_so),
@@ -121,8 +121,8 @@ module _ (code : Code) (old posted : Parts) (pid : ℕ) (rows : Private) (h : Ar
       effect_and_row pids last after row said = λ q there.
           let one : node_rows rows.end ≡ 1 = ap node_rows e in
           let it : h.now ≡ q = is_there h.now q (sym h.there ∙ there) in (
-            ap (λ q. installed (node code old) pid (with_given q rows)) (sym it)
-                ∙ (ap (λ k. before rows.count (steps (after_private (node code old) pid (with_given h.now rows)) pid k)) one
+            ap (λ q. installed (node code old) pid (with_name_and_transit_of q rows)) (sym it)
+                ∙ (ap (λ k. before rows.count (steps (after_private (node code old) pid (with_name_and_transit_of h.now rows)) pid k)) one
                 ∙ (ap (λ (t : State). before rows.count (steps t pid 1)) (sym (taken pids))
                 ∙ (ap (before rows.count) row
                 ∙ ap (λ k. record { count = rows.count + k; state = node code last }) (sym one)))),

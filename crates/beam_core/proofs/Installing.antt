@@ -11,7 +11,7 @@ use Rattle.beam_machine.specs.Private.{Private, Sent}
 use Rattle.beam_machine.specs.Process.{Process, is_running, is_ended, then_of}
 use Rattle.beam_machine.specs.State.{process_of, with_process, alive, live_process, posted_to, posted}
 use Rattle.beam_laws.specs.Orderly.{Follows}
-use Rattle.beam_laws.specs.Private.{having, with_signals, posted_all, after_private, with_given}
+use Rattle.beam_laws.specs.Private.{with_name_and_transit, with_signals, posted_all, after_private, with_name_and_transit_of}
 use Rattle.beam_laws.specs.Signals.{signals_to}
 use Rattle.beam_laws.proofs.Ending.{alive_is, runs_on}
 use Rattle.beam_laws.proofs.Follows.{on}
@@ -47,7 +47,7 @@ own ps pid signal q e lives = ap (λ o. posted_to ps pid signal (alive o)) e ∙
 
 -- a signal to the sender itself
 to_itself : (ps : List Process) (pid : ℕ) (signal : Signal) (q r : Process) (b : Bool) → is_ended r.status ≡ b → process_of ps pid ≡ Some q → is_ended q.status ≡ false
-    → with_process (posted ps pid signal) pid (having q.name (q.transit ++ signal ∷ []) r) ≡ posted (with_process ps pid (having q.name q.transit r)) pid signal
+    → with_process (posted ps pid signal) pid (with_name_and_transit q.name (q.transit ++ signal ∷ []) r) ≡ posted (with_process ps pid (with_name_and_transit q.name q.transit r)) pid signal
 to_itself ps pid signal q r true over e lives =
     let more : Process = record q { transit = q.transit ++ signal ∷ [] } in
     ap (λ b. with_process (posted ps pid signal) pid (cond b r (record r { name = q.name; transit = q.transit ++ signal ∷ [] }))) over
@@ -71,15 +71,15 @@ abbrev mine : Bool → Signal → List Signal
 mine b signal = cond b (signal ∷ []) []
 
 one_commutes : (ps : List Process) (pid to : ℕ) (signal : Signal) (q r : Process) (b : Bool) → (to == pid) ≡ b → process_of ps pid ≡ Some q → is_ended q.status ≡ false
-    → with_process (posted ps to signal) pid (having q.name (q.transit ++ mine b signal) r) ≡ posted (with_process ps pid (having q.name q.transit r)) to signal
+    → with_process (posted ps to signal) pid (with_name_and_transit q.name (q.transit ++ mine b signal) r) ≡ posted (with_process ps pid (with_name_and_transit q.name q.transit r)) to signal
 one_commutes ps pid to signal q r true is e lives =
     let here : pid ≡ to = grind (arith, nat_tests) in
-    subst (λ to. with_process (posted ps to signal) pid (having q.name (q.transit ++ signal ∷ []) r) ≡ posted (with_process ps pid (having q.name q.transit r)) to signal) here
+    subst (λ to. with_process (posted ps to signal) pid (with_name_and_transit q.name (q.transit ++ signal ∷ []) r) ≡ posted (with_process ps pid (with_name_and_transit q.name q.transit r)) to signal) here
     (to_itself ps pid signal q r (is_ended r.status) refl e lives)
 one_commutes ps pid to signal q r false is e lives =
     let other : pid ≢ to = λ h. true≢false (sym (eq-eqb to pid (sym h)) ∙ is) in
-    ap (λ ts. with_process (posted ps to signal) pid (having q.name ts r)) (append-nil q.transit)
-    ∙ elsewhere ps pid to signal q (having q.name q.transit r) e other
+    ap (λ ts. with_process (posted ps to signal) pid (with_name_and_transit q.name ts r)) (append-nil q.transit)
+    ∙ elsewhere ps pid to signal q (with_name_and_transit q.name q.transit r) e other
 
 -- ---- several
 
@@ -95,8 +95,8 @@ more_there ps pid sent q e lives =
     all_posted_at ps pid sent ∙ (ap (option_map (with_signals (signals_to pid sent))) e ∙ ap (λ b. Some (cond b q (more pid sent q))) lives)
 
 commutes : (ps : List Process) (pid : ℕ) (q r : Process) (sent : List Sent) → process_of ps pid ≡ Some q → is_ended q.status ≡ false
-    → with_process (posted_all ps sent) pid (having q.name (q.transit ++ signals_to pid sent) r) ≡ posted_all (with_process ps pid (having q.name q.transit r)) sent
-commutes ps pid q r [] e lives = ap (λ ts. with_process ps pid (having q.name ts r)) (append-nil q.transit)
+    → with_process (posted_all ps sent) pid (with_name_and_transit q.name (q.transit ++ signals_to pid sent) r) ≡ posted_all (with_process ps pid (with_name_and_transit q.name q.transit r)) sent
+commutes ps pid q r [] e lives = ap (λ ts. with_process ps pid (with_name_and_transit q.name ts r)) (append-nil q.transit)
 commutes ps pid q r (one ∷ rest) e lives =
     let b : Bool = one.to == pid in
     let after : List Process = posted ps one.to one.signal in
@@ -105,7 +105,7 @@ commutes ps pid q r (one ∷ rest) e lives =
     posted_at ps one.to pid one.signal b refl ∙ (ap (option_map (with_signals (mine b one.signal))) e ∙ ap (λ c. Some (cond c q x)) lives) in
     let whole : q.transit ++ signals_to pid (one ∷ rest) ≡ (q.transit ++ mine b one.signal) ++ signals_to pid rest =
     ap (λ ts. q.transit ++ ts) (split pid one rest) ∙ sym (append_assoc q.transit (mine b one.signal) (signals_to pid rest)) in
-    ap (λ ts. with_process (posted_all after rest) pid (having q.name ts r)) whole
+    ap (λ ts. with_process (posted_all after rest) pid (with_name_and_transit q.name ts r)) whole
     ∙ (commutes after pid x r rest there lives
     ∙ ap (λ qs. posted_all qs rest) (one_commutes ps pid one.to one.signal q r b refl e lives))
 
@@ -123,7 +123,7 @@ module _ (code : Code) (old posted put : Parts) (pid : ℕ) (q : Process) (rows 
   there = more pid sent q
 
   abbrev pub made : Process
-  made = having q.name there.transit rows.process
+  made = with_name_and_transit q.name there.transit rows.process
 
   all_there : process_of (posted_all old.processes sent) pid ≡ Some there
   all_there = more_there old.processes pid sent q e lives
@@ -140,9 +140,9 @@ module _ (code : Code) (old posted put : Parts) (pid : ℕ) (q : Process) (rows 
     put_all = ap (λ (s : Parts). s.processes) puts ∙ ap (λ (s : Parts). with_process s.processes pid made) posts
 
     -- the rows took effect
-    pub took_effect : HavePids old.processes → node code put ≡ after_private (node code old) pid (with_given q rows)
+    pub took_effect : HavePids old.processes → node code put ≡ after_private (node code old) pid (with_name_and_transit_of q rows)
     took_effect pids =
-        let p : Process = having q.name q.transit rows.process in
+        let p : Process = with_name_and_transit q.name q.transit rows.process in
         let status : p.status ≡ rows.process.status = having_status q.name q.transit rows.process in
         let whole : sent ≡ rows.sent ++ notices_at pid (then_of p.status) old.processes =
         all ∙ ap (λ s. rows.sent ++ notices_at pid (then_of s) old.processes) (sym status) in
@@ -175,10 +175,10 @@ module _ (code : Code) (old posted put : Parts) (pid : ℕ) (q : Process) (rows 
       is_made : made ≡ record rows.process { name = q.name; transit = there.transit }
       is_made = ap (λ b. cond b rows.process (record rows.process { name = q.name; transit = there.transit })) (runs_on rows.process.status runs)
 
-      back : having made.name made.transit was ≡ there
+      back : with_name_and_transit made.name made.transit was ≡ there
       back =
-          ap (λ (p : Process). having p.name p.transit was) is_made
-          ∙ (ap (having q.name there.transit) left
+          ap (λ (p : Process). with_name_and_transit p.name p.transit was) is_made
+          ∙ (ap (with_name_and_transit q.name there.transit) left
           ∙ ap (λ b. cond b (record there { name = None; transit = [] }) there) lives)
 
       pub can_go_back : made.pid ≡ q.pid → CanReplace put.processes pid was
@@ -191,17 +191,17 @@ module _ (code : Code) (old posted put : Parts) (pid : ℕ) (q : Process) (rows 
       own_alone : rows.sent ≡ sent
       own_alone = sym (all ∙ (ap (λ ts. rows.sent ++ ts) (none_at pid rows.process.status old.processes runs) ∙ append-nil rows.sent))
 
-      pub all_undone : (cur last new : Parts) → cur ≡ put → last ≡ with_processes cur (with_process cur.processes pid (having made.name made.transit was))
+      pub all_undone : (cur last new : Parts) → cur ≡ put → last ≡ with_processes cur (with_process cur.processes pid (with_name_and_transit made.name made.transit was))
           → new ≡ with_processes last (all_taken last.processes rows.sent) → new ≡ old
       all_undone cur last new same backs takes =
           let ps : List Process = posted_all old.processes sent in
-          let again : with_process put.processes pid (having made.name made.transit was) ≡ ps =
+          let again : with_process put.processes pid (with_name_and_transit made.name made.transit was) ≡ ps =
           ap (with_process put.processes pid) back
           ∙ (ap (λ qs. with_process qs pid there) put_all ∙ (put_put ps pid made there ∙ put_same ps pid there all_there)) in
           let parts : put ≡ with_processes old (with_process posted.processes pid made) = puts ∙ ap (λ (s : Parts). with_processes s (with_process posted.processes pid made)) posts in
           let lasts : last ≡ with_processes old ps =
           backs
-          ∙ (ap (λ (s : Parts). with_processes s (with_process s.processes pid (having made.name made.transit was))) same
+          ∙ (ap (λ (s : Parts). with_processes s (with_process s.processes pid (with_name_and_transit made.name made.transit was))) same
           ∙ (ap (λ ps. with_processes put ps) again ∙ ap (λ (s : Parts). with_processes s ps) parts)) in
           takes
           ∙ (ap (λ ts. with_processes last (all_taken last.processes ts)) own_alone

@@ -4,7 +4,7 @@ pub mod Asking
 pub mod Effects
 pub mod Ending
 pub mod Installing
-pub mod Kept
+pub mod PreservedByAnswers
 pub mod Located
 pub mod Monitors
 pub mod Runs

@@ -20,8 +20,8 @@ use Rattle.beam_laws.proofs.Hearing.{none_hear}
 use Rattle.beam_laws.proofs.Numbered.{put_same, put_put, put_here}
 use Rattle.beam_laws.proofs.Follows.{Follows, Comes, on, outcome_comes}
 use Rattle.beam_rows.specs.declared.request.Request.{Request}
-use Rattle.beam_rows.specs.declared.run.Stop.{Stop}
-use Rattle.beam_rows.specs.declared.run.Stop.TheVariants.{AtLimit, Waits, Ends, Asks, AtSpot, Refused}
+use Rattle.beam_rows.specs.declared.run.StopReason.{StopReason}
+use Rattle.beam_rows.specs.declared.run.StopReason.TheVariants.{AtLimit, Waits, Ends, Asks, AtSpot, Refused}
 use Rattle.beam_rows.specs.Asked.{asked, can_ask}
 use Rattle.beam_rows.specs.Private.{LeadsTo}
 use Rattle.beam_rows.specs.Spots.{ClearRows, Halts, is_stopped, passes_after}
@@ -95,7 +95,7 @@ leads_halts code spots passes (suc n) s pid p q e lives h clear =
 -- ---- where private rows end
 
 -- the process hasn't ended
-pub halts_lives : (code : Code) (spots : List Place) (passes : Bool) (n count : ℕ) (stop : Stop) (q : Process) → Halts code spots passes n count stop q → is_ended q.status ≡ false
+pub halts_lives : (code : Code) (spots : List Place) (passes : Bool) (n count : ℕ) (stop : StopReason) (q : Process) → Halts code spots passes n count stop q → is_ended q.status ≡ false
 halts_lives code spots passes n count AtLimit q h = ap is_ended h.1
 halts_lives code spots passes n count Waits q h = ap is_ended h.1
 halts_lives code spots passes n count (Ends reason value) q h = ap is_ended h.0.1
@@ -104,14 +104,14 @@ halts_lives code spots passes n count AtSpot q h = ap is_ended h.1
 halts_lives code spots passes n count Refused q h = ap is_ended h.1
 
 -- what is known after `count` private rows, of a process that is still there
-record Ran (code : Code) (spots : List Place) (passes : Bool) (pid n : ℕ) (old : Parts) (count : ℕ) (stop : Stop) (new : Parts) : Type 0 where
+record Ran (code : Code) (spots : List Place) (passes : Bool) (pid n : ℕ) (old : Parts) (count : ℕ) (stop : StopReason) (new : Parts) : Type 0 where
   q : Process
   there : process_of new.processes pid ≡ Some q
   done : halting spots passes (node code old) pid count ≡ rows_done count (node code new)
   stops : Halts code spots passes n count stop q
   some : count ≡ 0 → q.status ≡ Running
 
-ran_so : (code : Code) (spots : List Place) (passes : Bool) (pid n : ℕ) (old : Parts) (count : ℕ) (stop : Stop) (new : Parts) → then_at old.processes pid ≡ Some GoesOn
+ran_so : (code : Code) (spots : List Place) (passes : Bool) (pid n : ℕ) (old : Parts) (count : ℕ) (stop : StopReason) (new : Parts) → then_at old.processes pid ≡ Some GoesOn
     → PrivateRows code spots passes pid n old count stop new → Ran code spots passes pid n old count stop new
 unfolding with_at
 ran_so code spots passes pid n old count stop new runs h =

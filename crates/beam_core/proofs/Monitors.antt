@@ -10,7 +10,7 @@ use Rattle.beam_machine.specs.Process.{Process, is_running, is_ended}
 use Rattle.beam_machine.specs.Row.{Outcome, makes, sends, asks, sleeps, outcome}
 use Rattle.beam_machine.specs.State.{State, process_of}
 use Rattle.beam_laws.specs.Monitors.{ArePart, MonitorsNoMore, Rise, AreRising}
-use Rattle.beam_laws.specs.Private.{having}
+use Rattle.beam_laws.specs.Private.{with_name_and_transit}
 use Rattle.beam_laws.proofs.Ending.{runs_on}
 use Rattle.beam_laws.proofs.Monitoring.{all_are, part_of_part, row_part}
 use Rattle.beam_laws.proofs.Rising.{RisesIf, process_up}
@@ -47,7 +47,7 @@ rows_part spots code (suc n) passes p = go (is_running p.status) refl (not passe
 
 -- ---- references rise
 
-having_monitors : (name : Option (List ℕ)) (transit : List Signal) (p : Process) → (having name transit p).monitors ≡ p.monitors
+having_monitors : (name : Option (List ℕ)) (transit : List Signal) (p : Process) → (with_name_and_transit name transit p).monitors ≡ p.monitors
 having_monitors name transit p = elim (is_ended p.status) as (λ b. (cond {A = Process} b p (record p { name = name; transit = transit })).monitors ≡ p.monitors) [ true ↦ refl | false ↦ refl ]
 
 there_rise : (count : ℕ) (ps : List Process) (pid : ℕ) (p : Process) → AreRising count ps → process_of ps pid ≡ Some p → Rise 0 count p.monitors

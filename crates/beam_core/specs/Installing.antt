@@ -7,7 +7,7 @@ use Rattle.beam_machine.specs.Next.{Rows, steps}
 use Rattle.beam_machine.specs.Private.{Private, Sent, End, before_node_row, private_to_spot}
 use Rattle.beam_machine.specs.Process.{Process, is_running, is_ended}
 use Rattle.beam_machine.specs.State.{State, process_of}
-use Rattle.beam_laws.specs.Private.{IsStill, after_private, before, with_given}
+use Rattle.beam_laws.specs.Private.{IsStill, after_private, before, with_name_and_transit_of}
 use Rattle.beam_state.specs.Parts.{then_at}
 use Rattle.beam_state.specs.Posting.{notices_of}
 
@@ -37,7 +37,7 @@ installed s pid rows = before rows.count (steps (after_private s pid rows) pid (
 abbrev pub Installed : State → ℕ → Private → Then → State → Type 0
 Installed s pid rows then t =
     (q : Process) → process_of s.processes pid ≡ Some q
-    → (installed s pid (with_given q rows) ≡ record { count = rows.count + node_rows rows.end; state = t }) × (then_at t.processes pid ≡ Some then)
+    → (installed s pid (with_name_and_transit_of q rows) ≡ record { count = rows.count + node_rows rows.end; state = t }) × (then_at t.processes pid ≡ Some then)
 
 -- rows that take effect without memory
 abbrev pub AreQuiet : Private → Type 0

@@ -10,7 +10,7 @@ use Rattle.beam_machine.specs.State.{process_of, with_process}
 use Rattle.beam_machine.specs.Debug.{halting}
 use Rattle.beam_machine.specs.Quiet.{IsLoud}
 use Rattle.beam_rows.specs.declared.request.Request.{Request}
-use Rattle.beam_rows.specs.declared.run.Stop.{Stop}
+use Rattle.beam_rows.specs.declared.run.StopReason.{StopReason}
 use Rattle.beam_rows.specs.Asked.{can_ask}
 use Rattle.beam_rows.specs.Private.{LeadsTo}
 use Rattle.beam_rows.specs.Spots.{ClearRows, Halts, is_stopped, passes_after}
@@ -22,7 +22,7 @@ abbrev pub CanAsk : ℕ → Request → List Process → Type 0
 CanAsk pid request ps = (p : Process) → process_of ps pid ≡ Some p → can_ask p request ≡ true
 
 -- private rows of a process, of which n were asked for, and why they end
-abbrev pub PrivateRows : Code → List Place → Bool → ℕ → ℕ → Parts → ℕ → Stop → Parts → Type 0
+abbrev pub PrivateRows : Code → List Place → Bool → ℕ → ℕ → Parts → ℕ → StopReason → Parts → Type 0
 PrivateRows code spots passes pid n old count stop new =
     (p : Process) → process_of old.processes pid ≡ Some p
     → (q : Process) × (LeadsTo code count p q × (ClearRows code spots passes count p

@@ -103,7 +103,7 @@ pub(crate) fn install(
         sent,
         end,
     } = rows;
-    state.stands();
+    state.recall_invariant();
     let then = standing(&process)?;
     tell(state, pid, &sent, &then)?;
     let was = state.advance(pid, process);

@@ -69,7 +69,7 @@ fn all_stand(images: &[Image])
 {
     let mut rest = images;
     while let Some((image, others)) = rest.split_first() {
-        image.stands();
+        image.recall_invariant();
         rest = others;
     }
 }
@@ -85,11 +85,11 @@ fn apply(code: &mut CodeTable, state: &mut State, event: &Event<Image>) -> Resul
 {
     match event {
         Event::Load(image) => {
-            image.stands();
+            image.recall_invariant();
             state.load(code, image)
         }
         Event::LoadStrict(image) => {
-            image.stands();
+            image.recall_invariant();
             state.load_strict(code, image)
         }
         Event::AtomicLoad { mode, images } => {
@@ -128,7 +128,7 @@ impl Core {
     /// In every state each instance in which a process lingers is current or old, process n has pid n, and no two have one name. The
     /// listings can be loaded, and the frames of each process have the shapes of their places, so each row finds what it names, in the
     /// node and in a slice (`beam_shape_laws`).
-    pub fn stands(&self)
+    pub fn recall_invariant(&self)
         ensures home { AreHome self.now.code self.now.processes }
         ensures framed { IsFramedNode self.now }
         ensures pids { (n : ℕ) (p : TheProcess) → process_of self.now.processes n ≡ Some p → p.pid ≡ n }
@@ -136,7 +136,7 @@ impl Core {
             → p.name ≡ Some name → q.name ≡ Some name → m ≡ n }
     {
         let _code = &self.code;
-        self.state.stands();
+        self.state.recall_invariant();
     }
 
     /// Its code.

@@ -15,7 +15,7 @@ use beam_machine::process::Status;
 use beam_model::place::Place;
 use beam_proc::process::Process;
 use beam_rows::request::Request;
-use beam_rows::run::{Ran, Stop, rows_before_spots};
+use beam_rows::run::{Ran, StopReason, rows_before_spots};
 use beam_state::state::State;
 use std::alloc::AllocError;
 
@@ -73,15 +73,15 @@ fn private(
 /// How many rows were executed, and how the process stands, `None` where it stops before the row of a break spot; or that memory was
 /// refused for the next row.
 #[derive(Drop)]
-pub(crate) struct Rows {
+pub(crate) struct RowsDone {
     pub count: u32,
     pub then: Result<Option<Then>, AllocError>,
 }
 
-fn did(count: u32, then: Result<Option<Then>, AllocError>) -> Rows
+fn did(count: u32, then: Result<Option<Then>, AllocError>) -> RowsDone
     ensures { result ≡ record { count = count; then = then } }
 {
-    Rows { count, then }
+    RowsDone { count, then }
 }
 
 /// Executes rows of a process that runs: those that concern it alone, and then the one that ends it or asks something of the node. Where
@@ -93,7 +93,7 @@ pub(crate) fn some_rows(
     passes: bool,
     pid: u32,
     limit: u32,
-) -> Rows
+) -> RowsDone
     requires runs { then_at state.old.processes pid ≡ Some Then.GoesOn }
     requires framed { IsFramedNode (node code.now state.old) }
     requires some { 0 < limit }
@@ -101,15 +101,15 @@ pub(crate) fn some_rows(
 {
     let Ran { count, stop } = private(code, state, spots, passes, pid, limit);
     match stop {
-        Stop::AtLimit => did(count, Ok(Some(Then::GoesOn))),
-        Stop::Waits => did(count, Ok(Some(Then::Waits))),
-        Stop::Ends { reason, value } => match state.end(pid, reason, value) {
+        StopReason::AtLimit => did(count, Ok(Some(Then::GoesOn))),
+        StopReason::Waits => did(count, Ok(Some(Then::Waits))),
+        StopReason::Ends { reason, value } => match state.end(pid, reason, value) {
             Ok(then) => did(count + 1, Ok(Some(then))),
             Err(refused) => did(count, Err(refused)),
         },
-        Stop::AtSpot => did(count, Ok(None)),
-        Stop::Refused => did(count, Err(AllocError)),
-        Stop::Asks(request) => match respond(state, pid, request) {
+        StopReason::AtSpot => did(count, Ok(None)),
+        StopReason::Refused => did(count, Err(AllocError)),
+        StopReason::Asks(request) => match respond(state, pid, request) {
             Ok(then) => did(count + 1, Ok(Some(then))),
             Err(refused) => did(count, Err(refused)),
         },

@@ -6,7 +6,7 @@ ghost use Rattle.beam_shape_laws.specs.Shaped.{IsFramedNode};
 ghost use Rattle.beam_state.specs.Parts.{node, then_at};
 ghost use Rattle.beam_core.specs.Halt.{HaltsAt, HaltsLoudly};
 
-use crate::row::{Rows, some_rows};
+use crate::row::{RowsDone, some_rows};
 use beam_codesrv::CodeTable;
 use beam_machine::event::{Event, Refused, Reply, Then};
 use beam_model::place::Place;
@@ -33,7 +33,7 @@ pub(crate) fn run_rows(
     let mut passing = passes;
     while count < limit {
         let done = some_rows(code, state, spots, passing, pid, limit - count);
-        let Rows { count: more, then } = done;
+        let RowsDone { count: more, then } = done;
         count += more;
         passing = false;
         match then {

@@ -25,7 +25,7 @@ use Rattle.beam_core.specs.Halt.{HaltsLoudly}
 use Rattle.beam_debug.specs.Answers.{Inspected}
 use Rattle.beam_debug.specs.Halt.{then_at, steps_in}
 use Rattle.beam_debug.specs.Loud.{DebugLoudly}
-use Rattle.beam_debug.proofs.Answered.{standing}
+use Rattle.beam_debug.proofs.RowsToSpot.{standing}
 use Rattle.beam_debug.proofs.Changes.{set_some, resume_held}
 use Rattle.beam_debug.proofs.Debugging.{option_lives, steps_halt, of_event}
 

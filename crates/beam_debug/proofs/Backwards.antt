@@ -6,9 +6,9 @@ use Rattle.beam_model.specs.declared.instruction.Instruction.{Instruction}
 use Rattle.beam_model.specs.Listing.{label_of, is_row}
 use Rattle.beam_model.specs.Place.{Place}
 use Rattle.beam_machine.specs.View.{LastLabel, location_in, function_of, last_function, later, last_label, label_or_row}
-use Rattle.beam_debug.specs.declared.passing.Passing.{Passing}
-use Rattle.beam_debug.specs.declared.passing.Passing.TheVariants.{Label, Rows}
-use Rattle.beam_debug.specs.Passing.{passing_at, passing_by}
+use Rattle.beam_debug.specs.declared.label_or_rows.LabelOrRows.{LabelOrRows}
+use Rattle.beam_debug.specs.declared.label_or_rows.LabelOrRows.TheVariants.{Label, Rows}
+use Rattle.beam_debug.specs.LabelOrRows.{label_or_rows_at, label_or_rows_by}
 
 -- the list of an element, if there is one
 abbrev one_of : Option Instruction → List Instruction
@@ -51,7 +51,7 @@ none_passed = record { label = 0; rows = 0 }
 abbrev pub with_rows : ℕ → LastLabel → LastLabel
 with_rows n p = record p { rows = p.rows + n }
 
-abbrev pub passed_by : Passing → LastLabel → LastLabel
+abbrev pub passed_by : LabelOrRows → LastLabel → LastLabel
 passed_by (Label n) p = record { label = n; rows = 0 }
 passed_by (Rows n) p = record p { rows = p.rows + n }
 
@@ -62,38 +62,38 @@ labels_after found (i ∷ rest) ys = labels_after (label_or_row (label_of i) i f
 no_rows_more : (found : LastLabel) → found ≡ passed_by (Rows 0) found
 no_rows_more found = let same : found.rows ≡ found.rows + 0 = omega arith in ap (λ (k : ℕ). record found { rows = k }) same
 
-by_row : (found : LastLabel) (b : Bool) → cond {A = LastLabel} b (record found { rows = found.rows + 1 }) found ≡ passed_by (cond {A = Passing} b (Rows 1) (Rows 0)) found
+by_row : (found : LastLabel) (b : Bool) → cond {A = LastLabel} b (record found { rows = found.rows + 1 }) found ≡ passed_by (cond {A = LabelOrRows} b (Rows 1) (Rows 0)) found
 by_row found true = refl
 by_row found false = no_rows_more found
 
-by_label : (found : LastLabel) (i : Instruction) (o : Option ℕ) → label_or_row o i found ≡ passed_by (passing_by i o) found
+by_label : (found : LastLabel) (i : Instruction) (o : Option ℕ) → label_or_row o i found ≡ passed_by (label_or_rows_by i o) found
 by_label found i (Some n) = refl
 by_label found i None = by_row found (is_row i)
 
-one_label : (found : LastLabel) (o : Option Instruction) → last_label found (one_of o) ≡ passed_by (passing_at o) found
+one_label : (found : LastLabel) (o : Option Instruction) → last_label found (one_of o) ≡ passed_by (label_or_rows_at o) found
 one_label found None = no_rows_more found
 one_label found (Some i) = by_label found i (label_of i)
 
-pub label_before : (found : LastLabel) (at : ℕ) (code : List Instruction) → last_label found (take (at + 1) code) ≡ passed_by (passing_at (slice_get code at)) (last_label found (take at code))
+pub label_before : (found : LastLabel) (at : ℕ) (code : List Instruction) → last_label found (take (at + 1) code) ≡ passed_by (label_or_rows_at (slice_get code at)) (last_label found (take at code))
 label_before found at code =
     ap (last_label found) (take_one at code)
     ∙ (labels_after found (take at code) (one_of (slice_get code at)) ∙ one_label (last_label found (take at code)) (slice_get code at))
 
 -- the instruction at the position is a label
-pub label_found : (rows left n : ℕ) (code : List Instruction) → passing_at (slice_get code left) ≡ Label n
+pub label_found : (rows left n : ℕ) (code : List Instruction) → label_or_rows_at (slice_get code left) ≡ Label n
     → with_rows rows (last_label none_passed (take (left + 1) code)) ≡ record { label = n; rows = rows }
 label_found rows left n code e =
     let none : 0 + rows ≡ rows = omega arith in
-    ap (with_rows rows) (label_before none_passed left code ∙ ap (λ (x : Passing). passed_by x (last_label none_passed (take left code))) e)
+    ap (with_rows rows) (label_before none_passed left code ∙ ap (λ (x : LabelOrRows). passed_by x (last_label none_passed (take left code))) e)
     ∙ ap (λ (k : ℕ). record { label = n; rows = k }) none
 
 -- the instruction at the position is a row, or neither a row nor a label
-pub rows_found : (rows left n : ℕ) (code : List Instruction) → passing_at (slice_get code left) ≡ Rows n
+pub rows_found : (rows left n : ℕ) (code : List Instruction) → label_or_rows_at (slice_get code left) ≡ Rows n
     → with_rows rows (last_label none_passed (take (left + 1) code)) ≡ with_rows (rows + n) (last_label none_passed (take left code))
 rows_found rows left n code e =
     let p : LastLabel = last_label none_passed (take left code) in
     let more : (p.rows + n) + rows ≡ p.rows + (rows + n) = omega arith in
-    ap (with_rows rows) (label_before none_passed left code ∙ ap (λ (x : Passing). passed_by x p) e)
+    ap (with_rows rows) (label_before none_passed left code ∙ ap (λ (x : LabelOrRows). passed_by x p) e)
     ∙ ap (λ (k : ℕ). record p { rows = k }) more
 
 take_none : (code : List Instruction) → take 0 code ≡ []

@@ -31,12 +31,12 @@ use Rattle.beam_machine.specs.Process.{Process, is_ended, is_waiting, started, o
 use Rattle.beam_machine.specs.Row.{Outcome, makes, sends, asks, sleeps, outcome, own_number, arguments_of, goes_on}
 use Rattle.beam_machine.specs.State.{State, process_of, with_process, live_process, registered, receiver_of, posted_to, posted, with_signals, downs, hearing_by, with_made}
 use Rattle.beam_machine.specs.Touch.{Touch, code, Touches, stays, in_turn, loads, deletes, ends, purges}
-use Rattle.beam_laws.specs.Private.{heard}
+use Rattle.beam_laws.specs.Private.{downs_of_end}
 use Rattle.beam_laws.proofs.Ending.{is_there, alive_is, at_index}
 use Rattle.beam_laws.proofs.Hearing.{as_before, hears, hearing_is}
 use Rattle.beam_laws.proofs.Lookups.{left_false, right_false}
 use Rattle.beam_debug.specs.Halt.{steps_in}
-use Rattle.beam_debug.specs.Room.{is_at_row, has_begun, BeginBelow}
+use Rattle.beam_debug.specs.Capacity.{is_at_row, has_begun, BeginBelow}
 use Rattle.beam_laws.proofs.Touching.{next_touches}
 
 -- ---- lists that are changed
@@ -103,15 +103,15 @@ killing_fresh test pids p h =
     let signals : List Signal = flat_map (λ pid. downs pid killed p.monitors) pids in
     elim (test p) as (λ b. has_begun (cond b (ended p killed nil_term) (with_signals signals p)) ≡ false) [ true ↦ refl | false ↦ hearing_fresh signals p h ]
 
-module _ (room : ℕ) where
+module _ (capacity : ℕ) where
   abbrev Below : List Process → Type 0
-  Below ps = BeginBelow room ps
+  Below ps = BeginBelow capacity ps
 
-  set_below : (ps : List Process) (i : ℕ) (q : Process) → Below ps → (room ≤ i + 1 → has_begun q ≡ false) → Below (slice_set ps i q)
+  set_below : (ps : List Process) (i : ℕ) (q : Process) → Below ps → (capacity ≤ i + 1 → has_begun q ≡ false) → Below (slice_set ps i q)
   set_below ps i q h new j r e more =
       got ps i j q r e
       (λ same is.
-      let within : room ≤ i + 1 = omega (arith, same, more) in
+      let within : capacity ≤ i + 1 = omega (arith, same, more) in
       subst (λ x. has_begun x ≡ false) is (new within))
       (λ old. h j r old more)
 
@@ -122,7 +122,7 @@ module _ (room : ℕ) where
   map_below f ps keeps h i q e more =
       mapped f (slice_get ps i) q (sym (slice_get-map f ps i) ∙ e) (λ p old is. subst (λ x. has_begun x ≡ false) is (keeps p (h i p old more)))
 
-  live_below : (ps : List Process) (pid : ℕ) (p : Process) → live_process ps pid ≡ Some p → Below ps → room ≤ (pid - 1) + 1 → has_begun p ≡ false
+  live_below : (ps : List Process) (pid : ℕ) (p : Process) → live_process ps pid ≡ Some p → Below ps → capacity ≤ (pid - 1) + 1 → has_begun p ≡ false
   live_below ps pid p e h more =
       let a = alive_is (process_of ps pid) p e in
       h (pid - 1) p (at_index ps pid p a.0) more
@@ -134,7 +134,7 @@ module _ (room : ℕ) where
   -- ---- ends
 
   hearing_below : (pid : ℕ) (status : Status) (ps : List Process) → Below ps → Below (hearing_by pid status ps)
-  hearing_below pid status ps h = subst Below (sym (hearing_is pid status ps)) (map_below (hears pid status) ps (λ q fresh. hearing_fresh (heard pid status q) q fresh) h)
+  hearing_below pid status ps h = subst Below (sym (hearing_is pid status ps)) (map_below (hears pid status) ps (λ q fresh. hearing_fresh (downs_of_end pid status q) q fresh) h)
 
   made_below : (ps : List Process) (pid : ℕ) (q : Process) → Below (with_process ps pid q) → Below (with_made ps pid q)
   made_below ps pid q h = hearing_below pid q.status (with_process ps pid q) h
@@ -223,7 +223,7 @@ module _ (room : ℕ) where
 
   -- ---- rows of a process below
 
-  module _ (pid : ℕ) (own : (pid - 1) + 1 < room) where
+  module _ (pid : ℕ) (own : (pid - 1) + 1 < capacity) where
     put_below : (ps : List Process) (q : Process) → Below ps → Below (with_process ps pid q)
     put_below ps q h = set_below ps (pid - 1) q h (λ more. absurd (omega (arith, own, more)))
 
@@ -282,7 +282,7 @@ module _ (room : ℕ) where
       (set_below s.processes (pid - 1) q h
       (λ more. delivered_fresh (record p { transit = [] }) p.transit (live_below s.processes pid p e h more))))
 
-  timed_by : (s : State) (pid : ℕ) (q : Process) (b : Bool) → (b ≡ true → room ≤ (pid - 1) + 1 → has_begun q ≡ false) → Below s.processes
+  timed_by : (s : State) (pid : ℕ) (q : Process) (b : Bool) → (b ≡ true → capacity ≤ (pid - 1) + 1 → has_begun q ≡ false) → Below s.processes
       → Below (cond {A = Next} b (replied (record s { processes = with_process s.processes pid q }) Done) (refused s NotReady)).state.processes
   timed_by s pid q true fresh h = set_below s.processes (pid - 1) q h (fresh refl)
   timed_by s pid q false fresh h = h

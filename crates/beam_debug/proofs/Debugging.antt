@@ -27,7 +27,7 @@ use Rattle.beam_machine.specs.DebugRun.{debug_cut_event, DebugAnswers}
 use Rattle.beam_debug.specs.Settled.{Settled}
 use Rattle.beam_core.specs.Halt.{HaltsAt}
 use Rattle.beam_debug.specs.Halt.{then_at, steps_in, RowIs}
-use Rattle.beam_debug.proofs.Answered.{standing}
+use Rattle.beam_debug.proofs.RowsToSpot.{standing}
 
 -- ---- what is live
 

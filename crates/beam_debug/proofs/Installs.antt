@@ -130,8 +130,8 @@ pub replies_with : (x : DebugNext) (reply : DebugReply View) (t : State) (spots 
     → x ≡ replies (record { node = t; spots = spots; held = held; passing = passing }) reply → holds ≡ held → passes ≡ passing
     → new ≡ pruned (record { node = t; spots = spots; held = holds; passing = passes }) → x ≡ record { answer = Ok reply; state = new }
 replies_with x reply t spots held passing holds passes new e h p is =
-    let marks : new ≡ pruned (record { node = t; spots = spots; held = held; passing = passing }) =
+    let debug : new ≡ pruned (record { node = t; spots = spots; held = held; passing = passing }) =
     is
     ∙ (ap (λ (ns : List ℕ). pruned (record { node = t; spots = spots; held = ns; passing = passes })) h
     ∙ ap (λ (ns : List ℕ). pruned (record { node = t; spots = spots; held = held; passing = ns })) p) in
-    e ∙ ap (λ (d : Debugged). record { answer = Ok reply; state = d }) (sym marks)
+    e ∙ ap (λ (d : Debugged). record { answer = Ok reply; state = d }) (sym debug)

@@ -15,7 +15,7 @@ use Rattle.beam_machine.specs.Next.{Answer, Rows, next, steps}
 use Rattle.beam_machine.specs.Debug.{Debugged, DebugAnswer, DebugNext, Halting, halting, is_among, with_pid, without_pid, with_spot, without_spot, after_rows, answered, of_node, halted, debug_steps, stepped, debug_step_one, debug_resume, debug_set, debug_clear, debug_inspect, place_named, debug_next}
 use Rattle.beam_machine.specs.DebugRun.{debug_cut_event, DebugAnswers}
 use Rattle.beam_debug.specs.declared.outcome.Outcome.{Outcome}
-use Rattle.beam_debug.specs.Answers.{said}
+use Rattle.beam_debug.specs.Answers.{reply_of}
 use Rattle.beam_debug.specs.Settled.{Settled}
 use Rattle.beam_debug.proofs.Debugging.{settles}
 
@@ -85,6 +85,6 @@ answers_settled d new e a h k = next_is d new (debug_cut_event e a) a h k
 
 -- rows took effect as an event, or nothing changed
 pub installed_settled : (d new : Debugged) (e : DebugEvent Listing) (result : Result Outcome Refused)
-    → IfOk result (λ outcome. debug_next d e ≡ record { answer = Ok (said outcome); state = new }) → OnErr result (new ≡ d) → Settled d → Settled new
-installed_settled d new e (Ok outcome) next err k = next_is d new e (Ok (said outcome)) next k
+    → IfOk result (λ outcome. debug_next d e ≡ record { answer = Ok (reply_of outcome); state = new }) → OnErr result (new ≡ d) → Settled d → Settled new
+installed_settled d new e (Ok outcome) next err k = next_is d new e (Ok (reply_of outcome)) next k
 installed_settled d new e (Err refused) next err k = subst Settled (sym err) k

@@ -14,29 +14,29 @@ use Rattle.beam_debug.specs.declared.view.View.{View as TheView}
 use Rattle.beam_debug.specs.Seen.{seen}
 
 -- an answer, as a reply of the definitions
-abbrev pub said : Outcome → DebugReply View
-said (NodeOutcome reply) = Node reply
-said (HeldOutcome count) = Held count
-said (ViewedOutcome view) = Viewed view
+abbrev pub reply_of : Outcome → DebugReply View
+reply_of (NodeOutcome reply) = Node reply
+reply_of (HeldOutcome count) = Held count
+reply_of (ViewedOutcome view) = Viewed view
 
 abbrev pub answer_of : Result Outcome Refused → DebugAnswer
-answer_of (Ok outcome) = Ok (said outcome)
+answer_of (Ok outcome) = Ok (reply_of outcome)
 answer_of (Err refusal) = Err refusal
 
 -- the answer of a change of the break spots
-abbrev pub changed : Result Bool Refused → DebugAnswer
-changed (Ok is_new) = Ok (Node (Changed is_new))
-changed (Err refusal) = Err refusal
+abbrev pub change_answer : Result Bool Refused → DebugAnswer
+change_answer (Ok is_new) = Ok (Node (Changed is_new))
+change_answer (Err refusal) = Err refusal
 
 -- the answer to the resumption of a process
-abbrev pub let_go : Result (Unit {0}) Refused → DebugAnswer
-let_go (Ok done) = Ok (Node Done)
-let_go (Err refusal) = Err refusal
+abbrev pub release_answer : Result (Unit {0}) Refused → DebugAnswer
+release_answer (Ok done) = Ok (Node Done)
+release_answer (Err refusal) = Err refusal
 
 -- a view of a process, as a value of the definitions
-abbrev pub sight_of : Result TheView Refused → Result View Refused
-sight_of (Ok view) = Ok (seen view)
-sight_of (Err refusal) = Err refusal
+abbrev pub inspect_answer : Result TheView Refused → Result View Refused
+inspect_answer (Ok view) = Ok (seen view)
+inspect_answer (Err refusal) = Err refusal
 
 -- the answer to an inspection: the view of the process; or no process of that number was started; or memory was refused
 abbrev pub Inspected : Debugged → ℕ → Result View Refused → Type 0

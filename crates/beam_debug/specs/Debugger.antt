@@ -5,18 +5,18 @@ use Rattle.beam_machine.specs.Debug.{Debugged, erase}
 use Rattle.beam_machine.specs.Run.{run}
 use Rattle.beam_machine.specs.State.{State}
 use Rattle.beam_model.specs.Listing.{Listing}
-use Rattle.beam_debug.specs.declared.marks.Marks.{Marks}
-use Rattle.beam_debug.specs.Marks.{debugged}
+use Rattle.beam_debug.specs.declared.debug_state.DebugState.{DebugState}
+use Rattle.beam_debug.specs.DebuggedNode.{debugged}
 
 pub record Debugger : Type 0 where
   pub state : Debugged
-  pub room : ℕ  -- the processes with numbers below it can be held without memory
+  pub capacity : ℕ  -- the processes with numbers below it can be held without memory
 
-abbrev pub room_of : Marks → ℕ
-room_of m = vec_capacity m.held
+abbrev pub capacity_of : DebugState → ℕ
+capacity_of m = vec_capacity m.held
 
-abbrev pub debugger_of : State → Marks → Debugger
-debugger_of s m = record { state = debugged s m; room = room_of m }
+abbrev pub debugger_of : State → DebugState → Debugger
+debugger_of s m = record { state = debugged s m; capacity = capacity_of m }
 
 -- the node after these events, without the debugger's among them
 abbrev pub node_alone : Debugged → List (DebugEvent Listing) → State

@@ -19,4 +19,4 @@ pub record AreSlices (d : Debugged) (pid : ℕ) (rows : Private) : Type 0 where
 
 -- rows that take effect without memory, where the processes with numbers below `room` can be held without memory
 abbrev pub IsQuietSlice : ℕ → Private → ℕ → Type 0
-IsQuietSlice pid rows room = AreQuiet rows × (pid < room)
+IsQuietSlice pid rows capacity = AreQuiet rows × (pid < capacity)

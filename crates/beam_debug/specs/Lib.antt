@@ -1,12 +1,12 @@
 pub mod Answers
 pub mod Debugger
 pub mod Each
-pub mod Gap
+pub mod InsertPosition
 pub mod Halt
 pub mod Installing
 pub mod Loud
-pub mod Marks
-pub mod Passing
-pub mod Room
+pub mod DebuggedNode
+pub mod LabelOrRows
+pub mod Capacity
 pub mod Seen
 pub mod Settled

@@ -4,7 +4,7 @@ use Rattle.beam_machine.specs.declared.process.Slot.{Slot}
 use Rattle.beam_machine.specs.Code.{Code}
 use Rattle.beam_machine.specs.Process.{Process}
 use Rattle.beam_machine.specs.View.{Location, NextView, at_row, entry, nowhere, FrameView, LiveView, View, live, over, frame_view, instruction_in, next_of, back_text, register_text, slot_text, ys_text}
-use Rattle.beam_debug.specs.declared.view.Standing.{Standing as TheStanding}
+use Rattle.beam_debug.specs.declared.view.Location.{Location as TheStanding}
 use Rattle.beam_debug.specs.declared.view.Next.{Next as TheNext}
 use Rattle.beam_debug.specs.declared.view.Next.TheVariants.{Row, Entry, Nothing}
 use Rattle.beam_debug.specs.declared.view.FrameView.{FrameView as TheFrameView}
@@ -12,16 +12,16 @@ use Rattle.beam_debug.specs.declared.view.LiveView.{LiveView as TheLiveView}
 use Rattle.beam_debug.specs.declared.view.View.{View as TheView}
 use Rattle.beam_debug.specs.declared.view.View.TheVariants.{Live, Over}
 
-abbrev pub standing_seen : TheStanding → Location
-standing_seen s = record { function = s.function; label = s.label; rows = s.rows; instance = s.instance }
+abbrev pub location_seen : TheStanding → Location
+location_seen s = record { function = s.function; label = s.label; rows = s.rows; instance = s.instance }
 
 abbrev pub next_seen : TheNext → NextView
-next_seen (Row r) = at_row (standing_seen r.standing) (instruction_in r.image r.at)
+next_seen (Row r) = at_row (location_seen r.location) (instruction_in r.image r.at)
 next_seen (Entry function) = entry function
 next_seen Nothing = nowhere
 
 abbrev pub frame_seen : TheFrameView → FrameView
-frame_seen f = record { back = option_map standing_seen f.back; y = f.y.items }
+frame_seen f = record { back = option_map location_seen f.back; y = f.y.items }
 
 abbrev pub live_seen : TheLiveView → LiveView
 live_seen v = record {

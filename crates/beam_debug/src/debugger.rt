@@ -7,24 +7,24 @@ ghost use Rattle.beam_machine.specs.Change.{is_live};
 ghost use Rattle.beam_machine.specs.Debug.{debug_next, debug_run, is_among, is_live_process, undisturbed};
 ghost use Rattle.beam_machine.specs.State.{empty, process_of};
 ghost use Rattle.beam_laws.specs.Slice.{rows_of_event};
-ghost use Rattle.beam_debug.specs.Answers.{Inspected, answer_of, changed, let_go, said, sight_of};
-ghost use Rattle.beam_debug.specs.Debugger.{node_alone, room_of};
+ghost use Rattle.beam_debug.specs.Answers.{Inspected, answer_of, change_answer, release_answer, reply_of, inspect_answer};
+ghost use Rattle.beam_debug.specs.Debugger.{node_alone, capacity_of};
 ghost use Rattle.beam_debug.specs.Each.{Each, LacksMemory};
 ghost use Rattle.beam_debug.specs.Halt.{steps_in};
 ghost use Rattle.beam_debug.specs.Installing.{AreSlices, IsQuietSlice};
 ghost use Rattle.beam_debug.specs.Loud.{DebugLoudly};
-ghost use Rattle.beam_debug.specs.Marks.{debugged};
-ghost use Rattle.beam_debug.specs.Room.{HasRoom, RoomFor};
+ghost use Rattle.beam_debug.specs.DebuggedNode.{debugged};
+ghost use Rattle.beam_debug.specs.Capacity.{HasCapacity, CapacityFor};
 ghost use Rattle.beam_machine.specs.DebugRun.{DebugAnswers, DebugLacksMemory, effective_debug_events, effective_debug_answers};
 
 use crate::commands;
+use crate::debug_state::{DebugState, make_room, settle};
 use crate::inspect::view;
 use crate::installing::install;
-use crate::marks::{Marks, make_room, settle};
 use crate::numbers::is_among;
 use crate::outcome::Outcome;
 use crate::steps::{step_one, steps};
-use crate::view::{Shown, View};
+use crate::view::{RenderedView, View};
 use beam_codesrv::CodeTable;
 use beam_core::node::Core;
 use beam_image::Image;
@@ -40,7 +40,7 @@ use std::marker::Model;
 pub struct Debugger {
     alloc: Global,
     core: Core,
-    marks: Marks,
+    debug: DebugState,
 }
 
 impl Drop for Debugger {
@@ -48,7 +48,7 @@ impl Drop for Debugger {
         let Debugger {
             alloc: _alloc,
             core: _core,
-            marks: _marks,
+            debug: _debug,
         } = self;
     }
 }
@@ -56,34 +56,38 @@ impl Drop for Debugger {
 impl Model for Debugger {
     ghost use Rattle.std.specs.Coded.{codes};
     ghost use Rattle.beam_term.specs.Coding.{term_code};
-    ghost use Rattle.beam_debug.specs.Debugger.{Debugger as TheDebugger, debugger_of, room_of};
-    ghost use Rattle.beam_debug.specs.Marks.{debugged};
-    ghost use Rattle.beam_debug.specs.Room.{HasRoom};
+    ghost use Rattle.beam_debug.specs.Debugger.{Debugger as TheDebugger, debugger_of, capacity_of};
+    ghost use Rattle.beam_debug.specs.DebuggedNode.{debugged};
+    ghost use Rattle.beam_debug.specs.Capacity.{HasCapacity};
     ghost use Rattle.beam_debug.specs.Settled.{Settled};
 
     ghost Value = { TheDebugger };
 
     ghost coded = { Prim.hlevel (codes, term_code) };
 
-    ghost view = { λ d. debugger_of d.core d.marks };
+    ghost view = { λ d. debugger_of d.core d.debug };
 
     // Break spots lie in instances that are current or old, and processes that are held or may pass a break spot haven't ended. Each
     // process that has begun can be held without memory.
-    ghost invariant = { λ d. Settled (debugged d.core d.marks) × HasRoom (debugged d.core d.marks) (room_of d.marks) };
+    ghost invariant = { λ d. Settled (debugged d.core d.debug) × HasCapacity (debugged d.core d.debug) (capacity_of d.debug) };
 }
 
 /// Applies an event of the node that runs no rows.
-fn other_event(core: &mut Core, marks: &mut Marks, event: &Event<Image>) -> Result<Outcome, Refused>
+fn other_event(
+    core: &mut Core,
+    debug: &mut DebugState,
+    event: &Event<Image>,
+) -> Result<Outcome, Refused>
     requires { steps_in event.now ≡ None }
-    ensures next { DebugAnswers (debugged core.old marks.old) (DebugEvent.Node event.now) (answer_of result) (debugged core.new marks.new) }
-    ensures memory { DebugLacksMemory (debugged core.old marks.old) (DebugEvent.Node event.now) (answer_of result) }
-    ensures loud { DebugLoudly (debugged core.old marks.old) (DebugEvent.Node event.now) (answer_of result) (debugged core.new marks.new) }
-    ensures room { room_of marks.new ≡ room_of marks.old }
-    ensures begun { OnOk result (RoomFor (room_of marks.new) (DebugEvent.Node event.now)) }
+    ensures next { DebugAnswers (debugged core.old debug.old) (DebugEvent.Node event.now) (answer_of result) (debugged core.new debug.new) }
+    ensures memory { DebugLacksMemory (debugged core.old debug.old) (DebugEvent.Node event.now) (answer_of result) }
+    ensures loud { DebugLoudly (debugged core.old debug.old) (DebugEvent.Node event.now) (answer_of result) (debugged core.new debug.new) }
+    ensures capacity { capacity_of debug.new ≡ capacity_of debug.old }
+    ensures begun { OnOk result (CapacityFor (capacity_of debug.new) (DebugEvent.Node event.now)) }
 {
     match core.apply(event) {
         Ok(reply) => {
-            settle(core, marks);
+            settle(core, debug);
             Ok(Outcome::Node(reply))
         }
         Err(refused) => Err(refused),
@@ -91,71 +95,75 @@ fn other_event(core: &mut Core, marks: &mut Marks, event: &Event<Image>) -> Resu
 }
 
 /// Applies an event of the node.
-fn node_event(core: &mut Core, marks: &mut Marks, event: &Event<Image>) -> Result<Outcome, Refused>
-    requires room { HasRoom (debugged core.old marks.old) (room_of marks.old) }
-    ensures next { DebugAnswers (debugged core.old marks.old) (DebugEvent.Node event.now) (answer_of result) (debugged core.new marks.new) }
-    ensures memory { DebugLacksMemory (debugged core.old marks.old) (DebugEvent.Node event.now) (answer_of result) }
-    ensures loud { DebugLoudly (debugged core.old marks.old) (DebugEvent.Node event.now) (answer_of result) (debugged core.new marks.new) }
-    ensures room { room_of marks.old ≤ room_of marks.new }
-    ensures begun { OnOk result (RoomFor (room_of marks.new) (DebugEvent.Node event.now)) }
+fn node_event(
+    core: &mut Core,
+    debug: &mut DebugState,
+    event: &Event<Image>,
+) -> Result<Outcome, Refused>
+    requires capacity { HasCapacity (debugged core.old debug.old) (capacity_of debug.old) }
+    ensures next { DebugAnswers (debugged core.old debug.old) (DebugEvent.Node event.now) (answer_of result) (debugged core.new debug.new) }
+    ensures memory { DebugLacksMemory (debugged core.old debug.old) (DebugEvent.Node event.now) (answer_of result) }
+    ensures loud { DebugLoudly (debugged core.old debug.old) (DebugEvent.Node event.now) (answer_of result) (debugged core.new debug.new) }
+    ensures capacity { capacity_of debug.old ≤ capacity_of debug.new }
+    ensures begun { OnOk result (CapacityFor (capacity_of debug.new) (DebugEvent.Node event.now)) }
 {
     match event {
-        Event::Steps { pid, rows } => steps(core, marks, *pid, *rows),
-        _ => other_event(core, marks, event),
+        Event::Steps { pid, rows } => steps(core, debug, *pid, *rows),
+        _ => other_event(core, debug, event),
     }
 }
 
 /// The view of a process, also of one that has ended.
-fn inspect(alloc: Global, core: &Core, marks: &Marks, pid: u32) -> Result<View, Refused>
-    ensures { Inspected (debugged core.now marks.now) pid (sight_of result) }
+fn inspect(alloc: Global, core: &Core, debug: &DebugState, pid: u32) -> Result<View, Refused>
+    ensures { Inspected (debugged core.now debug.now) pid (inspect_answer result) }
 {
     let Some(process) = core.process(pid) else {
         return Err(Refused::NoProcess);
     };
-    let held = is_among(pid, &marks.held);
+    let held = is_among(pid, &debug.held);
     Ok(view(alloc, core.table(), held, process)?)
 }
 
 /// The view of a process, also of one that has ended, and its text.
-fn show(alloc: Global, core: &Core, marks: &Marks, pid: u32) -> Result<Shown, Refused>
-    ensures { Inspected (debugged core.now marks.now) pid result }
+fn show(alloc: Global, core: &Core, debug: &DebugState, pid: u32) -> Result<RenderedView, Refused>
+    ensures { Inspected (debugged core.now debug.now) pid result }
 {
-    let view = inspect(alloc, core, marks, pid)?;
-    Ok(Shown::new(alloc, view)?)
+    let view = inspect(alloc, core, debug, pid)?;
+    Ok(RenderedView::new(alloc, view)?)
 }
 
 /// Applies one event.
 fn apply(
     alloc: Global,
     core: &mut Core,
-    marks: &mut Marks,
+    debug: &mut DebugState,
     event: &DebugEvent<Image>,
 ) -> Result<Outcome, Refused>
-    requires room { HasRoom (debugged core.old marks.old) (room_of marks.old) }
-    ensures next { DebugAnswers (debugged core.old marks.old) event.now (answer_of result) (debugged core.new marks.new) }
-    ensures memory { DebugLacksMemory (debugged core.old marks.old) event.now (answer_of result) }
-    ensures loud { DebugLoudly (debugged core.old marks.old) event.now (answer_of result) (debugged core.new marks.new) }
-    ensures room { room_of marks.old ≤ room_of marks.new }
-    ensures begun { OnOk result (RoomFor (room_of marks.new) event.now) }
+    requires capacity { HasCapacity (debugged core.old debug.old) (capacity_of debug.old) }
+    ensures next { DebugAnswers (debugged core.old debug.old) event.now (answer_of result) (debugged core.new debug.new) }
+    ensures memory { DebugLacksMemory (debugged core.old debug.old) event.now (answer_of result) }
+    ensures loud { DebugLoudly (debugged core.old debug.old) event.now (answer_of result) (debugged core.new debug.new) }
+    ensures capacity { capacity_of debug.old ≤ capacity_of debug.new }
+    ensures begun { OnOk result (CapacityFor (capacity_of debug.new) event.now) }
 {
     match event {
-        DebugEvent::Node(event) => node_event(core, marks, event),
+        DebugEvent::Node(event) => node_event(core, debug, event),
         DebugEvent::SetBreak(spot) => {
-            let is_new = commands::set_break(core, marks, spot)?;
+            let is_new = commands::set_break(core, debug, spot)?;
             Ok(Outcome::Node(Reply::Changed(is_new)))
         }
         DebugEvent::ClearBreak(spot) => {
-            let was_set = commands::clear_break(core, marks, spot)?;
+            let was_set = commands::clear_break(core, debug, spot)?;
             Ok(Outcome::Node(Reply::Changed(was_set)))
         }
         DebugEvent::Resume { pid } => {
-            commands::resume(core, marks, *pid)?;
+            commands::resume(core, debug, *pid)?;
             Ok(Outcome::Node(Reply::Done))
         }
-        DebugEvent::StepOne { pid } => step_one(core, marks, *pid),
+        DebugEvent::StepOne { pid } => step_one(core, debug, *pid),
         DebugEvent::Inspect { pid } => {
-            let shown = show(alloc, core, marks, *pid)?;
-            settle(core, marks);
+            let shown = show(alloc, core, debug, *pid)?;
+            settle(core, debug);
             Ok(Outcome::Viewed(shown))
         }
     }
@@ -163,14 +171,14 @@ fn apply(
 
 impl Debugger {
     /// A node with no code and no processes, and no break spots. It takes no memory.
-    #[tactic(auto, using(crate::proofs::Rooms::none_held))]
+    #[tactic(auto, using(crate::proofs::Capacities::none_held))]
     pub fn new(alloc: Global) -> Debugger
-        ensures { result ≡ record { state = undisturbed empty; room = 0 } }
+        ensures { result ≡ record { state = undisturbed empty; capacity = 0 } }
     {
         Debugger {
             alloc,
             core: Core::new(alloc),
-            marks: Marks {
+            debug: DebugState {
                 spots: Vec::new(alloc),
                 held: Vec::new(alloc),
                 passing: Vec::new(alloc),
@@ -180,23 +188,23 @@ impl Debugger {
 
     /// In every state each break spot lies in an instance that is current or old, and no process that is held, or that may pass a
     /// break spot, has ended.
-    pub fn stands(&self)
+    pub fn recall_invariant(&self)
         ensures spots { AllByRecursion (λ (spot : ThePlace). is_live self.now.state.node.code spot.instance ≡ true) self.now.state.spots }
         ensures held { AllByRecursion (λ (pid : ℕ). is_live_process self.now.state.node pid ≡ true) self.now.state.held }
         ensures passing { AllByRecursion (λ (pid : ℕ). is_live_process self.now.state.node pid ≡ true) self.now.state.passing }
     {
-        let _marks = &self.marks;
+        let _debug = &self.debug;
     }
 
     /// Makes room to hold the process of that number, and those below it, so that holding one takes no memory then. If memory is refused
     /// nothing changes.
     pub fn reserve(&mut self, pid: u32) -> Result<(), AllocError>
         ensures state { self.new.state ≡ self.old.state }
-        ensures room { OnOk result (pid < self.new.room) }
-        ensures kept { self.old.room ≤ self.new.room }
+        ensures capacity { OnOk result (pid < self.new.capacity) }
+        ensures kept { self.old.capacity ≤ self.new.capacity }
         ensures err { OnErr result (self.new ≡ self.old) }
     {
-        make_room(pid, &mut self.marks.held)
+        make_room(pid, &mut self.debug.held)
     }
 
     /// The node.
@@ -224,21 +232,21 @@ impl Debugger {
     pub fn spots(&self) -> &[Place]
         ensures { result.now ≡ self.now.state.spots }
     {
-        &self.marks.spots
+        &self.debug.spots
     }
 
     /// Whether a process is held.
     pub fn is_held(&self, pid: u32) -> bool
         ensures { result ≡ is_among pid self.now.state.held }
     {
-        is_among(pid, &self.marks.held)
+        is_among(pid, &self.debug.held)
     }
 
     /// Whether a process may pass a break spot as its next row.
     pub fn passes(&self, pid: u32) -> bool
         ensures { result ≡ is_among pid self.now.state.passing }
     {
-        is_among(pid, &self.marks.passing)
+        is_among(pid, &self.debug.passing)
     }
 
     /// Applies one event, as the definition of `debug_next` says. Where memory is refused in the middle of `Steps`, the reply says how many
@@ -247,9 +255,9 @@ impl Debugger {
         ensures next { DebugAnswers self.old.state event.now (answer_of result) self.new.state }
         ensures memory { DebugLacksMemory self.old.state event.now (answer_of result) }
         ensures loud { DebugLoudly self.old.state event.now (answer_of result) self.new.state }
-        ensures room { self.old.room ≤ self.new.room }
+        ensures capacity { self.old.capacity ≤ self.new.capacity }
     {
-        apply(self.alloc, &mut self.core, &mut self.marks, event)
+        apply(self.alloc, &mut self.core, &mut self.debug, event)
     }
 
     /// Applies one event of the node, as the definition of `debug_next` says. Where memory is refused in the middle of `Steps`, the reply
@@ -258,39 +266,39 @@ impl Debugger {
         ensures next { DebugAnswers self.old.state (DebugEvent.Node event.now) (answer_of result) self.new.state }
         ensures memory { DebugLacksMemory self.old.state (DebugEvent.Node event.now) (answer_of result) }
         ensures loud { DebugLoudly self.old.state (DebugEvent.Node event.now) (answer_of result) self.new.state }
-        ensures room { self.old.room ≤ self.new.room }
+        ensures capacity { self.old.capacity ≤ self.new.capacity }
     {
-        node_event(&mut self.core, &mut self.marks, event)
+        node_event(&mut self.core, &mut self.debug, event)
     }
 
     /// Sets a break spot: processes stop before the row that it names from now on. Tells whether it is new. `BadSpot` where it names no
     /// row.
     pub fn set_break(&mut self, spot: &Spot) -> Result<bool, Refused>
-        ensures next { DebugAnswers self.old.state (DebugEvent.SetBreak spot.now) (changed result) self.new.state }
-        ensures memory { DebugLacksMemory self.old.state (DebugEvent.SetBreak spot.now) (changed result) }
-        ensures room { self.old.room ≤ self.new.room }
+        ensures next { DebugAnswers self.old.state (DebugEvent.SetBreak spot.now) (change_answer result) self.new.state }
+        ensures memory { DebugLacksMemory self.old.state (DebugEvent.SetBreak spot.now) (change_answer result) }
+        ensures capacity { self.old.capacity ≤ self.new.capacity }
     {
-        commands::set_break(&self.core, &mut self.marks, spot)
+        commands::set_break(&self.core, &mut self.debug, spot)
     }
 
     /// Clears a break spot: processes stop before that row no longer. Tells whether one was set. `BadSpot` where it names no row. Processes
     /// that are held there stay held.
     pub fn clear_break(&mut self, spot: &Spot) -> Result<bool, Refused>
-        ensures next { DebugAnswers self.old.state (DebugEvent.ClearBreak spot.now) (changed result) self.new.state }
-        ensures memory { DebugLacksMemory self.old.state (DebugEvent.ClearBreak spot.now) (changed result) }
-        ensures room { self.old.room ≤ self.new.room }
+        ensures next { DebugAnswers self.old.state (DebugEvent.ClearBreak spot.now) (change_answer result) self.new.state }
+        ensures memory { DebugLacksMemory self.old.state (DebugEvent.ClearBreak spot.now) (change_answer result) }
+        ensures capacity { self.old.capacity ≤ self.new.capacity }
     {
-        commands::clear_break(&self.core, &mut self.marks, spot)
+        commands::clear_break(&self.core, &mut self.debug, spot)
     }
 
     /// Resumes a held process, which may pass the row before which it stopped. `NoProcess` where it was never started or has ended, then
     /// `NotReady` where it isn't held.
     pub fn resume(&mut self, pid: u32) -> Result<(), Refused>
-        ensures next { DebugAnswers self.old.state (DebugEvent.Resume pid) (let_go result) self.new.state }
-        ensures memory { DebugLacksMemory self.old.state (DebugEvent.Resume pid) (let_go result) }
-        ensures room { self.old.room ≤ self.new.room }
+        ensures next { DebugAnswers self.old.state (DebugEvent.Resume pid) (release_answer result) self.new.state }
+        ensures memory { DebugLacksMemory self.old.state (DebugEvent.Resume pid) (release_answer result) }
+        ensures capacity { self.old.capacity ≤ self.new.capacity }
     {
-        commands::resume(&self.core, &mut self.marks, pid)
+        commands::resume(&self.core, &mut self.debug, pid)
     }
 
     /// A held process runs one row, also that of a break spot, and stays held unless it has ended. `NoProcess` where it was never started
@@ -299,9 +307,9 @@ impl Debugger {
         ensures next { DebugAnswers self.old.state (DebugEvent.StepOne pid) (answer_of result) self.new.state }
         ensures memory { DebugLacksMemory self.old.state (DebugEvent.StepOne pid) (answer_of result) }
         ensures loud { DebugLoudly self.old.state (DebugEvent.StepOne pid) (answer_of result) self.new.state }
-        ensures room { self.old.room ≤ self.new.room }
+        ensures capacity { self.old.capacity ≤ self.new.capacity }
     {
-        step_one(&mut self.core, &mut self.marks, pid)
+        step_one(&mut self.core, &mut self.debug, pid)
     }
 
     /// Rows of a process that were executed apart from the node take effect, so that they aren't run again. They must be those of a slice
@@ -313,20 +321,20 @@ impl Debugger {
         requires rows { AreSlices self.old.state pid rows }
         requires few { rows.count + 1 < 2 ^ 32 }
         ensures next { IfOk result (λ outcome. debug_next self.old.state (DebugEvent.Node (Event.Steps pid (rows_of_event rows)))
-            ≡ record { answer = Ok (said outcome); state = self.new.state }) }
+            ≡ record { answer = Ok (reply_of outcome); state = self.new.state }) }
         ensures err { OnErr result (self.new.state ≡ self.old.state) }
         ensures refused { IfErr result (λ refused. refused ≡ Refused.NoMemory) }
-        ensures quiet { IsQuietSlice pid rows self.old.room → OnErr result ⊥ }
-        ensures room { self.old.room ≤ self.new.room }
+        ensures quiet { IsQuietSlice pid rows self.old.capacity → OnErr result ⊥ }
+        ensures capacity { self.old.capacity ≤ self.new.capacity }
     {
-        install(&mut self.core, &mut self.marks, pid, rows)
+        install(&mut self.core, &mut self.debug, pid, rows)
     }
 
     /// The view of a process, also of one that has ended. `NoProcess` where it was never started.
     pub fn inspect(&self, pid: u32) -> Result<View, Refused>
-        ensures { Inspected self.now.state pid (sight_of result) }
+        ensures { Inspected self.now.state pid (inspect_answer result) }
     {
-        inspect(self.alloc, &self.core, &self.marks, pid)
+        inspect(self.alloc, &self.core, &self.debug, pid)
     }
 
     /// Applies the events one after another, with one answer an event. Where there is no room for the answers, `NoMemory`, and no event is
@@ -342,7 +350,7 @@ impl Debugger {
         ensures each { IfOk result (λ answers. length answers.items ≡ length events.now) }
         ensures loud { IfOk result (λ answers. Each DebugLoudly self.old.state events.now (map answer_of answers.items)) }
         ensures memory { IfOk result (λ answers. Each LacksMemory self.old.state events.now (map answer_of answers.items)) }
-        ensures room { self.old.room ≤ self.new.room }
+        ensures capacity { self.old.capacity ≤ self.new.capacity }
         ensures err { OnErr result (self.new ≡ self.old) }
         ensures refused { IfErr result (λ refused. refused ≡ Refused.NoMemory) }
     {

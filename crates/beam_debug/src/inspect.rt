@@ -2,10 +2,10 @@
 ghost use Rattle.std.specs.Prelude.{◌≡◌, ◌++◌, map, option_map, IfOk};
 ghost use Rattle.beam_machine.specs.Code.{listing_of};
 ghost use Rattle.beam_machine.specs.View.{frame_view, next_of, slots_of, location, view_of};
-ghost use Rattle.beam_debug.specs.Seen.{frame_seen, live_of, live_seen, next_seen, seen, standing_seen};
+ghost use Rattle.beam_debug.specs.Seen.{frame_seen, live_of, live_seen, next_seen, seen, location_seen};
 
-use crate::standing::standing;
-use crate::view::{FrameView, LiveView, Next, Row, Standing, View};
+use crate::location::location;
+use crate::view::{FrameView, LiveView, Location, Next, RowView, View};
 use beam_codesrv::CodeTable;
 use beam_image::Image;
 use beam_machine::process::{Goes, Slots, Status};
@@ -42,8 +42,8 @@ fn next(table: &CodeTable, goes: &Goes) -> Result<Next, AllocError>
     ensures { IfOk result (λ n. next_seen n ≡ next_of table.now goes.now) }
 {
     match goes {
-        Goes::At(place) => Ok(Next::Row(Row {
-            standing: standing(table, *place)?,
+        Goes::At(place) => Ok(Next::Row(RowView {
+            location: location(table, *place)?,
             image: image(table, place.instance())?,
             at: place.at(),
         })),
@@ -57,11 +57,11 @@ fn next(table: &CodeTable, goes: &Goes) -> Result<Next, AllocError>
 }
 
 /// Where a frame returns.
-fn back(table: &CodeTable, place: Option<Place>) -> Result<Option<Standing>, AllocError>
-    ensures { IfOk result (λ s. option_map standing_seen s ≡ option_map (location table.now) place) }
+fn back(table: &CodeTable, place: Option<Place>) -> Result<Option<Location>, AllocError>
+    ensures { IfOk result (λ s. option_map location_seen s ≡ option_map (location table.now) place) }
 {
     match place {
-        Some(place) => Ok(Some(standing(table, place)?)),
+        Some(place) => Ok(Some(location(table, place)?)),
         None => Ok(None),
     }
 }

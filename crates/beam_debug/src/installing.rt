@@ -3,13 +3,13 @@ ghost use Rattle.std.specs.Prelude.{◌≡◌, ◌+◌, ◌<◌, ◌≤◌, ◌^
 ghost use Rattle.beam_machine.specs.Debug.{debug_next};
 ghost use Rattle.beam_laws.specs.Slice.{rows_of_event};
 ghost use Rattle.beam_core.specs.Installing.{node_rows};
-ghost use Rattle.beam_debug.specs.Answers.{said};
-ghost use Rattle.beam_debug.specs.Debugger.{room_of};
+ghost use Rattle.beam_debug.specs.Answers.{reply_of};
+ghost use Rattle.beam_debug.specs.Debugger.{capacity_of};
 ghost use Rattle.beam_debug.specs.Installing.{AreSlices, IsQuietSlice};
-ghost use Rattle.beam_debug.specs.Marks.{debugged};
-ghost use Rattle.beam_debug.specs.Room.{HasRoom};
+ghost use Rattle.beam_debug.specs.DebuggedNode.{debugged};
+ghost use Rattle.beam_debug.specs.Capacity.{HasCapacity};
 
-use crate::marks::{Marks, make_room, pass_on, settle};
+use crate::debug_state::{DebugState, make_room, pass_on, settle};
 use crate::numbers::put;
 use crate::outcome::Outcome;
 use beam_core::node::Core;
@@ -33,31 +33,31 @@ fn rows_done(rows: &Private) -> u32
 /// Rows of a process that were executed apart from the node take effect. Where memory is refused nothing changes.
 pub(crate) fn install(
     core: &mut Core,
-    marks: &mut Marks,
+    debug: &mut DebugState,
     pid: u32,
     rows: Private,
 ) -> Result<Outcome, Refused>
-    requires rows { AreSlices (debugged core.old marks.old) pid rows }
+    requires rows { AreSlices (debugged core.old debug.old) pid rows }
     requires few { rows.count + 1 < 2 ^ 32 }
-    requires room { HasRoom (debugged core.old marks.old) (room_of marks.old) }
-    ensures next { IfOk result (λ outcome. debug_next (debugged core.old marks.old) (DebugEvent.Node (Event.Steps pid (rows_of_event rows)))
-        ≡ record { answer = Ok (said outcome); state = debugged core.new marks.new }) }
-    ensures err { OnErr result (debugged core.new marks.new ≡ debugged core.old marks.old) }
+    requires capacity { HasCapacity (debugged core.old debug.old) (capacity_of debug.old) }
+    ensures next { IfOk result (λ outcome. debug_next (debugged core.old debug.old) (DebugEvent.Node (Event.Steps pid (rows_of_event rows)))
+        ≡ record { answer = Ok (reply_of outcome); state = debugged core.new debug.new }) }
+    ensures err { OnErr result (debugged core.new debug.new ≡ debugged core.old debug.old) }
     ensures refused { IfErr result (λ refused. refused ≡ Refused.NoMemory) }
-    ensures quiet { IsQuietSlice pid rows (room_of marks.old) → OnErr result ⊥ }
-    ensures room { room_of marks.old ≤ room_of marks.new }
-    ensures begun { OnOk result (pid < room_of marks.new) }
+    ensures quiet { IsQuietSlice pid rows (capacity_of debug.old) → OnErr result ⊥ }
+    ensures capacity { capacity_of debug.old ≤ capacity_of debug.new }
+    ensures begun { OnOk result (pid < capacity_of debug.new) }
 {
     let end = rows.end;
     let count = rows_done(&rows);
-    make_room(pid, &mut marks.held)?;
+    make_room(pid, &mut debug.held)?;
     let then = core.install(pid, rows)?;
-    pass_on(count, pid, &mut marks.passing);
+    pass_on(count, pid, &mut debug.passing);
     if let End::AtSpot = end {
-        put(pid, &mut marks.held);
-        settle(core, marks);
+        put(pid, &mut debug.held);
+        settle(core, debug);
         return Ok(Outcome::Held { count });
     }
-    settle(core, marks);
+    settle(core, debug);
     Ok(Outcome::Node(Reply::Ran { count, then }))
 }

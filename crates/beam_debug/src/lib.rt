@@ -2,16 +2,16 @@
 #![tactic(auto)]
 
 mod commands;
+mod debug_state;
 pub mod debugger;
 mod inspect;
 mod installing;
-mod marks;
+mod label_or_rows;
+mod location;
 mod numbers;
 pub mod outcome;
-mod passing;
 mod places;
 mod print;
 pub mod spot;
-mod standing;
 mod steps;
 pub mod view;

@@ -1,7 +1,7 @@
 //! Lists of pids, rising, each once.
 ghost use Rattle.std.specs.Prelude.{◌≡◌, ◌<◌, ◌≤◌, IfSome, OnOk, OnErr, length, vec_len, vec_capacity};
 ghost use Rattle.beam_machine.specs.Debug.{is_among, with_pid, without_pid};
-ghost use Rattle.beam_debug.specs.Gap.{gap};
+ghost use Rattle.beam_debug.specs.InsertPosition.{insert_position};
 
 use std::alloc::AllocError;
 
@@ -20,8 +20,8 @@ pub(crate) fn is_among(pid: u32, pids: &[u32]) -> bool
 }
 
 /// The position at which a pid is to be inserted; `None` if it is there.
-fn gap(pid: u32, pids: &[u32]) -> Option<usize>
-    ensures at { result ≡ gap pid 0 pids.now }
+fn insert_position(pid: u32, pids: &[u32]) -> Option<usize>
+    ensures at { result ≡ insert_position pid 0 pids.now }
     ensures within { IfSome result (λ at. at ≤ length pids.now) }
 {
     let mut at = 0;
@@ -45,7 +45,7 @@ pub(crate) fn put(pid: u32, pids: &mut Vec<u32>)
     ensures items { pids.new.items ≡ with_pid pid pids.old.items }
     ensures capacity { vec_capacity pids.old ≤ vec_capacity pids.new }
 {
-    if let Some(at) = gap(pid, pids) {
+    if let Some(at) = insert_position(pid, pids) {
         pids.insert(at, pid).unwrap();
     }
 }
@@ -55,7 +55,7 @@ pub(crate) fn try_put(pid: u32, pids: &mut Vec<u32>) -> Result<(), AllocError>
     ensures ok { OnOk result (pids.new.items ≡ with_pid pid pids.old.items) }
     ensures err { OnErr result (pids.new.items ≡ pids.old.items) }
 {
-    match gap(pid, pids) {
+    match insert_position(pid, pids) {
         Some(at) => {
             pids.insert(at, pid)?;
             Ok(())

@@ -1,6 +1,6 @@
 //! The answers of a node with a debugger.
 
-use crate::view::Shown;
+use crate::view::RenderedView;
 use beam_machine::event::Reply;
 
 /// The answer to an event that isn't refused.
@@ -11,5 +11,5 @@ pub enum Outcome {
     /// `count` rows were executed, and the process is held.
     Held { count: u32 },
     /// The view of a process, and its text.
-    Viewed(Shown),
+    Viewed(RenderedView),
 }

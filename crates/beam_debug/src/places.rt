@@ -1,7 +1,7 @@
 //! Lists of places, rising, each once.
 ghost use Rattle.std.specs.Prelude.{◌≡◌, ◌≤◌, IfSome, OnOk, OnErr, length};
 ghost use Rattle.beam_machine.specs.Debug.{comes_before, with_spot, without_spot};
-ghost use Rattle.beam_debug.specs.Gap.{spot_gap};
+ghost use Rattle.beam_debug.specs.InsertPosition.{spot_insert_position};
 
 use beam_model::place::{Place, is_same_place};
 use std::alloc::AllocError;
@@ -13,8 +13,8 @@ fn comes_before(a: Place, b: Place) -> bool
 }
 
 /// The position at which a place is to be inserted; `None` if it is there.
-fn gap(place: Place, spots: &[Place]) -> Option<usize>
-    ensures at { result ≡ spot_gap place 0 spots.now }
+fn insert_position(place: Place, spots: &[Place]) -> Option<usize>
+    ensures at { result ≡ spot_insert_position place 0 spots.now }
     ensures within { IfSome result (λ at. at ≤ length spots.now) }
 {
     let mut at = 0;
@@ -37,7 +37,7 @@ pub(crate) fn put(place: Place, spots: &mut Vec<Place>) -> Result<(), AllocError
     ensures ok { OnOk result (spots.new.items ≡ with_spot place spots.old.items) }
     ensures err { OnErr result (spots.new.items ≡ spots.old.items) }
 {
-    match gap(place, spots) {
+    match insert_position(place, spots) {
         Some(at) => {
             spots.insert(at, place)?;
             Ok(())

@@ -4,9 +4,9 @@ ghost use Rattle.std.specs.Fmt.{decimal};
 ghost use Rattle.beam_model.specs.ListingText.{instruction_text};
 ghost use Rattle.beam_model.specs.Text.{atom_text, text_of};
 ghost use Rattle.beam_machine.specs.View.{back_text, counts_text, frames_text, function_text, function_text_if, instruction_in, live_text, next_text, slot_text, location_text, status_text, view_text, x_text, xs_text, ys_text};
-ghost use Rattle.beam_debug.specs.Seen.{frame_seen, frame_text, live_seen, next_seen, seen, standing_seen, y_text};
+ghost use Rattle.beam_debug.specs.Seen.{frame_seen, frame_text, live_seen, next_seen, seen, location_seen, y_text};
 
-use crate::view::{FrameView, LiveView, Next, Row, Standing, View};
+use crate::view::{FrameView, LiveView, Location, Next, RowView, View};
 use beam_erltext::{print_atom, print_erl};
 use beam_image::Image;
 use beam_machine::process::{Slot, Status};
@@ -71,16 +71,16 @@ fn print_function_if(function: &Option<Import>, out: &mut Vec<u8>) -> Result<(),
     }
 }
 
-fn print_standing(standing: &Standing, out: &mut Vec<u8>) -> Result<(), AllocError>
-    ensures { OnOk result (out.new.items ≡ out.old.items ++ location_text (standing_seen standing.now)) }
+fn print_location(location: &Location, out: &mut Vec<u8>) -> Result<(), AllocError>
+    ensures { OnOk result (out.new.items ≡ out.old.items ++ location_text (location_seen location.now)) }
 {
-    print_function_if(&standing.function, out)?;
+    print_function_if(&location.function, out)?;
     out.extend_from_slice(b" label ")?;
-    print_number(standing.label as usize, out)?;
+    print_number(location.label as usize, out)?;
     out.extend_from_slice(b" + ")?;
-    print_number(standing.rows, out)?;
+    print_number(location.rows, out)?;
     out.extend_from_slice(b" instance ")?;
-    print_number(standing.instance as usize, out)
+    print_number(location.instance as usize, out)
 }
 
 /// The instruction at a position of an image, and `int_code_end` after the last.
@@ -112,14 +112,14 @@ fn print_next(next: &Next, out: &mut Vec<u8>) -> Result<(), AllocError>
 {
     match next {
         Next::Row(
-            Row {
-                standing,
+            RowView {
+                location,
                 image,
                 at,
             },
         ) => {
             out.extend_from_slice(b"at ")?;
-            print_standing(standing, out)?;
+            print_location(location, out)?;
             out.extend_from_slice(b"\nnext ")?;
             print_instruction_in(image, *at, out)?;
             out.extend_from_slice(b"\n")
@@ -210,11 +210,11 @@ fn print_ys(slots: &[Slot], out: &mut Vec<u8>) -> Result<(), AllocError>
     Ok(())
 }
 
-fn print_back(back: &Option<Standing>, out: &mut Vec<u8>) -> Result<(), AllocError>
-    ensures { OnOk result (out.new.items ≡ out.old.items ++ back_text (option_map standing_seen back.now)) }
+fn print_back(back: &Option<Location>, out: &mut Vec<u8>) -> Result<(), AllocError>
+    ensures { OnOk result (out.new.items ≡ out.old.items ++ back_text (option_map location_seen back.now)) }
 {
     match back {
-        Some(standing) => print_standing(standing, out),
+        Some(location) => print_location(location, out),
         None => out.extend_from_slice(b"end"),
     }
 }

@@ -4,14 +4,14 @@ ghost use Rattle.beam_machine.specs.Debug.{is_among, held_at};
 ghost use Rattle.beam_machine.specs.DebugRun.{DebugAnswers, DebugLacksMemory};
 ghost use Rattle.beam_machine.specs.Quiet.{IsLoud};
 ghost use Rattle.beam_machine.specs.State.{process_of};
-ghost use Rattle.beam_debug.specs.Answers.{answer_of, said};
-ghost use Rattle.beam_debug.specs.Debugger.{room_of};
+ghost use Rattle.beam_debug.specs.Answers.{answer_of, reply_of};
+ghost use Rattle.beam_debug.specs.Debugger.{capacity_of};
 ghost use Rattle.beam_debug.specs.Halt.{then_at, RowIs};
 ghost use Rattle.beam_debug.specs.Loud.{DebugLoudly};
-ghost use Rattle.beam_debug.specs.Marks.{debugged};
-ghost use Rattle.beam_debug.specs.Room.{HasRoom, RoomFor};
+ghost use Rattle.beam_debug.specs.DebuggedNode.{debugged};
+ghost use Rattle.beam_debug.specs.Capacity.{HasCapacity, CapacityFor};
 
-use crate::marks::{Marks, live, make_room, pass_on, settle};
+use crate::debug_state::{DebugState, live, make_room, pass_on, settle};
 use crate::numbers::{is_among, put};
 use crate::outcome::Outcome;
 use beam_core::node::Core;
@@ -22,7 +22,7 @@ use std::alloc::AllocError;
 /// Makes room to hold a process of which `rows` rows are to be executed. Where memory is refused nothing changes.
 fn make_room_for(pid: u32, rows: u32, held: &mut Vec<u32>) -> Result<(), AllocError>
     ensures items { held.new.items ≡ held.old.items }
-    ensures room { OnOk result (0 < rows → pid < vec_capacity held.new) }
+    ensures capacity { OnOk result (0 < rows → pid < vec_capacity held.new) }
     ensures kept { vec_capacity held.old ≤ vec_capacity held.new }
     ensures needed { OnErr result ((0 < rows) × (vec_capacity held.old ≤ pid)) }
     ensures err { OnErr result (vec_capacity held.new ≡ vec_capacity held.old) }
@@ -34,28 +34,33 @@ fn make_room_for(pid: u32, rows: u32, held: &mut Vec<u32>) -> Result<(), AllocEr
 }
 
 /// Executes rows of a process that runs, at most `rows`. If the next one is that of a break spot, the process is held.
-fn run_to_spot(core: &mut Core, marks: &mut Marks, pid: u32, rows: u32) -> Result<Outcome, Refused>
+fn run_to_spot(
+    core: &mut Core,
+    debug: &mut DebugState,
+    pid: u32,
+    rows: u32,
+) -> Result<Outcome, Refused>
     requires runs { then_at core.old pid ≡ Some Then.GoesOn }
-    requires free { is_among pid marks.old.held.items ≡ false }
-    requires room { HasRoom (debugged core.old marks.old) (room_of marks.old) }
-    ensures next { DebugAnswers (debugged core.old marks.old) (DebugEvent.Node (Event.Steps pid rows)) (answer_of result) (debugged core.new marks.new) }
-    ensures memory { DebugLacksMemory (debugged core.old marks.old) (DebugEvent.Node (Event.Steps pid rows)) (answer_of result) }
-    ensures loud { DebugLoudly (debugged core.old marks.old) (DebugEvent.Node (Event.Steps pid rows)) (answer_of result) (debugged core.new marks.new) }
-    ensures room { room_of marks.old ≤ room_of marks.new }
-    ensures begun { OnOk result (RoomFor (room_of marks.new) (DebugEvent.Node (Event.Steps pid rows))) }
+    requires free { is_among pid debug.old.held.items ≡ false }
+    requires capacity { HasCapacity (debugged core.old debug.old) (capacity_of debug.old) }
+    ensures next { DebugAnswers (debugged core.old debug.old) (DebugEvent.Node (Event.Steps pid rows)) (answer_of result) (debugged core.new debug.new) }
+    ensures memory { DebugLacksMemory (debugged core.old debug.old) (DebugEvent.Node (Event.Steps pid rows)) (answer_of result) }
+    ensures loud { DebugLoudly (debugged core.old debug.old) (DebugEvent.Node (Event.Steps pid rows)) (answer_of result) (debugged core.new debug.new) }
+    ensures capacity { capacity_of debug.old ≤ capacity_of debug.new }
+    ensures begun { OnOk result (CapacityFor (capacity_of debug.new) (DebugEvent.Node (Event.Steps pid rows))) }
 {
-    make_room_for(pid, rows, &mut marks.held)?;
-    let passes = is_among(pid, &marks.passing);
-    let (count, then) = core.rows_before_spots(pid, rows, &marks.spots, passes)?;
-    pass_on(count, pid, &mut marks.passing);
+    make_room_for(pid, rows, &mut debug.held)?;
+    let passes = is_among(pid, &debug.passing);
+    let (count, then) = core.rows_before_spots(pid, rows, &debug.spots, passes)?;
+    pass_on(count, pid, &mut debug.passing);
     match then {
         Some(then) => {
-            settle(core, marks);
+            settle(core, debug);
             Ok(Outcome::Node(Reply::Ran { count, then }))
         }
         None => {
-            put(pid, &mut marks.held);
-            settle(core, marks);
+            put(pid, &mut debug.held);
+            settle(core, debug);
             Ok(Outcome::Held { count })
         }
     }
@@ -64,27 +69,27 @@ fn run_to_spot(core: &mut Core, marks: &mut Marks, pid: u32, rows: u32) -> Resul
 /// Executes rows of a process, at most `rows`.
 pub(crate) fn steps(
     core: &mut Core,
-    marks: &mut Marks,
+    debug: &mut DebugState,
     pid: u32,
     rows: u32,
 ) -> Result<Outcome, Refused>
-    requires room { HasRoom (debugged core.old marks.old) (room_of marks.old) }
-    ensures next { DebugAnswers (debugged core.old marks.old) (DebugEvent.Node (Event.Steps pid rows)) (answer_of result) (debugged core.new marks.new) }
-    ensures memory { DebugLacksMemory (debugged core.old marks.old) (DebugEvent.Node (Event.Steps pid rows)) (answer_of result) }
-    ensures loud { DebugLoudly (debugged core.old marks.old) (DebugEvent.Node (Event.Steps pid rows)) (answer_of result) (debugged core.new marks.new) }
-    ensures room { room_of marks.old ≤ room_of marks.new }
-    ensures begun { OnOk result (RoomFor (room_of marks.new) (DebugEvent.Node (Event.Steps pid rows))) }
+    requires capacity { HasCapacity (debugged core.old debug.old) (capacity_of debug.old) }
+    ensures next { DebugAnswers (debugged core.old debug.old) (DebugEvent.Node (Event.Steps pid rows)) (answer_of result) (debugged core.new debug.new) }
+    ensures memory { DebugLacksMemory (debugged core.old debug.old) (DebugEvent.Node (Event.Steps pid rows)) (answer_of result) }
+    ensures loud { DebugLoudly (debugged core.old debug.old) (DebugEvent.Node (Event.Steps pid rows)) (answer_of result) (debugged core.new debug.new) }
+    ensures capacity { capacity_of debug.old ≤ capacity_of debug.new }
+    ensures begun { OnOk result (CapacityFor (capacity_of debug.new) (DebugEvent.Node (Event.Steps pid rows))) }
 {
     let Some(process) = live(core, pid) else {
         return Err(Refused::NoProcess);
     };
-    if is_among(pid, &marks.held) {
+    if is_among(pid, &debug.held) {
         return Err(Refused::Stopped);
     }
     if process.is_waiting() {
         return Err(Refused::NotReady);
     }
-    run_to_spot(core, marks, pid, rows)
+    run_to_spot(core, debug, pid, rows)
 }
 
 /// Executes one row of a process that runs, and answers how the process then stands.
@@ -103,7 +108,7 @@ fn one_row(core: &mut Core, pid: u32) -> Result<Then, Refused>
 
 /// The answer after rows of a process that is held: it stays held, unless it has ended.
 fn held_at(count: u32, then: Then) -> Outcome
-    ensures { said result ≡ held_at count then }
+    ensures { reply_of result ≡ held_at count then }
 {
     match then {
         Then::Ended { reason, value } => Outcome::Node(Reply::Ran {
@@ -116,11 +121,15 @@ fn held_at(count: u32, then: Then) -> Outcome
 }
 
 /// Executes one row of a process that is held.
-pub(crate) fn step_one(core: &mut Core, marks: &mut Marks, pid: u32) -> Result<Outcome, Refused>
-    ensures next { DebugAnswers (debugged core.old marks.old) (DebugEvent.StepOne pid) (answer_of result) (debugged core.new marks.new) }
-    ensures memory { DebugLacksMemory (debugged core.old marks.old) (DebugEvent.StepOne pid) (answer_of result) }
-    ensures loud { DebugLoudly (debugged core.old marks.old) (DebugEvent.StepOne pid) (answer_of result) (debugged core.new marks.new) }
-    ensures room { room_of marks.old ≤ room_of marks.new }
+pub(crate) fn step_one(
+    core: &mut Core,
+    debug: &mut DebugState,
+    pid: u32,
+) -> Result<Outcome, Refused>
+    ensures next { DebugAnswers (debugged core.old debug.old) (DebugEvent.StepOne pid) (answer_of result) (debugged core.new debug.new) }
+    ensures memory { DebugLacksMemory (debugged core.old debug.old) (DebugEvent.StepOne pid) (answer_of result) }
+    ensures loud { DebugLoudly (debugged core.old debug.old) (DebugEvent.StepOne pid) (answer_of result) (debugged core.new debug.new) }
+    ensures capacity { capacity_of debug.old ≤ capacity_of debug.new }
 {
     let Some(process) = live(core, pid) else {
         return Err(Refused::NoProcess);
@@ -128,11 +137,11 @@ pub(crate) fn step_one(core: &mut Core, marks: &mut Marks, pid: u32) -> Result<O
     if process.is_waiting() {
         return Err(Refused::NotReady);
     }
-    if !is_among(pid, &marks.held) {
+    if !is_among(pid, &debug.held) {
         return Err(Refused::NotReady);
     }
     let then = one_row(core, pid)?;
-    pass_on(1, pid, &mut marks.passing);
-    settle(core, marks);
+    pass_on(1, pid, &mut debug.passing);
+    settle(core, debug);
     Ok(held_at(1, then))
 }

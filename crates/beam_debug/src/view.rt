@@ -12,7 +12,7 @@ use std::alloc::{AllocError, Global};
 use std::marker::Model;
 
 /// Where a row stands.
-pub struct Standing {
+pub struct Location {
     /// The function whose head is the last one at the row or before it.
     pub function: Option<Import>,
     /// The last label before the row, and 0 if there is none.
@@ -23,9 +23,9 @@ pub struct Standing {
     pub instance: u32,
 }
 
-impl Drop for Standing {
+impl Drop for Location {
     fn drop(self) {
-        let Standing {
+        let Location {
             function: _function,
             label: _label,
             rows: _rows,
@@ -35,18 +35,18 @@ impl Drop for Standing {
 }
 
 /// A row.
-pub struct Row {
-    pub standing: Standing,
+pub struct RowView {
+    pub location: Location,
     /// The image of its instance.
     pub image: Option<Image>,
     /// Its position in the instance.
     pub at: usize,
 }
 
-impl Drop for Row {
+impl Drop for RowView {
     fn drop(self) {
-        let Row {
-            standing: _standing,
+        let RowView {
+            location: _location,
             image: _image,
             at: _at,
         } = self;
@@ -56,7 +56,7 @@ impl Drop for Row {
 /// What a process does next.
 #[derive(Drop)]
 pub enum Next {
-    Row(Row),
+    Row(RowView),
     /// Its first entry.
     Entry(Import),
     Nothing,
@@ -65,7 +65,7 @@ pub enum Next {
 /// The view of a frame.
 pub struct FrameView {
     /// Where the frame returns. The first frame of a process returns nowhere.
-    pub back: Option<Standing>,
+    pub back: Option<Location>,
     /// Its y registers, y0 first.
     pub y: Vec<Slot>,
 }
@@ -120,21 +120,21 @@ pub enum View {
 }
 
 /// The view of a process, with its text. Contracts see the view.
-pub struct Shown {
+pub struct RenderedView {
     view: View,
     text: Bytes,
 }
 
-impl Drop for Shown {
+impl Drop for RenderedView {
     fn drop(self) {
-        let Shown {
+        let RenderedView {
             view: _view,
             text: _text,
         } = self;
     }
 }
 
-impl Model for Shown {
+impl Model for RenderedView {
     ghost use Rattle.std.specs.Prelude.{◌≡◌};
     ghost use Rattle.std.specs.Coded.{codes};
     ghost use Rattle.beam_term.specs.Coding.{term_code};
@@ -150,14 +150,14 @@ impl Model for Shown {
     ghost invariant = { λ s. s.text ≡ view_text (seen s.view) };
 }
 
-impl Shown {
+impl RenderedView {
     /// A view, and the text that is made of it.
-    pub(crate) fn new(alloc: Global, view: View) -> Result<Shown, AllocError>
+    pub(crate) fn new(alloc: Global, view: View) -> Result<RenderedView, AllocError>
         ensures { IfOk result (λ shown. shown ≡ seen view) }
     {
         let mut text = Vec::new(alloc);
         view.print(&mut text)?;
-        Ok(Shown {
+        Ok(RenderedView {
             view,
             text: Bytes::new(text),
         })
@@ -167,7 +167,7 @@ impl Shown {
     pub fn into_text(self) -> Bytes
         ensures { result ≡ view_text self }
     {
-        let Shown { view: _view, text } = self;
+        let RenderedView { view: _view, text } = self;
         text
     }
 }

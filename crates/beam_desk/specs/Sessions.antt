@@ -5,7 +5,7 @@ use Rattle.beam_machine.specs.State.{empty}
 use Rattle.beam_remote.specs.declared.error.Served.{Served}
 use Rattle.beam_remote.specs.declared.error.ServeError.{ServeError}
 use Rattle.beam_remote.specs.Serving.{AllAnswered, IsServed, IsStopped}
-use Rattle.beam_remote.specs.Told.{Moment}
+use Rattle.beam_remote.specs.DeviceHistory.{Moment}
 use Rattle.beam_desk.specs.Answers.{NodeAnswers}
 
 -- all commands in the bytes that were read were answered by a node that began empty, and their replies written

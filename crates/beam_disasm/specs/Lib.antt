@@ -1,3 +1,3 @@
-pub mod Parts
+pub mod FileParts
 pub mod Refusals
 pub mod Worked

@@ -5,7 +5,7 @@ ghost use Rattle.beam_model.specs.Listing.{Listing as TheListing};
 ghost use Rattle.beam_model.specs.File.{parts_of_form, listing_of_parts, listing_of_form, listing_of_file};
 ghost use Rattle.beam_model.specs.FileForm.{IsFile};
 ghost use Rattle.beam_code.specs.Bytes.{instructions_in};
-ghost use Rattle.beam_disasm.specs.Parts.{parts_of_file, parts_in};
+ghost use Rattle.beam_disasm.specs.FileParts.{parts_of_file, parts_in};
 ghost use Rattle.beam_disasm.specs.Refusals.{is_memory, Fails, Gives};
 
 use crate::error::FileError;
@@ -77,7 +77,7 @@ fn of_form(alloc: Global, chunks: Chunks) -> Result<Disassembled, FileError>
 
 /// The listing that the bytes of a BEAM file spell, as `disassemble` reads it, and the bytes of its `Code` chunk, which are copied, with
 /// its atoms, imports and literals.
-#[tactic(auto, unfolding(beam_model::specs::File::listing_of_file, crate::specs::Parts::parts_of_file))]
+#[tactic(auto, unfolding(beam_model::specs::File::listing_of_file, crate::specs::FileParts::parts_of_file))]
 pub fn disassemble_bytes(alloc: Global, bytes: &[u8]) -> Result<Disassembled, FileError>
     ensures ok { IfOk result (λ d. listing_of_file bytes.now ≡ Ok d.listing) }
     // The file spells the listing that is read.

@@ -3,8 +3,8 @@ use Rattle.std.proofs.Common.{◌≡◌, ℕ, zero, suc, get_or, ◌-◌, ◌+�
 use Rattle.std.proofs.lemmas.List.{append-nil, nil_from_length}
 use Rattle.std.proofs.lemmas.Bool.{eq-eqb}
 use Rattle.beam_term.specs.TermValue.{TermValue, terms_of, depth_of, items_depth}
-use Rattle.beam_erltext.specs.declared.fault.Fault.{Fault}
-use Rattle.beam_erltext.specs.declared.fault.Fault.TheVariants as faults
+use Rattle.beam_erltext.specs.declared.read_fault.ReadFault.{ReadFault}
+use Rattle.beam_erltext.specs.declared.read_fault.ReadFault.TheVariants as faults
 use Rattle.beam_erltext.specs.Gives.{Fails}
 use Rattle.beam_erltext.proofs.Texts.{differ}
 use Rattle.beam_erltext.proofs.Quoted.{with_front-with_front}
@@ -24,7 +24,7 @@ step term front len i text total left =
     let same : with_front front (items_by term (len - i) text) ≡ with_front front (items_by term (suc (len - (i + 1))) text) = ap (λ (n : ℕ). with_front front (items_by term n text)) k in
     sym same ∙ left.completes
 
-pub item_faults : (f : Fault) (term : List ℕ → Reading TermValue) (front : List TermValue) (len i : ℕ) (text : List ℕ) (total : Reading (List TermValue)) → IsLeft term front len i text total → Fails f (term text) → Fails f total
+pub item_faults : (f : ReadFault) (term : List ℕ → Reading TermValue) (front : List TermValue) (len i : ℕ) (text : List ℕ) (total : Reading (List TermValue)) → IsLeft term front len i text total → Fails f (term text) → Fails f total
 item_faults faults.NoMemory term front len i text total left h = tt
 item_faults (faults.At n) term front len i text total left h = sym (step term front len i text total left) ∙ rw h refl
 

@@ -1,12 +1,12 @@
 mod Quoted
 pub mod Texts
 mod Items
-pub mod AgainIntegers
-pub mod AgainNames
-pub mod AgainTerms
-mod Spelled
+pub mod IntegerRoundTrip
+pub mod AtomRoundTrip
+pub mod TermRoundTrip
+mod ReadingSound
 mod Within
-mod Found
+mod ReadingComplete
 pub mod Depths
 pub mod Rooms
 mod Pairs

@@ -38,9 +38,9 @@ pairs_none front left text total r so_far =
     sym so_far ∙ one
 
 -- a list has room for a further element
-pub fits_more : (front : List TermValue) (x : TermValue) (left d room : ℕ) → ((t : TermValue) → depth_of t ≤ left → depth_of (list_before front t) ≤ room) → left ≡ suc d → depth_of x ≤ d
-    → (u : TermValue) → depth_of u ≤ d → depth_of (list_before (front ++ x ∷ []) u) ≤ room
-fits_more front x left d room fits r h u k = rw (list_before-append front (x ∷ []) u) (fits (pair_term x u) (omega (arith, r, h, k)))
+pub fits_more : (front : List TermValue) (x : TermValue) (left d depth_left : ℕ) → ((t : TermValue) → depth_of t ≤ left → depth_of (list_before front t) ≤ depth_left) → left ≡ suc d → depth_of x ≤ d
+    → (u : TermValue) → depth_of u ≤ d → depth_of (list_before (front ++ x ∷ []) u) ≤ depth_left
+fits_more front x left d depth_left fits r h u k = rw (list_before-append front (x ∷ []) u) (fits (pair_term x u) (omega (arith, r, h, k)))
 
 -- the tail and the bracket after it
 abbrev pub then_closed : Reading TermValue → Reading TermValue
@@ -51,8 +51,8 @@ abbrev pub as_tuple : List ℕ → Reading (List TermValue) → Reading TermValu
 as_tuple text read = read >>= λ items. if nat_lt (length items.0) (2 ^ 32) then Ok (tuple_of items.0, items.1) else fault_at text
 
 -- a text that begins with a bracket
-pub term_list : (room : ℕ) (text : List ℕ) (first : ℕ) (others : List ℕ) → text ≡ first ∷ others → first ≡ 91 → term_at room text ≡ list_by (pairs_at room) (after_blanks others)
-term_list room text first others e f = term_at_is room text ∙ rw (e, f) refl
+pub term_list : (depth_left : ℕ) (text : List ℕ) (first : ℕ) (others : List ℕ) → text ≡ first ∷ others → first ≡ 91 → term_at depth_left text ≡ list_by (pairs_at depth_left) (after_blanks others)
+term_list depth_left text first others e f = term_at_is depth_left text ∙ rw (e, f) refl
 
 -- a tuple of too many elements
 pub tuple_long : (text : List ℕ) (xs : List TermValue) (rest : List ℕ) → 2 ^ 32 ≤ length xs → as_tuple text (Ok (xs, rest)) ≡ Err (length text)

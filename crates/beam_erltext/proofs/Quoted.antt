@@ -4,8 +4,8 @@ use Rattle.std.specs.Prelude.{encode_utf8}
 use Rattle.std.proofs.lemmas.List.{append-nil, nil_from_length}
 use Rattle.std.proofs.lemmas.Bool.{eq-eqb}
 use Rattle.beam_erltext.proofs.Texts.{differ}
-use Rattle.beam_erltext.specs.declared.fault.Fault.{Fault}
-use Rattle.beam_erltext.specs.declared.fault.Fault.TheVariants as faults
+use Rattle.beam_erltext.specs.declared.read_fault.ReadFault.{ReadFault}
+use Rattle.beam_erltext.specs.declared.read_fault.ReadFault.TheVariants as faults
 use Rattle.beam_erltext.specs.Gives.{Fails}
 use Rattle.beam_model.specs.TextReading.{Reading, with_front, escape_at, quoted_within}
 
@@ -27,7 +27,7 @@ closes front len i quote rest first others total lt e t so_far =
     let one : with_front front (quoted_within (len - i) quote rest) ≡ Ok (front, others) = rw (k, e, eq-eqb first quote t) (ap (λ (bs : List ℕ). Ok (bs, others)) (append-nil front)) in
     sym so_far ∙ one
 
-pub faults_in_escape : (f : Fault) (front : List ℕ) (len i quote : ℕ) (rest : List ℕ) (first : ℕ) (others : List ℕ) (total : Reading (List ℕ)) → i < len → rest ≡ first ∷ others → (first ≡ quote → ⊥) → first ≡ 92 → Fails f (escape_at others) → with_front front (quoted_within (len - i) quote rest) ≡ total → Fails f total
+pub faults_in_escape : (f : ReadFault) (front : List ℕ) (len i quote : ℕ) (rest : List ℕ) (first : ℕ) (others : List ℕ) (total : Reading (List ℕ)) → i < len → rest ≡ first ∷ others → (first ≡ quote → ⊥) → first ≡ 92 → Fails f (escape_at others) → with_front front (quoted_within (len - i) quote rest) ≡ total → Fails f total
 unfolding quoted_within
 faults_in_escape faults.NoMemory front len i quote rest first others total lt e t u h so_far = tt
 faults_in_escape (faults.At left) front len i quote rest first others total lt e t u h so_far =

@@ -7,8 +7,8 @@ use Rattle.beam_term.specs.TermValue.{TermValue}
 use Rattle.beam_term.specs.declared.error.TermError.{TermError}
 use Rattle.beam_term.specs.declared.error.TermError.TheVariants as terms
 use Rattle.beam_model.specs.TextReading.{Reading}
-use Rattle.beam_erltext.specs.declared.read.Stop.{Stop}
-use Rattle.beam_erltext.specs.declared.read.Stop.TheVariants as stops
+use Rattle.beam_erltext.specs.declared.read.ReadStop.{ReadStop}
+use Rattle.beam_erltext.specs.declared.read.ReadStop.TheVariants as stops
 use Rattle.beam_erltext.specs.Puts.{Puts, Stopped, stop_of}
 
 pub below_start : (all front items : List TermValue) (start : ℕ) → all ≡ front ++ items → length front ≡ start → take start all ≡ front
@@ -39,19 +39,19 @@ exit_deep (Ok x) P e D h k = absurd h
 exit_deep (Err y) P e D h k = rw h k
 
 -- a stop that is passed on unchanged
-pub puts_stop : (room : ℕ) (read : Reading TermValue) (rest : List ℕ) (place : ℕ) (old new : List TermValue) (result : Result Unit Stop) (s : Stop)
-    → IsErrAnd result (λ y. y ≡ s) → Stopped read place s → Puts room read rest place old new result
-puts_stop room read rest place old new (Ok x) s h k = absurd h
-puts_stop room read rest place old new (Err y) s h k = rw h k
+pub puts_stop : (depth_left : ℕ) (read : Reading TermValue) (rest : List ℕ) (place : ℕ) (old new : List TermValue) (result : Result Unit ReadStop) (s : ReadStop)
+    → IsErrAnd result (λ y. y ≡ s) → Stopped read place s → Puts depth_left read rest place old new result
+puts_stop depth_left read rest place old new (Ok x) s h k = absurd h
+puts_stop depth_left read rest place old new (Err y) s h k = rw h k
 
 -- the stop at a term that has room
-pub puts_term_stop : (room : ℕ) (read : Reading TermValue) (rest : List ℕ) (place : ℕ) (old new : List TermValue) (result : Result Unit Stop) (t : TermError)
-    → IsErrAnd result (λ y. y ≡ stop_of t) → (t ≡ terms.TooDeep → ⊥) → Puts room read rest place old new result
-puts_term_stop room read rest place old new result terms.NoMemory h k = puts_stop room read rest place old new result stops.NoMemory h tt
-puts_term_stop room read rest place old new result terms.TooDeep h k = absurd (k refl)
+pub puts_term_stop : (depth_left : ℕ) (read : Reading TermValue) (rest : List ℕ) (place : ℕ) (old new : List TermValue) (result : Result Unit ReadStop) (t : TermError)
+    → IsErrAnd result (λ y. y ≡ stop_of t) → (t ≡ terms.TooDeep → ⊥) → Puts depth_left read rest place old new result
+puts_term_stop depth_left read rest place old new result terms.NoMemory h k = puts_stop depth_left read rest place old new result stops.NoMemory h tt
+puts_term_stop depth_left read rest place old new result terms.TooDeep h k = absurd (k refl)
 
 -- where a part stops, the whole does
-pub stopped_in : {A B : Type 0} (part : Reading A) (read : Reading B) (place : ℕ) (s : Stop) → ((e : ℕ) → part ≡ Err e → read ≡ Err e) → Stopped part place s → Stopped read place s
+pub stopped_in : {A B : Type 0} (part : Reading A) (read : Reading B) (place : ℕ) (s : ReadStop) → ((e : ℕ) → part ≡ Err e → read ≡ Err e) → Stopped part place s → Stopped read place s
 stopped_in part read place stops.NoMemory k h = tt
 stopped_in part read place stops.Fault k h = k place h
 

@@ -1,4 +1,4 @@
-//! The term that a text is. `room` is how deep a term may still be.
+//! The term that a text is. `depth_left` is how deep a term may still be.
 
 ghost use Rattle.std.specs.Prelude.{◌≡◌, ◌-◌, ◌≤◌, ◌<◌, ◌^◌, ◌⊎◌, ◌==◌, ◌||◌, ◌∷◌, ◌++◌, [], List, length, vec_len, IfOk, IfErr, MatchResult, Ok, Err, ℕ};
 ghost use Rattle.std.specs.Str.{chars};
@@ -7,10 +7,10 @@ ghost use Rattle.beam_model.specs.Text.{is_digit};
 ghost use Rattle.beam_model.specs.TextReading.{Reading, list_of_characters, closed_by, string_within, items_after, list_by, term_at, pairs_at, tuple_at, read_text, line_of, term_of_text};
 ghost use Rattle.beam_model.specs.TextGrammar.{IsTextOf};
 ghost use Rattle.beam_erltext.specs.Gives.{Gives};
-ghost use Rattle.beam_erltext.specs.Puts.{Puts, BeginsWith, HasRoom, StopsAt, LeavesParts, IsBehind, Closes, Follows, tuple_elements_at};
+ghost use Rattle.beam_erltext.specs.Puts.{Puts, BeginsWith, FitsDepth, StopsAt, LeavesParts, IsAfterElement, Closes, Follows, tuple_elements_at};
 
 use crate::error::TextError;
-use crate::fault::Fault;
+use crate::read_fault::ReadFault;
 use crate::token::{read_atom, read_integer, read_string, skip_blanks};
 use beam_term::{Term, TermError, cons, list_with_tail, tuple};
 use std::alloc::{AllocError, AllocFailed, Global};
@@ -19,38 +19,38 @@ use std::alloc::{AllocError, AllocFailed, Global};
 pub const MAX_DEPTH: u16 = 4096;
 
 // A pair that isn't too deep.
-fn pair(alloc: Global, head: Term, tail: Term) -> Result<Term, Fault>
+fn pair(alloc: Global, head: Term, tail: Term) -> Result<Term, ReadFault>
     requires { depth_of (pair_term head tail) ≤ 4096 }
     ensures ok { IfOk result (λ t. t ≡ pair_term head tail) }
-    ensures memory { IfErr result (λ e. e ≡ Fault.NoMemory) }
+    ensures memory { IfErr result (λ e. e ≡ ReadFault.NoMemory) }
 {
     match cons(alloc, head, tail) {
         Ok(term) => Ok(term),
-        Err(TermError::NoMemory) => Err(Fault::NoMemory),
+        Err(TermError::NoMemory) => Err(ReadFault::NoMemory),
         Err(TermError::TooDeep) => unreachable!(),
     }
 }
 
 // A tuple that is neither too deep nor too large.
-fn made_tuple(alloc: Global, items: Vec<Term>) -> Result<Term, Fault>
+fn made_tuple(alloc: Global, items: Vec<Term>) -> Result<Term, ReadFault>
     requires shallow { depth_of (tuple_of items.items) ≤ 4096 }
     requires short { vec_len items < 2 ^ 32 }
     ensures ok { IfOk result (λ t. t ≡ tuple_of items.items) }
-    ensures memory { IfErr result (λ e. e ≡ Fault.NoMemory) }
+    ensures memory { IfErr result (λ e. e ≡ ReadFault.NoMemory) }
 {
     match tuple(alloc, items) {
         Ok(term) => Ok(term),
-        Err(TermError::NoMemory) => Err(Fault::NoMemory),
+        Err(TermError::NoMemory) => Err(ReadFault::NoMemory),
         Err(TermError::TooDeep) => unreachable!(),
     }
 }
 
 // The list of these characters.
 #[tactic(auto, using(crate::proofs::Depths::depth_of_characters))]
-fn character_list(alloc: Global, characters: &[char]) -> Result<Term, Fault>
+fn character_list(alloc: Global, characters: &[char]) -> Result<Term, ReadFault>
     requires { length characters.now ≤ 4096 }
     ensures ok { IfOk result (λ t. t ≡ list_of_characters characters.now) }
-    ensures memory { IfErr result (λ e. e ≡ Fault.NoMemory) }
+    ensures memory { IfErr result (λ e. e ≡ ReadFault.NoMemory) }
 {
     let mut list = Term::nil();
     for i in (0..characters.len()).rev() {
@@ -66,15 +66,15 @@ fn characters_of(alloc: Global, string: &str) -> Result<Vec<char>, AllocError>
 }
 
 // A string as a term of at most this depth.
-fn read_characters(alloc: Global, room: u16, text: &[u8]) -> Result<(Term, &[u8]), Fault>
-    requires { room ≤ 4096 }
-    ensures gives { Gives (λ x. (x.0, x.1.now)) result (string_within room text.now) }
-    ensures depth { IfOk result (λ x. depth_of x.0 ≤ room) }
+fn read_characters(alloc: Global, depth_left: u16, text: &[u8]) -> Result<(Term, &[u8]), ReadFault>
+    requires { depth_left ≤ 4096 }
+    ensures gives { Gives (λ x. (x.0, x.1.now)) result (string_within depth_left text.now) }
+    ensures depth { IfOk result (λ x. depth_of x.0 ≤ depth_left) }
 {
     let (string, rest) = read_string(alloc, text)?;
     let characters = characters_of(alloc, string.as_str())?;
-    if characters.len() > room as usize {
-        return Err(Fault::At(text.len()));
+    if characters.len() > depth_left as usize {
+        return Err(ReadFault::At(text.len()));
     }
     Ok((character_list(alloc, &characters)?, rest))
 }
@@ -94,12 +94,12 @@ enum Front {
 }
 
 // The front of a list, after its opening bracket.
-fn list_front(text: &[u8]) -> Result<(Front, &[u8]), Fault>
-    ensures front { (room : ℕ) → BeginsWith room (list_by (pairs_at room) text.now) result }
-    ensures fits { (room : ℕ) → IfOk result (λ x. HasRoom room x.0) }
+fn list_front(text: &[u8]) -> Result<(Front, &[u8]), ReadFault>
+    ensures front { (depth_left : ℕ) → BeginsWith depth_left (list_by (pairs_at depth_left) text.now) result }
+    ensures fits { (depth_left : ℕ) → IfOk result (λ x. FitsDepth depth_left x.0) }
 {
     match text {
-        [] => Err(Fault::At(0)),
+        [] => Err(ReadFault::At(0)),
         [b']', rest @ ..] => Ok((Front::Whole(Term::nil()), skip_blanks(rest))),
         _ => Ok((Front::List, text)),
     }
@@ -107,15 +107,15 @@ fn list_front(text: &[u8]) -> Result<(Front, &[u8]), Fault>
 
 // The front of a tuple, after its opening brace.
 #[tactic(auto, using(crate::proofs::Rooms::tuple_at_is, crate::proofs::Rooms::tuple_at_none))]
-fn tuple_front(alloc: Global, room: u16, text: &[u8]) -> Result<(Front, &[u8]), Fault>
-    ensures front { BeginsWith room (tuple_at room text.now) result }
-    ensures fits { IfOk result (λ x. HasRoom room x.0) }
+fn tuple_front(alloc: Global, depth_left: u16, text: &[u8]) -> Result<(Front, &[u8]), ReadFault>
+    ensures front { BeginsWith depth_left (tuple_at depth_left text.now) result }
+    ensures fits { IfOk result (λ x. FitsDepth depth_left x.0) }
 {
-    if room == 0 {
-        return Err(Fault::At(text.len()));
+    if depth_left == 0 {
+        return Err(ReadFault::At(text.len()));
     }
     let Some((first, others)) = text.split_first() else {
-        return Err(Fault::At(0));
+        return Err(ReadFault::At(0));
     };
     if *first != b'}' {
         return Ok((Front::Tuple, text));
@@ -125,19 +125,19 @@ fn tuple_front(alloc: Global, room: u16, text: &[u8]) -> Result<(Front, &[u8]), 
 }
 
 #[tactic(auto, using(crate::proofs::Rooms::term_at_is))]
-fn read_front(alloc: Global, room: u16, text: &[u8]) -> Result<(Front, &[u8]), Fault>
-    requires { room ≤ 4096 }
-    ensures front { BeginsWith room (term_at room text.now) result }
-    ensures fits { IfOk result (λ x. HasRoom room x.0) }
+fn read_front(alloc: Global, depth_left: u16, text: &[u8]) -> Result<(Front, &[u8]), ReadFault>
+    requires { depth_left ≤ 4096 }
+    ensures front { BeginsWith depth_left (term_at depth_left text.now) result }
+    ensures fits { IfOk result (λ x. FitsDepth depth_left x.0) }
 {
     let Some((first, others)) = text.split_first() else {
-        return Err(Fault::At(0));
+        return Err(ReadFault::At(0));
     };
     match *first {
         b'[' => list_front(skip_blanks(others)),
-        b'{' => tuple_front(alloc, room, skip_blanks(others)),
+        b'{' => tuple_front(alloc, depth_left, skip_blanks(others)),
         b'"' => {
-            let (string, rest) = read_characters(alloc, room, text)?;
+            let (string, rest) = read_characters(alloc, depth_left, text)?;
             Ok((Front::Whole(string), rest))
         }
         byte if begins_integer(byte) => {
@@ -153,56 +153,56 @@ fn read_front(alloc: Global, room: u16, text: &[u8]) -> Result<(Front, &[u8]), F
 
 // Why a reader stops: for a fault, whose place it has written, or for want of memory.
 #[derive(Clone, Copy)]
-enum Stop {
+enum ReadStop {
     NoMemory,
     Fault,
 }
 
-impl From<AllocError> for Stop {
+impl From<AllocError> for ReadStop {
     ghost use Rattle.std.specs.Prelude.{◌≡◌};
-    ghost use Rattle.beam_erltext.specs.declared.read.Stop.TheVariants.{NoMemory};
+    ghost use Rattle.beam_erltext.specs.declared.read.ReadStop.TheVariants.{NoMemory};
 
     ghost from_gives = { λ _ s. s ≡ NoMemory };
 
-    fn from(_e: AllocError) -> Stop {
-        Stop::NoMemory
+    fn from(_e: AllocError) -> ReadStop {
+        ReadStop::NoMemory
     }
 }
 
-impl<T: Drop> From<AllocFailed<T>> for Stop {
+impl<T: Drop> From<AllocFailed<T>> for ReadStop {
     ghost use Rattle.std.specs.Prelude.{◌≡◌};
-    ghost use Rattle.beam_erltext.specs.declared.read.Stop.TheVariants.{NoMemory};
+    ghost use Rattle.beam_erltext.specs.declared.read.ReadStop.TheVariants.{NoMemory};
 
     ghost from_gives = { λ _ s. s ≡ NoMemory };
 
-    fn from(_e: AllocFailed<T>) -> Stop {
-        Stop::NoMemory
+    fn from(_e: AllocFailed<T>) -> ReadStop {
+        ReadStop::NoMemory
     }
 }
 
-impl From<TermError> for Stop {
+impl From<TermError> for ReadStop {
     ghost use Rattle.std.specs.Prelude.{◌≡◌};
     ghost use Rattle.beam_erltext.specs.Puts.{stop_of};
 
     ghost from_gives = { λ e s. s ≡ stop_of e };
 
-    fn from(e: TermError) -> Stop {
+    fn from(e: TermError) -> ReadStop {
         match e {
-            TermError::NoMemory => Stop::NoMemory,
-            TermError::TooDeep => Stop::Fault,
+            TermError::NoMemory => ReadStop::NoMemory,
+            TermError::TooDeep => ReadStop::Fault,
         }
     }
 }
 
 // A reader's stop at a fault, whose place is written to `place`.
-fn stop_at(fault: Fault, place: &mut usize) -> Stop
+fn stop_at(fault: ReadFault, place: &mut usize) -> ReadStop
     ensures { StopsAt fault place.new result }
 {
     match fault {
-        Fault::NoMemory => Stop::NoMemory,
-        Fault::At(left) => {
+        ReadFault::NoMemory => ReadStop::NoMemory,
+        ReadFault::At(left) => {
             *place = left;
-            Stop::Fault
+            ReadStop::Fault
         }
     }
 }
@@ -219,15 +219,15 @@ enum Parts {
 #[inline(never)]
 fn next(
     alloc: Global,
-    room: u16,
+    depth_left: u16,
     text: &mut &[u8],
     done: &mut Vec<Term>,
     place: &mut usize,
-) -> Result<Parts, Stop>
-    requires { room ≤ 4096 }
-    ensures { LeavesParts room text.old.now text.new.now place.new done.old.items done.new.items result }
+) -> Result<Parts, ReadStop>
+    requires { depth_left ≤ 4096 }
+    ensures { LeavesParts depth_left text.old.now text.new.now place.new done.old.items done.new.items result }
 {
-    match read_front(alloc, room, *text) {
+    match read_front(alloc, depth_left, *text) {
         Err(fault) => Err(stop_at(fault, place)),
         Ok((front, rest)) => {
             *text = rest;
@@ -245,49 +245,49 @@ fn next(
 
 // The continuation of a list after an element.
 #[derive(Clone, Copy)]
-enum Behind {
+enum AfterElement {
     Element,
     Tail,
     End,
 }
 
 #[inline(never)]
-fn after_element(text: &mut &[u8], place: &mut usize) -> Result<Behind, Stop>
-    ensures { IsBehind text.old.now text.new.now place.new result }
+fn after_element(text: &mut &[u8], place: &mut usize) -> Result<AfterElement, ReadStop>
+    ensures { IsAfterElement text.old.now text.new.now place.new result }
 {
     match *text {
         [] => {
             *place = 0;
-            Err(Stop::Fault)
+            Err(ReadStop::Fault)
         }
         [b']', rest @ ..] => {
             *text = skip_blanks(rest);
-            Ok(Behind::End)
+            Ok(AfterElement::End)
         }
         [b',', rest @ ..] => {
             *text = skip_blanks(rest);
-            Ok(Behind::Element)
+            Ok(AfterElement::Element)
         }
         [b'|', rest @ ..] => {
             *text = skip_blanks(rest);
-            Ok(Behind::Tail)
+            Ok(AfterElement::Tail)
         }
         others => {
             *place = others.len();
-            Err(Stop::Fault)
+            Err(ReadStop::Fault)
         }
     }
 }
 
 // The bracket that closes a list after its tail.
 #[inline(never)]
-fn close(text: &mut &[u8], place: &mut usize) -> Result<(), Stop>
+fn close(text: &mut &[u8], place: &mut usize) -> Result<(), ReadStop>
     ensures { (t : TermValue) → Closes (closed_by 93 t text.old.now) t text.new.now place.new result }
 {
     match *text {
         [] => {
             *place = 0;
-            Err(Stop::Fault)
+            Err(ReadStop::Fault)
         }
         [b']', rest @ ..] => {
             *text = skip_blanks(rest);
@@ -295,20 +295,20 @@ fn close(text: &mut &[u8], place: &mut usize) -> Result<(), Stop>
         }
         others => {
             *place = others.len();
-            Err(Stop::Fault)
+            Err(ReadStop::Fault)
         }
     }
 }
 
 // Whether a further element of a tuple follows.
 #[inline(never)]
-fn after_item(text: &mut &[u8], place: &mut usize) -> Result<bool, Stop>
+fn after_item(text: &mut &[u8], place: &mut usize) -> Result<bool, ReadStop>
     ensures { (items : List ℕ → Reading (List TermValue)) → Follows items (items_after items text.old.now) text.new.now place.new result }
 {
     match *text {
         [] => {
             *place = 0;
-            Err(Stop::Fault)
+            Err(ReadStop::Fault)
         }
         [b'}', rest @ ..] => {
             *text = skip_blanks(rest);
@@ -320,7 +320,7 @@ fn after_item(text: &mut &[u8], place: &mut usize) -> Result<bool, Stop>
         }
         others => {
             *place = others.len();
-            Err(Stop::Fault)
+            Err(ReadStop::Fault)
         }
     }
 }
@@ -362,18 +362,18 @@ fn put_tuple(alloc: Global, start: usize, done: &mut Vec<Term>) -> Result<(), Te
 #[cycle(read)]
 fn read(
     alloc: Global,
-    room: u16,
+    depth_left: u16,
     text: &mut &[u8],
     done: &mut Vec<Term>,
     place: &mut usize,
-) -> Result<(), Stop>
-    requires { room ≤ 4096 }
-    ensures { Puts room (term_at room text.old.now) text.new.now place.new done.old.items done.new.items result }
+) -> Result<(), ReadStop>
+    requires { depth_left ≤ 4096 }
+    ensures { Puts depth_left (term_at depth_left text.old.now) text.new.now place.new done.old.items done.new.items result }
 {
-    match next(alloc, room, text, done, place)? {
+    match next(alloc, depth_left, text, done, place)? {
         Parts::None => Ok(()),
-        Parts::List => read_list(alloc, room, text, done, place),
-        Parts::Tuple => read_tuple(alloc, room, text, done, place),
+        Parts::List => read_list(alloc, depth_left, text, done, place),
+        Parts::Tuple => read_tuple(alloc, depth_left, text, done, place),
     }
 }
 
@@ -381,31 +381,31 @@ fn read(
 #[cycle(read)]
 fn read_list(
     alloc: Global,
-    room: u16,
+    depth_left: u16,
     text: &mut &[u8],
     done: &mut Vec<Term>,
     place: &mut usize,
-) -> Result<(), Stop>
-    requires { room ≤ 4096 }
-    ensures { Puts room (pairs_at room text.old.now) text.new.now place.new done.old.items done.new.items result }
+) -> Result<(), ReadStop>
+    requires { depth_left ≤ 4096 }
+    ensures { Puts depth_left (pairs_at depth_left text.old.now) text.new.now place.new done.old.items done.new.items result }
 {
     let start = done.len();
-    let mut left = room;
+    let mut left = depth_left;
     'elements: loop {
         if left == 0 {
             *place = text.len();
-            return Err(Stop::Fault);
+            return Err(ReadStop::Fault);
         }
         left -= 1;
         read(alloc, left, text, done, place)?;
         match after_element(text, place)? {
-            Behind::Element => {}
-            Behind::End => {
+            AfterElement::Element => {}
+            AfterElement::End => {
                 done.push(Term::nil())?;
                 put_list(alloc, start, done)?;
                 return Ok(());
             }
-            Behind::Tail => {
+            AfterElement::Tail => {
                 read(alloc, left, text, done, place)?;
                 close(text, place)?;
                 put_list(alloc, start, done)?;
@@ -419,60 +419,60 @@ fn read_list(
 #[cycle(read)]
 fn read_tuple(
     alloc: Global,
-    room: u16,
+    depth_left: u16,
     text: &mut &[u8],
     done: &mut Vec<Term>,
     place: &mut usize,
-) -> Result<(), Stop>
-    requires shallow { room ≤ 4096 }
-    requires some { 0 < room }
-    ensures { Puts room (tuple_elements_at (room - 1) text.old.now) text.new.now place.new done.old.items done.new.items result }
+) -> Result<(), ReadStop>
+    requires shallow { depth_left ≤ 4096 }
+    requires some { 0 < depth_left }
+    ensures { Puts depth_left (tuple_elements_at (depth_left - 1) text.old.now) text.new.now place.new done.old.items done.new.items result }
 {
     let start = done.len();
     let whole = text.len();
     for _ in 0..whole {
-        read(alloc, room - 1, text, done, place)?;
+        read(alloc, depth_left - 1, text, done, place)?;
         if !after_item(text, place)? {
             if done.len() - start > u32::MAX as usize {
                 *place = whole;
-                return Err(Stop::Fault);
+                return Err(ReadStop::Fault);
             }
             put_tuple(alloc, start, done)?;
             return Ok(());
         }
     }
     *place = text.len();
-    Err(Stop::Fault)
+    Err(ReadStop::Fault)
 }
 
-/// The term, at most `room` deep, at the front of a text that begins with it, and the text after it
+/// The term, at most `depth_left` deep, at the front of a text that begins with it, and the text after it
 /// and its blanks. The fault stands where the reading stops: at an integer, an atom or a string past
 /// the limits of terms, at the first element that would be too deep, or at what no text goes on with.
-pub fn read_term(alloc: Global, room: u16, text: &[u8]) -> Result<(Term, &[u8]), Fault>
-    requires { room ≤ 4096 }
-    ensures gives { Gives (λ x. (x.0, x.1.now)) result (term_at room text.now) }
-    ensures depth { IfOk result (λ x. depth_of x.0 ≤ room) }
+pub fn read_term(alloc: Global, depth_left: u16, text: &[u8]) -> Result<(Term, &[u8]), ReadFault>
+    requires { depth_left ≤ 4096 }
+    ensures gives { Gives (λ x. (x.0, x.1.now)) result (term_at depth_left text.now) }
+    ensures depth { IfOk result (λ x. depth_of x.0 ≤ depth_left) }
 {
     let mut rest = text;
     let mut done = Vec::new(alloc);
     let mut place = 0;
-    match read(alloc, room, &mut rest, &mut done, &mut place) {
+    match read(alloc, depth_left, &mut rest, &mut done, &mut place) {
         Ok(()) => match done.pop() {
             Some(term) => Ok((term, rest)),
             None => unreachable!(),
         },
-        Err(Stop::NoMemory) => Err(Fault::NoMemory),
-        Err(Stop::Fault) => Err(Fault::At(place)),
+        Err(ReadStop::NoMemory) => Err(ReadFault::NoMemory),
+        Err(ReadStop::Fault) => Err(ReadFault::At(place)),
     }
 }
 
 #[tactic(auto, unfolding(beam_model::specs::TextReading::read_text))]
-fn read_whole(alloc: Global, text: &[u8]) -> Result<Term, Fault>
+fn read_whole(alloc: Global, text: &[u8]) -> Result<Term, ReadFault>
     ensures { Gives (λ t. t) result (read_text text.now) }
 {
     let (term, rest) = read_term(alloc, MAX_DEPTH, skip_blanks(text))?;
     if !rest.is_empty() {
-        return Err(Fault::At(rest.len()));
+        return Err(ReadFault::At(rest.len()));
     }
     Ok(term)
 }
@@ -502,7 +502,7 @@ pub fn read_erl(alloc: Global, text: &str) -> Result<Term, TextError>
 {
     match read_whole(alloc, text.as_bytes()) {
         Ok(term) => Ok(term),
-        Err(Fault::NoMemory) => Err(TextError::NoMemory),
-        Err(Fault::At(left)) => Err(TextError::Syntax(line_at(text.as_bytes(), left))),
+        Err(ReadFault::NoMemory) => Err(TextError::NoMemory),
+        Err(ReadFault::At(left)) => Err(TextError::Syntax(line_at(text.as_bytes(), left))),
     }
 }

@@ -9,8 +9,8 @@ ghost use Rattle.beam_model.specs.Text.{is_digit};
 ghost use Rattle.beam_model.specs.TextReading.{is_blank, after_blanks, digits_after, digits_at, integer_at, hexadecimal_after, hexadecimal_at, code_point_at, escape_of, escape_at, quoted_at, name_len, checked_atom, unquoted_atom_at, atom_at, string_at};
 ghost use Rattle.beam_erltext.specs.Gives.{Gives};
 
-use crate::fault::Fault;
 use crate::print::{is_bare_atom, is_name_byte};
+use crate::read_fault::ReadFault;
 use beam_term::{Atom, AtomError};
 use std::alloc::{AllocError, Global};
 
@@ -45,7 +45,7 @@ fn is_digit_byte(byte: u8) -> bool
 const LIMIT: u64 = 1 << 59;
 
 #[tactic(auto, unfolding(beam_model::specs::TextReading::digits_after))]
-fn read_digits(text: &[u8]) -> Result<(u64, &[u8]), Fault>
+fn read_digits(text: &[u8]) -> Result<(u64, &[u8]), ReadFault>
     ensures gives { Gives (λ x. (x.0, x.1.now)) result (digits_after 0 text.now) }
     ensures small { IfOk result (λ x. x.0 ≤ 2 ^ 59) }
 {
@@ -57,7 +57,7 @@ fn read_digits(text: &[u8]) -> Result<(u64, &[u8]), Fault>
         }
         let more = 10 * value + (*first - b'0') as u64;
         if more > LIMIT {
-            return Err(Fault::At(rest.len()));
+            return Err(ReadFault::At(rest.len()));
         }
         value = more;
         rest = others;
@@ -66,15 +66,15 @@ fn read_digits(text: &[u8]) -> Result<(u64, &[u8]), Fault>
 }
 
 #[tactic(auto, unfolding(beam_model::specs::TextReading::digits_at))]
-fn read_number(text: &[u8]) -> Result<(u64, &[u8]), Fault>
+fn read_number(text: &[u8]) -> Result<(u64, &[u8]), ReadFault>
     ensures gives { Gives (λ x. (x.0, x.1.now)) result (digits_at text.now) }
     ensures small { IfOk result (λ x. x.0 ≤ 2 ^ 59) }
 {
     match text {
-        [] => Err(Fault::At(0)),
+        [] => Err(ReadFault::At(0)),
         [first, ..] => {
             if !is_digit_byte(*first) {
-                return Err(Fault::At(text.len()));
+                return Err(ReadFault::At(text.len()));
             }
             read_digits(text)
         }
@@ -83,12 +83,12 @@ fn read_number(text: &[u8]) -> Result<(u64, &[u8]), Fault>
 
 /// The integer at the front of the text: digits, or a minus sign right before digits.
 #[tactic(auto, unfolding(beam_model::specs::TextReading::integer_at))]
-pub fn read_integer(text: &[u8]) -> Result<(i64, &[u8]), Fault>
+pub fn read_integer(text: &[u8]) -> Result<(i64, &[u8]), ReadFault>
     ensures gives { Gives (λ x. (x.0, x.1.now)) result (integer_at text.now) }
     ensures small { IfOk result (λ x. IsSmall x.0) }
 {
     match text {
-        [] => Err(Fault::At(0)),
+        [] => Err(ReadFault::At(0)),
         [b'-', digits @ ..] => {
             let (size, rest) = read_number(digits)?;
             Ok((-(size as i64), skip_blanks(rest)))
@@ -96,7 +96,7 @@ pub fn read_integer(text: &[u8]) -> Result<(i64, &[u8]), Fault>
         _ => {
             let (size, rest) = read_number(text)?;
             if size == LIMIT {
-                return Err(Fault::At(text.len()));
+                return Err(ReadFault::At(text.len()));
             }
             Ok((size as i64, skip_blanks(rest)))
         }
@@ -104,7 +104,7 @@ pub fn read_integer(text: &[u8]) -> Result<(i64, &[u8]), Fault>
 }
 
 #[tactic(auto, unfolding(beam_model::specs::TextReading::hexadecimal_after))]
-fn read_hexadecimal_digits(text: &[u8]) -> Result<(u32, &[u8]), Fault>
+fn read_hexadecimal_digits(text: &[u8]) -> Result<(u32, &[u8]), ReadFault>
     ensures gives { Gives (λ x. (x.0, x.1.now)) result (hexadecimal_after 0 text.now) }
 {
     let mut value = 0;
@@ -114,27 +114,27 @@ fn read_hexadecimal_digits(text: &[u8]) -> Result<(u32, &[u8]), Fault>
             if *first == b'}' {
                 return Ok((value, others));
             }
-            return Err(Fault::At(rest.len()));
+            return Err(ReadFault::At(rest.len()));
         };
         let more = 16 * value + digit;
         if more >= 0x11_0000 {
-            return Err(Fault::At(rest.len()));
+            return Err(ReadFault::At(rest.len()));
         }
         value = more;
         rest = others;
     }
-    Err(Fault::At(0))
+    Err(ReadFault::At(0))
 }
 
 #[tactic(auto, unfolding(beam_model::specs::TextReading::hexadecimal_at))]
-fn read_hexadecimal(text: &[u8]) -> Result<(u32, &[u8]), Fault>
+fn read_hexadecimal(text: &[u8]) -> Result<(u32, &[u8]), ReadFault>
     ensures { Gives (λ x. (x.0, x.1.now)) result (hexadecimal_at text.now) }
 {
     match text {
-        [] => Err(Fault::At(0)),
+        [] => Err(ReadFault::At(0)),
         [first, ..] => {
             if (*first as char).to_digit(16).is_none() {
-                return Err(Fault::At(text.len()));
+                return Err(ReadFault::At(text.len()));
             }
             read_hexadecimal_digits(text)
         }
@@ -142,19 +142,19 @@ fn read_hexadecimal(text: &[u8]) -> Result<(u32, &[u8]), Fault>
 }
 
 #[tactic(auto, unfolding(beam_model::specs::TextReading::code_point_at))]
-fn read_code_point(text: &[u8]) -> Result<(char, &[u8]), Fault>
+fn read_code_point(text: &[u8]) -> Result<(char, &[u8]), ReadFault>
     ensures { Gives (λ x. (x.0, x.1.now)) result (code_point_at text.now) }
 {
     match text {
-        [] => Err(Fault::At(0)),
+        [] => Err(ReadFault::At(0)),
         [b'{', digits @ ..] => {
             let (code, rest) = read_hexadecimal(digits)?;
             match char::from_u32(code) {
                 Some(character) => Ok((character, rest)),
-                None => Err(Fault::At(text.len())),
+                None => Err(ReadFault::At(text.len())),
             }
         }
-        _ => Err(Fault::At(text.len())),
+        _ => Err(ReadFault::At(text.len())),
     }
 }
 
@@ -177,29 +177,29 @@ fn escaped_by(letter: u8) -> Option<u8>
 }
 
 #[tactic(auto, unfolding(beam_model::specs::TextReading::escape_at))]
-fn read_escape(text: &[u8]) -> Result<(char, &[u8]), Fault>
+fn read_escape(text: &[u8]) -> Result<(char, &[u8]), ReadFault>
     ensures { Gives (λ x. (x.0, x.1.now)) result (escape_at text.now) }
 {
     match text {
-        [] => Err(Fault::At(0)),
+        [] => Err(ReadFault::At(0)),
         [b'x', code @ ..] => read_code_point(code),
         [letter, rest @ ..] => match escaped_by(*letter) {
             Some(character) => Ok((character as char, rest)),
-            None => Err(Fault::At(text.len())),
+            None => Err(ReadFault::At(text.len())),
         },
     }
 }
 
 // The bytes up to the closing quote, and the text after it.
 #[tactic(auto, unfolding(beam_model::specs::TextReading::quoted_within))]
-fn read_quoted(alloc: Global, quote: u8, text: &[u8]) -> Result<(Vec<u8>, &[u8]), Fault>
+fn read_quoted(alloc: Global, quote: u8, text: &[u8]) -> Result<(Vec<u8>, &[u8]), ReadFault>
     ensures { Gives (λ x. (x.0.items, x.1.now)) result (quoted_at quote text.now) }
 {
     let mut content = Vec::new(alloc);
     let mut rest = text;
     for _ in 0..text.len() {
         let Some((first, others)) = rest.split_first() else {
-            return Err(Fault::At(0));
+            return Err(ReadFault::At(0));
         };
         if *first == quote {
             return Ok((content, others));
@@ -213,7 +213,7 @@ fn read_quoted(alloc: Global, quote: u8, text: &[u8]) -> Result<(Vec<u8>, &[u8])
             rest = others;
         }
     }
-    Err(Fault::At(rest.len()))
+    Err(ReadFault::At(rest.len()))
 }
 
 fn push_character(content: &mut Vec<u8>, character: char) -> Result<(), AllocError>
@@ -249,32 +249,32 @@ fn made_atom<'a>(
     text: &'a [u8],
     name: &[u8],
     rest: &'a [u8],
-) -> Result<(Atom, &'a [u8]), Fault>
+) -> Result<(Atom, &'a [u8]), ReadFault>
     ensures { Gives (λ x. (x.0, x.1.now)) result (checked_atom text.now name.now rest.now) }
 {
     let Some(name) = checked_text(name) else {
-        return Err(Fault::At(text.len()));
+        return Err(ReadFault::At(text.len()));
     };
     match Atom::new(alloc, name) {
         Ok(atom) => Ok((atom, skip_blanks(rest))),
-        Err(AtomError::TooLong) => Err(Fault::At(text.len())),
-        Err(AtomError::NoMemory) => Err(Fault::NoMemory),
+        Err(AtomError::TooLong) => Err(ReadFault::At(text.len())),
+        Err(AtomError::NoMemory) => Err(ReadFault::NoMemory),
     }
 }
 
-fn read_bare_atom(alloc: Global, text: &[u8]) -> Result<(Atom, &[u8]), Fault>
+fn read_bare_atom(alloc: Global, text: &[u8]) -> Result<(Atom, &[u8]), ReadFault>
     ensures { Gives (λ x. (x.0, x.1.now)) result (unquoted_atom_at text.now) }
 {
     let (name, rest) = text.split_at(name_length(text));
     if !is_bare_atom(name) {
-        return Err(Fault::At(text.len()));
+        return Err(ReadFault::At(text.len()));
     }
     made_atom(alloc, text, name, rest)
 }
 
 /// The atom at the front of the text, bare or in quotes.
 #[tactic(auto, unfolding(beam_model::specs::TextReading::atom_at))]
-pub fn read_atom(alloc: Global, text: &[u8]) -> Result<(Atom, &[u8]), Fault>
+pub fn read_atom(alloc: Global, text: &[u8]) -> Result<(Atom, &[u8]), ReadFault>
     ensures { Gives (λ x. (x.0, x.1.now)) result (atom_at text.now) }
 {
     match text {
@@ -288,16 +288,16 @@ pub fn read_atom(alloc: Global, text: &[u8]) -> Result<(Atom, &[u8]), Fault>
 
 /// The text in double quotes at the front of the text, which begins with a double quote.
 #[tactic(auto, unfolding(beam_model::specs::TextReading::string_at))]
-pub fn read_string(alloc: Global, text: &[u8]) -> Result<(String, &[u8]), Fault>
+pub fn read_string(alloc: Global, text: &[u8]) -> Result<(String, &[u8]), ReadFault>
     ensures { Gives (λ x. (string_bytes x.0, x.1.now)) result (string_at text.now) }
 {
     match text {
-        [] => Err(Fault::At(0)),
+        [] => Err(ReadFault::At(0)),
         [_, quoted @ ..] => {
             let (bytes, rest) = read_quoted(alloc, b'"', quoted)?;
             match checked_text(&bytes) {
                 Some(string) => Ok((String::from_str(alloc, string)?, skip_blanks(rest))),
-                None => Err(Fault::At(text.len())),
+                None => Err(ReadFault::At(text.len())),
             }
         }
     }

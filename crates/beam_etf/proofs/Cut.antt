@@ -10,8 +10,8 @@ use Rattle.beam_etf.specs.declared.error.EtfError.{EtfError}
 use Rattle.beam_etf.specs.declared.error.EtfError.TheVariants.{Truncated, BadTag, OutOfProfile, IntegerTooLarge, TooDeep, BadUtf8, NoMemory}
 use Rattle.beam_model.specs.ExternalReading.{external_at}
 use Rattle.beam_etf.specs.Faults.{fault_of}
-use Rattle.beam_etf.proofs.Again.{external_again}
-use Rattle.beam_etf.proofs.Found.{ok_is}
+use Rattle.beam_etf.proofs.ReadingComplete.{external_again}
+use Rattle.beam_etf.proofs.ReadingSound.{ok_is}
 use Rattle.beam_etf.proofs.Grows.{Grown, external_grows}
 
 none_but_truncated : (f : ExternalFault) → (f ≢ truncated → ⊥) → f ≡ truncated

@@ -14,7 +14,7 @@ use Rattle.beam_model.specs.declared.external.Form.TheVariants as forms
 use Rattle.beam_model.specs.ExternalForm.{form_of}
 use Rattle.beam_model.specs.ExternalReading.{◌>>=◌, bytes_at, big_endian_at, byte_at, text_at, signed, greatest, big_at, small_atom_at, long_atom_at, atom_of_form, external_atom_at, pid_at, words_at, reference_at, leaf_at, Inner, text_list, external_string_at, pair_at, external_list_at, items_at, external_tuple_at, term_of_form, empty_list, after_empty_lists, whole_at, read_at, external_at}
 use Rattle.beam_etf.proofs.Empty.{skip_none}
-use Rattle.beam_etf.proofs.Found.{counted_at}
+use Rattle.beam_etf.proofs.ReadingSound.{counted_at}
 
 -- the result of reading where more bytes follow
 abbrev pub Grown : {A : Type 0} → List ℕ → Result (A × List ℕ) ExternalFault → Result (A × List ℕ) ExternalFault → Type 0
@@ -140,11 +140,11 @@ leaf_grows form bytes more = λ n. refl
 abbrev InnerGrows : Inner → Type 0
 InnerGrows inner = (n : ℕ) → Grows (inner n)
 
-string_grows : (room : ℕ) → Grows (external_string_at room)
+string_grows : (depth_left : ℕ) → Grows (external_string_at depth_left)
 unfolding external_string_at
-string_grows room bytes more =
-    grown_bind more (big_endian_at w16 bytes) _ (λ count. cond (ltb room count.0) (Err too_deep) (bytes_at count.0 count.1 >>= λ text. Ok (text_list text.0, text.1))) (number_grows w16 bytes more)
-    (λ count rest. grown_guard more (ltb room count) too_deep _ _
+string_grows depth_left bytes more =
+    grown_bind more (big_endian_at w16 bytes) _ (λ count. cond (ltb depth_left count.0) (Err too_deep) (bytes_at count.0 count.1 >>= λ text. Ok (text_list text.0, text.1))) (number_grows w16 bytes more)
+    (λ count rest. grown_guard more (ltb depth_left count) too_deep _ _
     (grown_bind more (bytes_at count rest) _ (λ text. Ok (text_list text.0, text.1)) (bytes_grow count rest more) (λ text last. refl)))
 
 pair_grows : (inner : Inner) → InnerGrows inner → (n : ℕ) → Grows (pair_at inner n)
@@ -153,10 +153,10 @@ pair_grows inner h n bytes more =
     grown_bind more (inner 0 bytes) _ (λ head. inner n head.1 >>= λ last. Ok (pair_term head.0 last.0, last.1)) (h 0 bytes more)
     (λ head rest. grown_bind more (inner n rest) _ (λ last. Ok (pair_term head last.0, last.1)) (h n rest more) (λ last after. refl))
 
-list_grows : (inner : Inner) → InnerGrows inner → (room count : ℕ) → Grows (external_list_at inner room count)
+list_grows : (inner : Inner) → InnerGrows inner → (depth_left count : ℕ) → Grows (external_list_at inner depth_left count)
 unfolding external_list_at
-list_grows inner h room zero bytes more = λ n. refl
-list_grows inner h room (suc count) bytes more = grown_guard more (ltb room (suc count)) too_deep _ _ (pair_grows inner h count bytes more)
+list_grows inner h depth_left zero bytes more = λ n. refl
+list_grows inner h depth_left (suc count) bytes more = grown_guard more (ltb depth_left (suc count)) too_deep _ _ (pair_grows inner h count bytes more)
 
 items_grow : (item : List ℕ → Result (TermValue × List ℕ) ExternalFault) → Grows item → (n : ℕ) → Grows (items_at item n)
 unfolding items_at
@@ -165,65 +165,65 @@ items_grow item h (suc n) bytes more =
     grown_bind more (item bytes) _ (λ first. items_at item n first.1 >>= λ others. Ok (first.0 ∷ others.0, others.1)) (h bytes more)
     (λ first rest. grown_bind more (items_at item n rest) _ (λ others. Ok (first ∷ others.0, others.1)) (items_grow item h n rest more) (λ others after. refl))
 
-tuple_grows : (inner : Inner) → InnerGrows inner → (room count : ℕ) → Grows (external_tuple_at inner room count)
+tuple_grows : (inner : Inner) → InnerGrows inner → (depth_left count : ℕ) → Grows (external_tuple_at inner depth_left count)
 unfolding external_tuple_at
-tuple_grows inner h room count bytes more =
-    grown_guard more (eqb room 0) too_deep _ _
+tuple_grows inner h depth_left count bytes more =
+    grown_guard more (eqb depth_left 0) too_deep _ _
     (grown_bind more (items_at (inner 0) count bytes) _ (λ items. Ok (tuple_of items.0, items.1)) (items_grow (inner 0) (h 0) count bytes more) (λ items rest. refl))
 
-form_grows : (inner : Inner) → InnerGrows inner → (room : ℕ) (form : Form) → Grows (term_of_form inner room form)
+form_grows : (inner : Inner) → InnerGrows inner → (depth_left : ℕ) (form : Form) → Grows (term_of_form inner depth_left form)
 unfolding term_of_form
-form_grows inner h room forms.String bytes more = string_grows room bytes more
-form_grows inner h room forms.List bytes more =
-    grown_bind more (big_endian_at w32 bytes) _ (λ count. external_list_at inner room count.0 count.1) (number_grows w32 bytes more) (λ count rest. list_grows inner h room count rest more)
-form_grows inner h room forms.SmallTuple bytes more =
-    grown_bind more (byte_at bytes) _ (λ count. external_tuple_at inner room count.0 count.1) (byte_grows bytes more) (λ count rest. tuple_grows inner h room count rest more)
-form_grows inner h room forms.LargeTuple bytes more =
-    grown_bind more (big_endian_at w32 bytes) _ (λ count. external_tuple_at inner room count.0 count.1) (number_grows w32 bytes more) (λ count rest. tuple_grows inner h room count rest more)
-form_grows inner h room form bytes more = leaf_grows form bytes more
+form_grows inner h depth_left forms.String bytes more = string_grows depth_left bytes more
+form_grows inner h depth_left forms.List bytes more =
+    grown_bind more (big_endian_at w32 bytes) _ (λ count. external_list_at inner depth_left count.0 count.1) (number_grows w32 bytes more) (λ count rest. list_grows inner h depth_left count rest more)
+form_grows inner h depth_left forms.SmallTuple bytes more =
+    grown_bind more (byte_at bytes) _ (λ count. external_tuple_at inner depth_left count.0 count.1) (byte_grows bytes more) (λ count rest. tuple_grows inner h depth_left count rest more)
+form_grows inner h depth_left forms.LargeTuple bytes more =
+    grown_bind more (big_endian_at w32 bytes) _ (λ count. external_tuple_at inner depth_left count.0 count.1) (number_grows w32 bytes more) (λ count rest. tuple_grows inner h depth_left count rest more)
+form_grows inner h depth_left form bytes more = leaf_grows form bytes more
 
 -- the front of a term, where no list of no elements stands before it
-front_grows : (inner : Inner) → InnerGrows inner → (room : ℕ) → Grows (λ bytes. byte_at bytes >>= λ tag. term_of_form inner room (form_of tag.0) tag.1)
-front_grows inner h room bytes more =
-    grown_bind more (byte_at bytes) _ (λ tag. term_of_form inner room (form_of tag.0) tag.1) (byte_grows bytes more) (λ tag rest. form_grows inner h room (form_of tag) rest more)
+front_grows : (inner : Inner) → InnerGrows inner → (depth_left : ℕ) → Grows (λ bytes. byte_at bytes >>= λ tag. term_of_form inner depth_left (form_of tag.0) tag.1)
+front_grows inner h depth_left bytes more =
+    grown_bind more (byte_at bytes) _ (λ tag. term_of_form inner depth_left (form_of tag.0) tag.1) (byte_grows bytes more) (λ tag rest. form_grows inner h depth_left (form_of tag) rest more)
 
 not_list : (tag : ℕ) (xs : List ℕ) → eqb 108 tag ≡ false → starts_with nat_eq (tag ∷ xs) empty_list ≡ false
 not_list tag xs h = rw h refl
 
 -- a tag with fewer than four bytes after it
-short_grows : (inner : Inner) → InnerGrows inner → (room tag : ℕ) (xs more : List ℕ) → big_endian_at w32 xs ≡ Err truncated → after_empty_lists (tag ∷ xs) ≡ tag ∷ xs
-    → Grown more (whole_at inner room (tag ∷ xs)) (whole_at inner room (tag ∷ (xs ++ more)))
+short_grows : (inner : Inner) → InnerGrows inner → (depth_left tag : ℕ) (xs more : List ℕ) → big_endian_at w32 xs ≡ Err truncated → after_empty_lists (tag ∷ xs) ≡ tag ∷ xs
+    → Grown more (whole_at inner depth_left (tag ∷ xs)) (whole_at inner depth_left (tag ∷ (xs ++ more)))
 unfolding whole_at byte_at term_of_form form_of
-short_grows inner h room tag xs more cut same = by (eqb 108 tag) refl
+short_grows inner h depth_left tag xs more cut same = by (eqb 108 tag) refl
   where
-    by : (b : Bool) → eqb 108 tag ≡ b → Grown more (whole_at inner room (tag ∷ xs)) (whole_at inner room (tag ∷ (xs ++ more)))
+    by : (b : Bool) → eqb 108 tag ≡ b → Grown more (whole_at inner depth_left (tag ∷ xs)) (whole_at inner depth_left (tag ∷ (xs ++ more)))
     by true e =
         let is : 108 ≡ tag = eqb-true 108 tag e in
-        let fault : whole_at inner room (108 ∷ xs) ≡ Err truncated = rw (ap (λ (t : ℕ). after_empty_lists (t ∷ xs)) is ∙ same ∙ (λ i. sym is i ∷ xs), cut) refl in
-        subst (λ (t : ℕ). Grown more (whole_at inner room (t ∷ xs)) (whole_at inner room (t ∷ (xs ++ more)))) is (rw fault (λ n. absurd (n refl)))
-    by false e = rw (same, skip_none (tag ∷ (xs ++ more)) (not_list tag (xs ++ more) e)) (front_grows inner h room (tag ∷ xs) more)
+        let fault : whole_at inner depth_left (108 ∷ xs) ≡ Err truncated = rw (ap (λ (t : ℕ). after_empty_lists (t ∷ xs)) is ∙ same ∙ (λ i. sym is i ∷ xs), cut) refl in
+        subst (λ (t : ℕ). Grown more (whole_at inner depth_left (t ∷ xs)) (whole_at inner depth_left (t ∷ (xs ++ more)))) is (rw fault (λ n. absurd (n refl)))
+    by false e = rw (same, skip_none (tag ∷ (xs ++ more)) (not_list tag (xs ++ more) e)) (front_grows inner h depth_left (tag ∷ xs) more)
 
-whole_grows : (inner : Inner) → InnerGrows inner → (room : ℕ) → Grows (whole_at inner room)
+whole_grows : (inner : Inner) → InnerGrows inner → (depth_left : ℕ) → Grows (whole_at inner depth_left)
 unfolding whole_at byte_at after_empty_lists big_endian_at bytes_at
-whole_grows inner h room [] more = λ n. absurd (n refl)
-whole_grows inner h room (a ∷ []) more = short_grows inner h room a [] more refl refl
-whole_grows inner h room (a ∷ b ∷ []) more = short_grows inner h room a (b ∷ []) more refl refl
-whole_grows inner h room (a ∷ b ∷ c ∷ []) more = short_grows inner h room a (b ∷ c ∷ []) more refl refl
-whole_grows inner h room (a ∷ b ∷ c ∷ d ∷ []) more = short_grows inner h room a (b ∷ c ∷ d ∷ []) more refl refl
-whole_grows inner h room (a ∷ b ∷ c ∷ d ∷ e ∷ others) more = by (whole_grows inner h room others more) (starts_with nat_eq (a ∷ b ∷ c ∷ d ∷ e ∷ others) empty_list)
+whole_grows inner h depth_left [] more = λ n. absurd (n refl)
+whole_grows inner h depth_left (a ∷ []) more = short_grows inner h depth_left a [] more refl refl
+whole_grows inner h depth_left (a ∷ b ∷ []) more = short_grows inner h depth_left a (b ∷ []) more refl refl
+whole_grows inner h depth_left (a ∷ b ∷ c ∷ []) more = short_grows inner h depth_left a (b ∷ c ∷ []) more refl refl
+whole_grows inner h depth_left (a ∷ b ∷ c ∷ d ∷ []) more = short_grows inner h depth_left a (b ∷ c ∷ d ∷ []) more refl refl
+whole_grows inner h depth_left (a ∷ b ∷ c ∷ d ∷ e ∷ others) more = by (whole_grows inner h depth_left others more) (starts_with nat_eq (a ∷ b ∷ c ∷ d ∷ e ∷ others) empty_list)
   where
-    by : Grown more (whole_at inner room others) (whole_at inner room (others ++ more)) → (test : Bool)
-        → Grown more (byte_at (cond test (after_empty_lists others) (a ∷ b ∷ c ∷ d ∷ e ∷ others)) >>= λ tag. term_of_form inner room (form_of tag.0) tag.1)
-        (byte_at (cond test (after_empty_lists (others ++ more)) (a ∷ b ∷ c ∷ d ∷ e ∷ (others ++ more))) >>= λ tag. term_of_form inner room (form_of tag.0) tag.1)
+    by : Grown more (whole_at inner depth_left others) (whole_at inner depth_left (others ++ more)) → (test : Bool)
+        → Grown more (byte_at (cond test (after_empty_lists others) (a ∷ b ∷ c ∷ d ∷ e ∷ others)) >>= λ tag. term_of_form inner depth_left (form_of tag.0) tag.1)
+        (byte_at (cond test (after_empty_lists (others ++ more)) (a ∷ b ∷ c ∷ d ∷ e ∷ (others ++ more))) >>= λ tag. term_of_form inner depth_left (form_of tag.0) tag.1)
     by k true = k
-    by k false = front_grows inner h room (a ∷ b ∷ c ∷ d ∷ e ∷ others) more
+    by k false = front_grows inner h depth_left (a ∷ b ∷ c ∷ d ∷ e ∷ others) more
 
-read_grows : (room : ℕ) → InnerGrows (read_at room)
+read_grows : (depth_left : ℕ) → InnerGrows (read_at depth_left)
 unfolding read_at
 read_grows zero zero bytes more = whole_grows (λ n rest. Err too_deep) (λ n rest others k. refl) 0 bytes more
 read_grows zero (suc n) bytes more = λ k. refl
-read_grows (suc room) zero bytes more = whole_grows (read_at room) (read_grows room) (suc room) bytes more
-read_grows (suc room) (suc n) bytes more = pair_grows (read_at room) (read_grows room) n bytes more
+read_grows (suc depth_left) zero bytes more = whole_grows (read_at depth_left) (read_grows depth_left) (suc depth_left) bytes more
+read_grows (suc depth_left) (suc n) bytes more = pair_grows (read_at depth_left) (read_grows depth_left) n bytes more
 
 pub external_grows : Grows external_at
 unfolding external_at

@@ -1,11 +1,11 @@
-pub mod Again
-pub mod Back
+pub mod ReadingComplete
+pub mod RoundTrip
 pub mod Cut
 pub mod Empty
 pub mod Exits
 pub mod Faults
-pub mod Found
-pub mod FoundParts
+pub mod ReadingSound
+pub mod ReadingSoundParts
 pub mod Grows
 pub mod Integers
 pub mod Lengths

@@ -50,26 +50,26 @@ regroup_list : (front : List TermValue) (t : TermValue) (read : Result (TermValu
 regroup_list front t (Ok x) = ap (λ (u : TermValue). Ok (u, x.1)) (sym (list_before-append front (t ∷ []) x.0))
 regroup_list front t (Err e) = refl
 
-pub list_go_on : (front : List TermValue) (room left count i : ℕ) (bytes : List ℕ) (t : TermValue) (after : List ℕ) (total : Result (TermValue × List ℕ) ExternalFault)
-    → i < count → room ≡ suc left → read_at left 0 bytes ≡ Ok (t, after) → before_list front (read_at room (count - i) bytes) ≡ total → before_list (front ++ t ∷ []) (read_at left (count - (i + 1)) after) ≡ total
+pub list_go_on : (front : List TermValue) (depth_left left count i : ℕ) (bytes : List ℕ) (t : TermValue) (after : List ℕ) (total : Result (TermValue × List ℕ) ExternalFault)
+    → i < count → depth_left ≡ suc left → read_at left 0 bytes ≡ Ok (t, after) → before_list front (read_at depth_left (count - i) bytes) ≡ total → before_list (front ++ t ∷ []) (read_at left (count - (i + 1)) after) ≡ total
 unfolding read_at pair_at
-list_go_on front room left count i bytes t after total lt r h so_far =
+list_go_on front depth_left left count i bytes t after total lt r h so_far =
     let k : count - i ≡ suc (count - (i + 1)) = omega arith in
-    let one : before_list front (read_at room (count - i) bytes) ≡ before_list (front ++ t ∷ []) (read_at left (count - (i + 1)) after) = rw (k, r, h) (regroup_list front t (read_at left (count - (i + 1)) after)) in
+    let one : before_list front (read_at depth_left (count - i) bytes) ≡ before_list (front ++ t ∷ []) (read_at left (count - (i + 1)) after) = rw (k, r, h) (regroup_list front t (read_at left (count - (i + 1)) after)) in
     sym one ∙ so_far
 
-pub list_ends : (e : ExternalFault) (front : List TermValue) (room left count i : ℕ) (bytes : List ℕ) (total : Result (TermValue × List ℕ) ExternalFault)
-    → i < count → room ≡ suc left → read_at left 0 bytes ≡ Err e → before_list front (read_at room (count - i) bytes) ≡ total → total ≡ Err e
+pub list_ends : (e : ExternalFault) (front : List TermValue) (depth_left left count i : ℕ) (bytes : List ℕ) (total : Result (TermValue × List ℕ) ExternalFault)
+    → i < count → depth_left ≡ suc left → read_at left 0 bytes ≡ Err e → before_list front (read_at depth_left (count - i) bytes) ≡ total → total ≡ Err e
 unfolding read_at pair_at
-list_ends e front room left count i bytes total lt r h so_far =
+list_ends e front depth_left left count i bytes total lt r h so_far =
     let k : count - i ≡ suc (count - (i + 1)) = omega arith in
-    let one : before_list front (read_at room (count - i) bytes) ≡ Err e = rw (k, r, h) refl in
+    let one : before_list front (read_at depth_left (count - i) bytes) ≡ Err e = rw (k, r, h) refl in
     sym so_far ∙ one
 
 -- the tail, where all elements were read
-pub list_tail : (front : List TermValue) (room count i : ℕ) (bytes : List ℕ) (total : Result (TermValue × List ℕ) ExternalFault)
-    → count ≤ i → before_list front (read_at room (count - i) bytes) ≡ total → total ≡ before_list front (read_at room 0 bytes)
-list_tail front room count i bytes total le so_far =
+pub list_tail : (front : List TermValue) (depth_left count i : ℕ) (bytes : List ℕ) (total : Result (TermValue × List ℕ) ExternalFault)
+    → count ≤ i → before_list front (read_at depth_left (count - i) bytes) ≡ total → total ≡ before_list front (read_at depth_left 0 bytes)
+list_tail front depth_left count i bytes total le so_far =
     let k : count - i ≡ 0 = omega arith in
-    let one : before_list front (read_at room (count - i) bytes) ≡ before_list front (read_at room 0 bytes) = rw k refl in
+    let one : before_list front (read_at depth_left (count - i) bytes) ≡ before_list front (read_at depth_left 0 bytes) = rw k refl in
     sym so_far ∙ one

@@ -5,34 +5,34 @@ use Rattle.beam_model.specs.ExternalReading.{◌>>=◌, read_at, below, external
 use Rattle.beam_term.specs.TermValue.{TermValue, tuple_of}
 use Rattle.beam_model.specs.ExternalFault.{ExternalFault}
 
-pub read_at-whole : (room : ℕ) (bytes : List ℕ) → read_at room 0 bytes ≡ whole_at (below room) room bytes
+pub read_at-whole : (depth_left : ℕ) (bytes : List ℕ) → read_at depth_left 0 bytes ≡ whole_at (below depth_left) depth_left bytes
 unfolding read_at below
 read_at-whole zero bytes = refl
-read_at-whole (suc room) bytes = refl
+read_at-whole (suc depth_left) bytes = refl
 
 abbrev pub as_tuple : Result (List TermValue × List ℕ) ExternalFault → Result (TermValue × List ℕ) ExternalFault
 as_tuple read = read >>= λ items. Ok (tuple_of items.0, items.1)
 
-not_zero : (room : ℕ) → eqb (suc room) 0 ≡ false
-not_zero room = by (eqb (suc room) 0) refl
+not_zero : (depth_left : ℕ) → eqb (suc depth_left) 0 ≡ false
+not_zero depth_left = by (eqb (suc depth_left) 0) refl
   where
-    by : (b : Bool) → eqb (suc room) 0 ≡ b → b ≡ false
-    by true e = absurd (omega (arith, eqb-true (suc room) 0 e))
+    by : (b : Bool) → eqb (suc depth_left) 0 ≡ b → b ≡ false
+    by true e = absurd (omega (arith, eqb-true (suc depth_left) 0 e))
     by false e = refl
 
 -- the elements of a tuple have one level of room less
-pub tuple_at-items : (room part count : ℕ) (bytes : List ℕ) → room ≡ suc part → external_tuple_at (below room) room count bytes ≡ as_tuple (items_at (read_at part 0) count bytes)
+pub tuple_at-items : (depth_left part count : ℕ) (bytes : List ℕ) → depth_left ≡ suc part → external_tuple_at (below depth_left) depth_left count bytes ≡ as_tuple (items_at (read_at part 0) count bytes)
 unfolding below external_tuple_at
 tuple_at-items zero part count bytes e = absurd (omega arith)
-tuple_at-items (suc room) part count bytes e =
-    let same : room ≡ part = omega arith in
-    rw (not_zero room) (ap (λ (r : ℕ). as_tuple (items_at (read_at r 0) count bytes)) same)
+tuple_at-items (suc depth_left) part count bytes e =
+    let same : depth_left ≡ part = omega arith in
+    rw (not_zero depth_left) (ap (λ (r : ℕ). as_tuple (items_at (read_at r 0) count bytes)) same)
 
 -- a list that has room for its elements
-pub list_at-read : (room count : ℕ) (bytes : List ℕ) → 1 ≤ count → count ≤ room → external_list_at (below room) room count bytes ≡ read_at room count bytes
+pub list_at-read : (depth_left count : ℕ) (bytes : List ℕ) → 1 ≤ count → count ≤ depth_left → external_list_at (below depth_left) depth_left count bytes ≡ read_at depth_left count bytes
 unfolding external_list_at read_at below pair_at
-list_at-read room zero bytes h k = absurd (omega arith)
+list_at-read depth_left zero bytes h k = absurd (omega arith)
 list_at-read zero (suc n) bytes h k = absurd (omega arith)
-list_at-read (suc room) (suc n) bytes h k = rw (le-ltb (suc room) (suc n) k) refl
+list_at-read (suc depth_left) (suc n) bytes h k = rw (le-ltb (suc depth_left) (suc n) k) refl
 
 pub ruleset rooms = (read_at-whole, list_at-read)

@@ -18,9 +18,9 @@ Puts read rest old new (Ok _) = (t : TermValue) × (new ≡ old ++ t ∷ []) × 
 Puts read rest old new (Err e) = e ≢ NoMemory → read ≡ Err (fault_of e)
 
 abbrev pub begins_with : ℕ → Front → List ℕ → Result (TermValue × List ℕ) ExternalFault
-begins_with room (front.Whole t) rest = Ok (t, rest)
-begins_with room (front.List count) rest = external_list_at (below room) room count rest
-begins_with room (front.Tuple count) rest = external_tuple_at (below room) room count rest
+begins_with depth_left (front.Whole t) rest = Ok (t, rest)
+begins_with depth_left (front.List count) rest = external_list_at (below depth_left) depth_left count rest
+begins_with depth_left (front.Tuple count) rest = external_tuple_at (below depth_left) depth_left count rest
 
 -- a list that is read has elements
 abbrev pub HasElements : Front → Type 0
@@ -29,12 +29,12 @@ HasElements _ = Unit {0}
 
 -- the front of a term at the front of these bytes
 abbrev pub BeginsWith : ℕ → List ℕ → Result (Front × Bor (List ℕ)) EtfError → Type 0
-BeginsWith room bytes (Ok x) = whole_at (below room) room bytes ≡ begins_with room x.0 x.1.now
-BeginsWith room bytes (Err e) = e ≢ NoMemory → whole_at (below room) room bytes ≡ Err (fault_of e)
+BeginsWith depth_left bytes (Ok x) = whole_at (below depth_left) depth_left bytes ≡ begins_with depth_left x.0 x.1.now
+BeginsWith depth_left bytes (Err e) = e ≢ NoMemory → whole_at (below depth_left) depth_left bytes ≡ Err (fault_of e)
 
 -- a whole term goes onto the stack; of a list and a tuple the parts are still to be read
 abbrev pub LeavesParts : ℕ → List ℕ → List ℕ → List TermValue → List TermValue → Result Parts EtfError → Type 0
-LeavesParts room bytes rest old new (Ok parts.None) = (t : TermValue) × (new ≡ old ++ t ∷ []) × (whole_at (below room) room bytes ≡ Ok (t, rest))
-LeavesParts room bytes rest old new (Ok (parts.List count)) = (new ≡ old) × (1 ≤ count) × (whole_at (below room) room bytes ≡ external_list_at (below room) room count rest)
-LeavesParts room bytes rest old new (Ok (parts.Tuple count)) = (new ≡ old) × (whole_at (below room) room bytes ≡ external_tuple_at (below room) room count rest)
-LeavesParts room bytes rest old new (Err e) = e ≢ NoMemory → whole_at (below room) room bytes ≡ Err (fault_of e)
+LeavesParts depth_left bytes rest old new (Ok parts.None) = (t : TermValue) × (new ≡ old ++ t ∷ []) × (whole_at (below depth_left) depth_left bytes ≡ Ok (t, rest))
+LeavesParts depth_left bytes rest old new (Ok (parts.List count)) = (new ≡ old) × (1 ≤ count) × (whole_at (below depth_left) depth_left bytes ≡ external_list_at (below depth_left) depth_left count rest)
+LeavesParts depth_left bytes rest old new (Ok (parts.Tuple count)) = (new ≡ old) × (whole_at (below depth_left) depth_left bytes ≡ external_tuple_at (below depth_left) depth_left count rest)
+LeavesParts depth_left bytes rest old new (Err e) = e ≢ NoMemory → whole_at (below depth_left) depth_left bytes ≡ Err (fault_of e)

@@ -1,4 +1,4 @@
-// Terms with parts. `room` is how many levels of pairs and tuples may still nest.
+// Terms with parts. `depth_left` is how many levels of pairs and tuples may still nest.
 ghost use Rattle.std.specs.Prelude.{◌≡◌, ◌≢◌, ◌≤◌, ◌<◌, ◌^◌, ◌⊎◌, ◌∷◌, ◌++◌, ℕ, List, [], IfOk, IfErr, MatchResult, Ok, Err, ◌↔◌, length, vec_len, take, drop};
 ghost use Rattle.beam_term.specs.TermValue.{TermValue, list_before, tuple_of, depth_of};
 ghost use Rattle.beam_model.specs.External.{IsExternal};
@@ -33,12 +33,12 @@ fn text_list(alloc: Global, text: &[u8]) -> Result<Term, TermError>
 }
 
 #[tactic(auto, unfolding(beam_model::specs::ExternalReading::external_string_at))]
-fn read_string(alloc: Global, room: u16, bytes: &[u8]) -> Result<(Term, &[u8]), EtfError>
-    requires { room ≤ 4096 }
-    ensures { Gives (λ x. (x.0, x.1.now)) result (external_string_at room bytes.now) }
+fn read_string(alloc: Global, depth_left: u16, bytes: &[u8]) -> Result<(Term, &[u8]), EtfError>
+    requires { depth_left ≤ 4096 }
+    ensures { Gives (λ x. (x.0, x.1.now)) result (external_string_at depth_left bytes.now) }
 {
     let (count, rest) = read_u16(bytes)?;
-    if count > room {
+    if count > depth_left {
         return Err(EtfError::TooDeep);
     }
     let (text, rest) = read_bytes(count as usize, rest)?;
@@ -66,15 +66,15 @@ enum Front {
 }
 
 #[tactic(auto, unfolding(beam_model::specs::ExternalReading::whole_at, beam_model::specs::ExternalReading::term_of_form))]
-fn read_front(alloc: Global, room: u16, bytes: &[u8]) -> Result<(Front, &[u8]), EtfError>
-    requires { room ≤ 4096 }
-    ensures front { BeginsWith room bytes.now result }
+fn read_front(alloc: Global, depth_left: u16, bytes: &[u8]) -> Result<(Front, &[u8]), EtfError>
+    requires { depth_left ≤ 4096 }
+    ensures front { BeginsWith depth_left bytes.now result }
     ensures some { IfOk result (λ x. HasElements x.0) }
 {
     let (tag, rest) = read_byte(after_empty_lists(bytes))?;
     match form_of(tag) {
         Form::String => {
-            let (text, rest) = read_string(alloc, room, rest)?;
+            let (text, rest) = read_string(alloc, depth_left, rest)?;
             Ok((Front::Whole(text), rest))
         }
         Form::List => {
@@ -106,11 +106,16 @@ enum Parts {
 
 // Reads the front of a term; a whole term goes onto the stack. Not inlined, so that the recursion's frames stay small.
 #[inline(never)]
-fn next(alloc: Global, room: u16, rest: &mut &[u8], done: &mut Vec<Term>) -> Result<Parts, EtfError>
-    requires { room ≤ 4096 }
-    ensures { LeavesParts room rest.old.now rest.new.now done.old.items done.new.items result }
+fn next(
+    alloc: Global,
+    depth_left: u16,
+    rest: &mut &[u8],
+    done: &mut Vec<Term>,
+) -> Result<Parts, EtfError>
+    requires { depth_left ≤ 4096 }
+    ensures { LeavesParts depth_left rest.old.now rest.new.now done.old.items done.new.items result }
 {
-    let (front, after) = read_front(alloc, room, *rest)?;
+    let (front, after) = read_front(alloc, depth_left, *rest)?;
     *rest = after;
     match front {
         Front::Whole(term) => {
@@ -157,14 +162,19 @@ fn put_tuple(alloc: Global, start: usize, done: &mut Vec<Term>) -> Result<(), Te
 
 // Reads a term and puts it onto the stack of the terms that were read.
 #[cycle(read)]
-fn read(alloc: Global, room: u16, rest: &mut &[u8], done: &mut Vec<Term>) -> Result<(), EtfError>
-    requires { room ≤ 4096 }
-    ensures { Puts (whole_at (below room) room rest.old.now) rest.new.now done.old.items done.new.items result }
+fn read(
+    alloc: Global,
+    depth_left: u16,
+    rest: &mut &[u8],
+    done: &mut Vec<Term>,
+) -> Result<(), EtfError>
+    requires { depth_left ≤ 4096 }
+    ensures { Puts (whole_at (below depth_left) depth_left rest.old.now) rest.new.now done.old.items done.new.items result }
 {
-    match next(alloc, room, rest, done)? {
+    match next(alloc, depth_left, rest, done)? {
         Parts::None => Ok(()),
-        Parts::List(count) => read_list(alloc, room, count, rest, done),
-        Parts::Tuple(count) => read_tuple(alloc, room, count, rest, done),
+        Parts::List(count) => read_list(alloc, depth_left, count, rest, done),
+        Parts::Tuple(count) => read_tuple(alloc, depth_left, count, rest, done),
     }
 }
 
@@ -173,20 +183,20 @@ fn read(alloc: Global, room: u16, rest: &mut &[u8], done: &mut Vec<Term>) -> Res
 #[tactic(auto, unfolding(beam_model::specs::ExternalReading::external_list_at))]
 fn read_list(
     alloc: Global,
-    room: u16,
+    depth_left: u16,
     count: u32,
     rest: &mut &[u8],
     done: &mut Vec<Term>,
 ) -> Result<(), EtfError>
-    requires shallow { room ≤ 4096 }
+    requires shallow { depth_left ≤ 4096 }
     requires some { 1 ≤ count }
-    ensures { Puts (external_list_at (below room) room count rest.old.now) rest.new.now done.old.items done.new.items result }
+    ensures { Puts (external_list_at (below depth_left) depth_left count rest.old.now) rest.new.now done.old.items done.new.items result }
 {
-    if count > room as u32 {
+    if count > depth_left as u32 {
         return Err(EtfError::TooDeep);
     }
     let start = done.len();
-    let mut left = room;
+    let mut left = depth_left;
     for _ in 0..count {
         left -= 1;
         read(alloc, left, rest, done)?;
@@ -201,20 +211,20 @@ fn read_list(
 #[tactic(auto, unfolding(beam_model::specs::ExternalReading::external_tuple_at))]
 fn read_tuple(
     alloc: Global,
-    room: u16,
+    depth_left: u16,
     count: u32,
     rest: &mut &[u8],
     done: &mut Vec<Term>,
 ) -> Result<(), EtfError>
-    requires { room ≤ 4096 }
-    ensures { Puts (external_tuple_at (below room) room count rest.old.now) rest.new.now done.old.items done.new.items result }
+    requires { depth_left ≤ 4096 }
+    ensures { Puts (external_tuple_at (below depth_left) depth_left count rest.old.now) rest.new.now done.old.items done.new.items result }
 {
-    if room == 0 {
+    if depth_left == 0 {
         return Err(EtfError::TooDeep);
     }
     let start = done.len();
     for _ in 0..count {
-        read(alloc, room - 1, rest, done)?;
+        read(alloc, depth_left - 1, rest, done)?;
     }
     put_tuple(alloc, start, done)?;
     Ok(())

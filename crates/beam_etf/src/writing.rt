@@ -153,7 +153,7 @@ fn is_byte(term: &Term) -> bool
 
 // Whether it is a proper list of integers from 0 to 255.
 #[inline(never)]
-fn is_text(list: &Term) -> bool
+fn is_byte_list(list: &Term) -> bool
     ensures { result ≡ is_byte_list list.now }
 {
     let mut rest = list;
@@ -249,7 +249,7 @@ fn write_list(list: &Term, head: &Term, tail: &Term, out: &mut Vec<u8>) -> Resul
     ensures { OnOk result (out.new.items ≡ out.old.items ++ written_part false list.now) }
 {
     let count = pair_count(list);
-    if is_text(list) {
+    if is_byte_list(list) {
         return write_string(list, out);
     }
     write_list_front(count, out)?;

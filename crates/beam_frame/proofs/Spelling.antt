@@ -16,8 +16,8 @@ use Rattle.beam_model.specs.ExternalFault.{ExternalFault}
 use Rattle.beam_model.specs.ExternalReading.{external_at}
 use Rattle.beam_model.specs.Native.{elements_in, put_before}
 use Rattle.beam_model.specs.SameText.{same_text}
-use Rattle.beam_etf.proofs.Again.{external_again}
-use Rattle.beam_etf.proofs.FoundParts.{external_takes}
+use Rattle.beam_etf.proofs.ReadingComplete.{external_again}
+use Rattle.beam_etf.proofs.ReadingSoundParts.{external_takes}
 use Rattle.beam_machine.specs.declared.command.CommandKind.{CommandKind}
 use Rattle.beam_machine.specs.declared.command.CommandKind.TheVariants as kind
 use Rattle.beam_machine.specs.declared.debug.DebugEvent.TheVariants.{Node, SetBreak, ClearBreak, Resume, StepOne, Inspect}
@@ -25,8 +25,8 @@ use Rattle.beam_machine.specs.declared.debug.Spot.{Spot}
 use Rattle.beam_machine.specs.declared.debug.Version.{Version}
 use Rattle.beam_machine.specs.declared.debug.Version.TheVariants.{Current, Old}
 use Rattle.beam_machine.specs.declared.event.Event.TheVariants as event
-use Rattle.beam_machine.specs.declared.event.Mode.{Mode}
-use Rattle.beam_machine.specs.declared.event.Mode.TheVariants.{Strict, Soft, Hard}
+use Rattle.beam_machine.specs.declared.event.UpgradeMode.{UpgradeMode}
+use Rattle.beam_machine.specs.declared.event.UpgradeMode.TheVariants.{Strict, Soft, Hard}
 use Rattle.beam_machine.specs.Frames.{Command, IsNumber, names_process, version_text, spot_term, spot_at, mode_number, AreFiles, no_files, one_file, SpellsCommand, load, load_strict, delete, soft_purge, purge, spawn, send, steps, deliver, clock, timeout, set_break, clear_break, resume, step_one, inspect, versions, atomic_load, kind_of, atom_in_body, number_in_body, only_term, term_read, term_in, fields_of, fields_in, spawned, spawn_of, send_of, version_of, spot_of, steps_in, mode_of, after_number, file_before, files_in, atomic_load_in, command_in, command_of}
 
 -- ---- a spelled command is read
@@ -82,7 +82,7 @@ steps_again first second pid rows a b =
     let back : drop 4 (first ++ second) ≡ second = ap (λ n. drop n (first ++ second)) (sym a.wide) ∙ drop_first first second in
     rw (front, back, number_again 4 first pid a, number_again 4 second rows b) refl
 
-mode_again : (mode : Mode) → mode_of (mode_number mode) ≡ Some mode
+mode_again : (mode : UpgradeMode) → mode_of (mode_number mode) ≡ Some mode
 mode_again Strict = refl
 mode_again Soft = refl
 mode_again Hard = refl
@@ -106,7 +106,7 @@ files_again _ _ (one_file size file rest files h parts) =
     after_again (file_before (files_in (length files))) size (file ++ rest) (length file) h ∙ file_again (files_in (length files)) file rest
     ∙ ap (option_map (λ files. file ∷ files)) (files_again rest files parts)
 
-atomic_again : (mode : Mode) (count body : List ℕ) (files : List (List ℕ)) → IsNumber 4 count (length files) → AreFiles body files
+atomic_again : (mode : UpgradeMode) (count body : List ℕ) (files : List (List ℕ)) → IsNumber 4 count (length files) → AreFiles body files
     → atomic_load_in (mode_number mode ∷ (count ++ body)) ≡ Some (Node (event.AtomicLoad mode files))
 atomic_again mode count body files h parts =
     rw (mode_again mode, after_again files_in count body (length files) h, files_again body files parts) refl
@@ -307,14 +307,14 @@ steps_is body c e =
     steps (take 4 body) (drop 4 body) p.0 q.0 (number_is 4 (take 4 body) p.0 p.1) (number_is 4 (drop 4 body) q.0 q.1) in
     subst (λ (b : List ℕ). SpellsCommand 8 b c) (take-append-drop 4 body) (subst (λ (d : Command). SpellsCommand 8 (take 4 body ++ drop 4 body) d) q.2 both)
 
-mode_by : (n : ℕ) (mode : Mode) (a b c : Bool) → eqb n 0 ≡ a → eqb n 1 ≡ b → eqb n 2 ≡ c
+mode_by : (n : ℕ) (mode : UpgradeMode) (a b c : Bool) → eqb n 0 ≡ a → eqb n 1 ≡ b → eqb n 2 ≡ c
     → cond a (Some Strict) (cond b (Some Soft) (cond c (Some Hard) None)) ≡ Some mode → mode_number mode ≡ n
 mode_by n mode true b c f g h e = sym (eqb-true n 0 f ∙ ap mode_number (some_is Strict mode e))
 mode_by n mode false true c f g h e = sym (eqb-true n 1 g ∙ ap mode_number (some_is Soft mode e))
 mode_by n mode false false true f g h e = sym (eqb-true n 2 h ∙ ap mode_number (some_is Hard mode e))
 mode_by n mode false false false f g h e = none_is mode e
 
-mode_is : (n : ℕ) (mode : Mode) → mode_of n ≡ Some mode → mode_number mode ≡ n
+mode_is : (n : ℕ) (mode : UpgradeMode) → mode_of n ≡ Some mode → mode_number mode ≡ n
 mode_is n mode e = mode_by n mode (eqb n 0) (eqb n 1) (eqb n 2) refl refl refl e
 
 -- bytes that are a number, and then as many files

@@ -10,7 +10,7 @@ use Rattle.beam_machine.specs.declared.command.CommandKind.{CommandKind}
 use Rattle.beam_machine.specs.declared.command.FrameFault.{FrameFault}
 use Rattle.beam_machine.specs.declared.command.FrameFault.TheVariants.{TooLong}
 use Rattle.beam_machine.specs.Frames.{Command, FirstFrame, no_frame, one_frame, bad_frame, longest_frame, command_or_fault, of_kind, kind_of, command_in, frame_content, after_length, frame_in, at_fault, Stream, stream_end, empty_stream, with_command, stream_by, stream_within, stream_of}
-use Rattle.beam_frame.specs.Reader.{before_more, Left, waits, broken, Told, tells, told_within, told_of, then_stream, stream_in}
+use Rattle.beam_frame.specs.Reader.{before_more, Left, waits, broken, Decoded, decode_step, decoded_within, decoded_of, then_stream, stream_in}
 
 spelled_more : (o : Option Command) (rest more : List ℕ) → command_or_fault o (rest ++ more) ≡ before_more more (command_or_fault o rest)
 spelled_more (Some c) rest more = refl
@@ -139,9 +139,9 @@ one_more : (c : Command) (k : List ℕ → Stream) (commands : List Command) (le
 one_more c k commands (waits bytes) = refl
 one_more c k commands (broken f) = refl
 
-told_by : (again : List ℕ → Told) (bytes more : List ℕ) (found : FirstFrame) → frame_in bytes ≡ found
+told_by : (again : List ℕ → Decoded) (bytes more : List ℕ) (found : FirstFrame) → frame_in bytes ≡ found
     → ((rest : List ℕ) → length rest < length bytes → stream_of (rest ++ more) ≡ then_stream (λ p. stream_of (p ++ more)) (again rest).commands (again rest).left)
-    → stream_of (bytes ++ more) ≡ then_stream (λ p. stream_of (p ++ more)) (tells again bytes found).commands (tells again bytes found).left
+    → stream_of (bytes ++ more) ≡ then_stream (λ p. stream_of (p ++ more)) (decode_step again bytes found).commands (decode_step again bytes found).left
 told_by again bytes more no_frame e rests = refl
 told_by again bytes more (one_frame c rest) e rests =
     stream_one (bytes ++ more) c (rest ++ more) (more_found bytes more (one_frame c rest) e (λ k. cc))
@@ -150,28 +150,28 @@ told_by again bytes more (one_frame c rest) e rests =
 told_by again bytes more (bad_frame f) e rests = stream_fault (bytes ++ more) f (more_found bytes more (bad_frame f) e (λ k. cc))
 
 told_good : (n : ℕ) (bytes more : List ℕ) → length bytes ≤ n
-    → stream_of (bytes ++ more) ≡ then_stream (λ p. stream_of (p ++ more)) (told_within n bytes).commands (told_within n bytes).left
-unfolding told_within
+    → stream_of (bytes ++ more) ≡ then_stream (λ p. stream_of (p ++ more)) (decoded_within n bytes).commands (decoded_within n bytes).left
+unfolding decoded_within
 told_good zero bytes more h = refl
-told_good (suc n) bytes more h = told_by (told_within n) bytes more (frame_in bytes) refl (λ rest less. told_good n rest more (omega arith))
+told_good (suc n) bytes more h = told_by (decoded_within n) bytes more (frame_in bytes) refl (λ rest less. told_good n rest more (omega arith))
 
 -- no whole frame is left
 Settled : Left → Type 0
 Settled (waits bytes) = frame_in bytes ≡ no_frame
 Settled (broken f) = Unit {0}
 
-settled_by : (again : List ℕ → Told) (bytes : List ℕ) (found : FirstFrame) → frame_in bytes ≡ found
-    → ((rest : List ℕ) → length rest < length bytes → Settled (again rest).left) → Settled (tells again bytes found).left
+settled_by : (again : List ℕ → Decoded) (bytes : List ℕ) (found : FirstFrame) → frame_in bytes ≡ found
+    → ((rest : List ℕ) → length rest < length bytes → Settled (again rest).left) → Settled (decode_step again bytes found).left
 unfolding Settled
 settled_by again bytes no_frame e rests = e
 settled_by again bytes (one_frame c rest) e rests = rests rest (rest_shorter bytes c rest e)
 settled_by again bytes (bad_frame f) e rests = tt
 
-settled : (n : ℕ) (bytes : List ℕ) → length bytes ≤ n → Settled (told_within n bytes).left
-unfolding told_within Settled
+settled : (n : ℕ) (bytes : List ℕ) → length bytes ≤ n → Settled (decoded_within n bytes).left
+unfolding decoded_within Settled
 settled zero [] h = nothing
 settled zero (b ∷ bytes) h = absurd (omega arith)
-settled (suc n) bytes h = settled_by (told_within n) bytes (frame_in bytes) refl (λ rest less. settled n rest (omega arith))
+settled (suc n) bytes h = settled_by (decoded_within n) bytes (frame_in bytes) refl (λ rest less. settled n rest (omega arith))
 
 same_then : (k l : List ℕ → Stream) (commands : List Command) (left : Left) → Settled left → ((p : List ℕ) → frame_in p ≡ no_frame → k p ≡ l p)
     → then_stream k commands left ≡ then_stream l commands left
@@ -183,7 +183,7 @@ pieces_from : (pieces : List (List ℕ)) (bytes : List ℕ) → frame_in bytes �
 unfolding stream_in
 pieces_from [] bytes e = sym (ap stream_of (append-nil bytes) ∙ stream_none bytes e)
 pieces_from (piece ∷ pieces) bytes e =
-    let told = told_of (bytes ++ piece) in
+    let told = decoded_of (bytes ++ piece) in
     same_then (stream_in pieces) (λ p. stream_of (p ++ flat_map (λ piece. piece) pieces)) told.commands told.left (settled (length (bytes ++ piece)) (bytes ++ piece) (omega arith)) (λ p h. pieces_from pieces p h)
     ∙ sym (told_good (length (bytes ++ piece)) (bytes ++ piece) (flat_map (λ piece. piece) pieces) (omega arith))
     ∙ ap stream_of (append_assoc bytes piece (flat_map (λ piece. piece) pieces))

@@ -11,7 +11,7 @@ use Rattle.beam_machine.specs.declared.command.FrameFault.TheVariants.{TooLong, 
 use Rattle.beam_machine.specs.declared.command.Response.TheVariants as response
 use Rattle.beam_machine.specs.declared.debug.DebugEvent.TheVariants.{Node}
 use Rattle.beam_machine.specs.declared.event.Event.TheVariants.{AtomicLoad, Spawn, Steps, Versions}
-use Rattle.beam_machine.specs.declared.event.Mode.TheVariants.{Soft}
+use Rattle.beam_machine.specs.declared.event.UpgradeMode.TheVariants.{Soft}
 use Rattle.beam_machine.specs.declared.event.Reply.TheVariants.{Ran, Started, Upgraded, Versions as InstancesOf}
 use Rattle.beam_machine.specs.declared.event.Then.TheVariants.{Ended}
 use Rattle.beam_frame.proofs.Spelling.{atom_again}

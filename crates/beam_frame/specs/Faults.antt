@@ -47,9 +47,9 @@ HasBody (bad_frame faults.BadCommand) = Unit {0}
 HasBody found = ⊥
 
 -- the error is the fault of the frame at the front
-abbrev pub Tells : FrameError → FirstFrame → Type 0
-Tells TooLong found = found ≡ bad_frame faults.TooLong
-Tells BadKind found = found ≡ bad_frame faults.BadKind
-Tells BadCommand found = found ≡ bad_frame faults.BadCommand
-Tells NoMemory found = HasBody found
-Tells Failed found = ⊥
+abbrev pub IsErrorOf : FrameError → FirstFrame → Type 0
+IsErrorOf TooLong found = found ≡ bad_frame faults.TooLong
+IsErrorOf BadKind found = found ≡ bad_frame faults.BadKind
+IsErrorOf BadCommand found = found ≡ bad_frame faults.BadCommand
+IsErrorOf NoMemory found = HasBody found
+IsErrorOf Failed found = ⊥

@@ -4,7 +4,7 @@ use Rattle.beam_machine.specs.declared.command.FrameFault.{FrameFault}
 use Rattle.beam_machine.specs.Frames.{Command, FirstFrame, no_frame, one_frame, bad_frame, frame_in, at_fault, Stream, stream_end, empty_stream}
 use Rattle.beam_frame.specs.declared.error.FrameError.{FrameError}
 use Rattle.beam_frame.specs.declared.error.FrameError.TheVariants.{Failed}
-use Rattle.beam_frame.specs.Faults.{Tells}
+use Rattle.beam_frame.specs.Faults.{IsErrorOf}
 
 -- the bytes that belong to no frame that was read, and whether there was an error
 pub record Reader : Type 0 where
@@ -18,7 +18,7 @@ waiting bytes = record { pending = bytes; failed = false }
 -- a reader that has an error answers Failed
 abbrev pub Answers : FrameError → Reader → Type 0
 Answers Failed reader = reader.failed ≡ true
-Answers e reader = (reader.failed ≡ false) × Tells e (frame_in reader.pending)
+Answers e reader = (reader.failed ≡ false) × IsErrorOf e (frame_in reader.pending)
 
 -- ---- a stream that comes in pieces
 
@@ -33,26 +33,26 @@ pub data Left : Type 0 where
   waits : List ℕ → Left
   broken : FrameFault → Left
 
-pub record Told : Type 0 where
+pub record Decoded : Type 0 where
   pub commands : List Command
   pub left : Left
 
-abbrev pub told_after : Command → Told → Told
-told_after c told = record told { commands = c ∷ told.commands }
+abbrev pub decoded_after : Command → Decoded → Decoded
+decoded_after c told = record told { commands = c ∷ told.commands }
 
-abbrev pub tells : (List ℕ → Told) → List ℕ → FirstFrame → Told
-tells again bytes no_frame = record { commands = []; left = waits bytes }
-tells again bytes (one_frame c rest) = told_after c (again rest)
-tells again bytes (bad_frame f) = record { commands = []; left = broken f }
+abbrev pub decode_step : (List ℕ → Decoded) → List ℕ → FirstFrame → Decoded
+decode_step again bytes no_frame = record { commands = []; left = waits bytes }
+decode_step again bytes (one_frame c rest) = decoded_after c (again rest)
+decode_step again bytes (bad_frame f) = record { commands = []; left = broken f }
 
 -- the answers of at most n calls of `next`
-unfoldable pub told_within : ℕ → List ℕ → Told
-told_within zero bytes = record { commands = []; left = waits bytes }
-told_within (suc n) bytes = tells (told_within n) bytes (frame_in bytes)
+unfoldable pub decoded_within : ℕ → List ℕ → Decoded
+decoded_within zero bytes = record { commands = []; left = waits bytes }
+decoded_within (suc n) bytes = decode_step (decoded_within n) bytes (frame_in bytes)
 
 -- the answers of `next` until it answers no command; each command takes five bytes or more
-abbrev pub told_of : List ℕ → Told
-told_of bytes = told_within (length bytes) bytes
+abbrev pub decoded_of : List ℕ → Decoded
+decoded_of bytes = decoded_within (length bytes) bytes
 
 abbrev pub then_stream : (List ℕ → Stream) → List Command → Left → Stream
 then_stream next commands (waits bytes) = record { commands = commands ++ (next bytes).commands; end = (next bytes).end }
@@ -61,4 +61,4 @@ then_stream next commands (broken f) = record { commands = commands; end = at_fa
 -- the answers for a stream in pieces: each is fed after the rest of those before, and then `next` is called until it answers no command
 unfoldable pub stream_in : List (List ℕ) → List ℕ → Stream
 stream_in [] bytes = empty_stream (stream_end bytes)
-stream_in (piece ∷ pieces) bytes = then_stream (stream_in pieces) (told_of (bytes ++ piece)).commands (told_of (bytes ++ piece)).left
+stream_in (piece ∷ pieces) bytes = then_stream (stream_in pieces) (decoded_of (bytes ++ piece)).commands (decoded_of (bytes ++ piece)).left

@@ -9,7 +9,7 @@ use crate::error::FrameError;
 use beam_etf::{EtfError, read_term};
 use beam_machine::command::{Bytes, Command, CommandKind};
 use beam_machine::debug::{DebugEvent, Spot, Version};
-use beam_machine::event::{Event, Images, Mode, SpawnArguments};
+use beam_machine::event::{Event, Images, SpawnArguments, UpgradeMode};
 use beam_term::{Atom, AtomError, Term, TermView};
 use byteorder::{BigEndian, ByteOrder};
 use std::alloc::Global;
@@ -259,13 +259,13 @@ fn spot(alloc: Global, body: &[u8]) -> Result<Spot, FrameError>
     spot_of(fields(&term)?)
 }
 
-fn mode_of(number: u8) -> Result<Mode, FrameError>
+fn mode_of(number: u8) -> Result<UpgradeMode, FrameError>
     ensures { Gives (λ m. m) result (mode_of number) }
 {
     match number {
-        0 => Ok(Mode::Strict),
-        1 => Ok(Mode::Soft),
-        2 => Ok(Mode::Hard),
+        0 => Ok(UpgradeMode::Strict),
+        1 => Ok(UpgradeMode::Soft),
+        2 => Ok(UpgradeMode::Hard),
         _ => Err(FrameError::BadCommand),
     }
 }

@@ -7,7 +7,7 @@ ghost use Rattle.beam_machine.specs.declared.command.FrameFault.TheVariants.{Too
 ghost use Rattle.beam_machine.specs.declared.command.Response.TheVariants as response;
 ghost use Rattle.beam_machine.specs.declared.debug.DebugEvent.TheVariants.{Node};
 ghost use Rattle.beam_machine.specs.declared.event.Event.TheVariants.{AtomicLoad, Spawn, Steps, Versions};
-ghost use Rattle.beam_machine.specs.declared.event.Mode.TheVariants.{Soft};
+ghost use Rattle.beam_machine.specs.declared.event.UpgradeMode.TheVariants.{Soft};
 ghost use Rattle.beam_machine.specs.declared.event.Reply.TheVariants.{Ran, Started, Upgraded, Versions as InstancesOf};
 ghost use Rattle.beam_machine.specs.declared.event.Then.TheVariants.{Ended};
 ghost use Rattle.beam_machine.specs.Frames.{Command, SpellsCommand, command_of, frame_in, no_frame, one_frame, bad_frame, at_fault, stream_end, empty_stream, with_command, stream_of, reply_body, frame_of, fault_frame};

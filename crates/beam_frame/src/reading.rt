@@ -1,7 +1,7 @@
 //! Commands of a stream that comes in pieces.
 ghost use Rattle.std.specs.Prelude.{◌≡◌, ◌≤◌, ◌++◌, ◌↔◌, ◌⊎◌, [], List, ℕ, length, drop, true, false, IfOk, IfErr, IfSome, OnOk, OnErr, IsErrOf, IsTrue, MatchOption, None};
 ghost use Rattle.beam_machine.specs.Frames.{frame_in, after_length, frame_content, no_frame, one_frame, bad_frame};
-ghost use Rattle.beam_frame.specs.Faults.{Tells};
+ghost use Rattle.beam_frame.specs.Faults.{IsErrorOf};
 ghost use Rattle.beam_frame.specs.Reader.{Reader, waiting, Answers};
 
 use crate::command::{kind_of, read_command};
@@ -19,7 +19,7 @@ pub(crate) const LONGEST_FRAME: usize = 8_388_608;
 fn read_frame(alloc: Global, bytes: &[u8]) -> Result<Option<(Command, usize)>, FrameError>
     ensures found { IfOk result (λ o. MatchOption o (frame_in bytes.now ≡ no_frame)
         (λ p. (p.1 ≤ length bytes.now) × (frame_in bytes.now ≡ one_frame p.0 (drop p.1 bytes.now)))) }
-    ensures fault { IfErr result (λ e. Tells e (frame_in bytes.now)) }
+    ensures fault { IfErr result (λ e. IsErrorOf e (frame_in bytes.now)) }
 {
     if bytes.len() < 4 {
         return Ok(None);

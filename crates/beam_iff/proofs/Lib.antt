@@ -1,4 +1,4 @@
-pub mod Answered
+pub mod ReadResults
 pub mod EachChunk
 pub mod Forms
 pub mod Loop

@@ -1,7 +1,7 @@
-pub mod Entries
-pub mod Kept
+pub mod EntryRows
+pub mod ListOperands
 pub mod Linked
-pub mod Module
-pub mod Plain
+pub mod ModuleFile
+pub mod InstructionRecord
 pub mod Reading
 pub mod Shapes

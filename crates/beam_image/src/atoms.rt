@@ -1,6 +1,6 @@
 //! The indices of atoms in the table of a file.
 ghost use Rattle.std.specs.Prelude.{◌≡◌, IfOk, IfSome};
-ghost use Rattle.beam_image.specs.Plain.{atom_text};
+ghost use Rattle.beam_image.specs.InstructionRecord.{atom_text};
 
 use beam_code::CodeBytes;
 use beam_term::Atom;

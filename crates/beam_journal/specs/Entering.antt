@@ -14,7 +14,7 @@ use Rattle.beam_machine.specs.View.{View}
 -- what callers see of a journal
 pub record Journal : Type 0 where
   pub entries : List Entry
-  pub room : ℕ  -- how many more entries can be made without memory
+  pub capacity : ℕ  -- how many more entries can be made without memory
   pub limit : ℕ  -- how many entries it can have
 
 -- the greatest limit
@@ -40,12 +40,12 @@ takes_memory d (event ∷ rest) = not (is_quiet_debug_event d event) || takes_me
 
 -- ---- the part of an entry that is kept: all but the reply, which the events determine
 
-pub record Sending : Type 0 where
+pub record SentEvent : Type 0 where
   pub event : DebugEvent Listing
   pub seat : Option ℕ
 
-abbrev pub sending_of : Entry → Sending
-sending_of e = record { event = e.event; seat = e.seat }
+abbrev pub sent_event_of : Entry → SentEvent
+sent_event_of e = record { event = e.event; seat = e.seat }
 
 -- the reply in an answer; for a refusal, which has none, a reply that is never used
 abbrev pub reply_in : DebugAnswer → DebugReply View
@@ -53,10 +53,10 @@ reply_in (Ok reply) = reply
 reply_in (Err refusal) = Node Done
 
 -- the entries of the sendings from a state on, with the replies that they get
-abbrev pub answered_from : Debugged → List Sending → List Entry
+abbrev pub answered_from : Debugged → List SentEvent → List Entry
 answered_from d [] = []
 answered_from d (s ∷ rest) =
     record { event = s.event; seat = s.seat; reply = reply_in (debug_next d s.event).answer } ∷ answered_from (debug_next d s.event).state rest
 
-abbrev pub entries_of : List Sending → List Entry
+abbrev pub entries_of : List SentEvent → List Entry
 entries_of = answered_from (undisturbed empty)

@@ -28,9 +28,9 @@ const _: () = prove!(size_of::<Entry>() == 64);
 impl Model for Entry {
     ghost use Rattle.std.specs.Coded.{codes};
     ghost use Rattle.beam_term.specs.Coding.{term_code};
-    ghost use Rattle.beam_journal.specs.Entering.{Sending};
+    ghost use Rattle.beam_journal.specs.Entering.{SentEvent};
 
-    ghost Value = { Sending };
+    ghost Value = { SentEvent };
 
     ghost coded = { Prim.hlevel (codes, term_code) };
 

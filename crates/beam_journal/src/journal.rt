@@ -4,10 +4,10 @@ ghost use Rattle.beam_machine.specs.Debug.{undisturbed};
 ghost use Rattle.beam_machine.specs.DebugRun.{debug_after};
 ghost use Rattle.beam_machine.specs.Journal.{IsLawful, replay};
 ghost use Rattle.beam_machine.specs.State.{empty};
-ghost use Rattle.beam_debug.specs.Answers.{said};
-ghost use Rattle.beam_journal.specs.Entering.{Accepts, entry_of, most_entries, sending_of, takes_memory};
+ghost use Rattle.beam_debug.specs.Answers.{reply_of};
+ghost use Rattle.beam_journal.specs.Entering.{Accepts, entry_of, most_entries, sent_event_of, takes_memory};
 
-use crate::done::as_done;
+use crate::cut::cut_event;
 use crate::entry::Entry;
 use crate::error::JournalError;
 use crate::replay::replayed;
@@ -52,7 +52,7 @@ impl Model for Journal {
 
     ghost coded = { Prim.hlevel (codes, term_code) };
 
-    ghost view = { λ j. record { entries = entries_of j.entries.items; room = vec_capacity j.entries - vec_len j.entries; limit = j.limit } };
+    ghost view = { λ j. record { entries = entries_of j.entries.items; capacity = vec_capacity j.entries - vec_len j.entries; limit = j.limit } };
 
     ghost invariant = { λ j. IsLawful (entries_of j.entries.items) × (vec_len j.entries ≤ j.limit) × (j.limit ≤ most_entries) };
 }
@@ -60,7 +60,7 @@ impl Model for Journal {
 impl Journal {
     /// A journal with no entries, which can have 16,777,216. It takes no memory.
     pub fn new(alloc: Global) -> Journal
-        ensures { result ≡ record { entries = []; room = 0; limit = most_entries } }
+        ensures { result ≡ record { entries = []; capacity = 0; limit = most_entries } }
     {
         Journal::with_limit(alloc, MOST_ENTRIES)
     }
@@ -68,7 +68,7 @@ impl Journal {
     /// A journal with no entries, which can have `limit` of them, at most 16,777,216. It takes no memory.
     pub fn with_limit(alloc: Global, limit: u32) -> Journal
         requires { limit ≤ most_entries }
-        ensures { result ≡ record { entries = []; room = 0; limit = limit } }
+        ensures { result ≡ record { entries = []; capacity = 0; limit = limit } }
     {
         Journal {
             alloc,
@@ -114,7 +114,7 @@ impl Journal {
     /// The entries, in their order, without the replies. Running the events from the empty node refuses none and gives the replies.
     #[tactic(auto, using(crate::proofs::Replayed::sendings))]
     pub fn entries(&self) -> &[Entry]
-        ensures value { result.now ≡ map sending_of self.now.entries }
+        ensures value { result.now ≡ map sent_event_of self.now.entries }
         ensures lawful { IsLawful self.now.entries }
     {
         &self.entries
@@ -123,11 +123,11 @@ impl Journal {
     /// Makes room for `count` more entries, which can then be entered without memory. If memory is refused nothing changes; it isn't
     /// refused if that room is there.
     pub fn reserve(&mut self, count: u32) -> Result<(), AllocError>
-        ensures room { OnOk result (count ≤ self.new.room) }
-        ensures kept { self.old.room ≤ self.new.room }
+        ensures capacity { OnOk result (count ≤ self.new.capacity) }
+        ensures kept { self.old.capacity ≤ self.new.capacity }
         ensures entries { self.new.entries ≡ self.old.entries }
         ensures limit { self.new.limit ≡ self.old.limit }
-        ensures there { count ≤ self.old.room → IsOk result }
+        ensures there { count ≤ self.old.capacity → IsOk result }
         ensures err { OnErr result (self.new ≡ self.old) }
     {
         self.entries.reserve(count as usize)
@@ -144,21 +144,21 @@ impl Journal {
         seat: Option<u32>,
         reply: &Outcome,
     ) -> Result<(), JournalError>
-        requires accepted { Accepts (replay self.old.entries) event (said reply.now) }
-        ensures entered { OnOk result (self.new.entries ≡ self.old.entries ++ entry_of event seat (said reply.now) ∷ []) }
-        ensures leads { OnOk result (replay self.new.entries ≡ debug_after (replay self.old.entries) event (Ok (said reply.now))) }
+        requires accepted { Accepts (replay self.old.entries) event (reply_of reply.now) }
+        ensures entered { OnOk result (self.new.entries ≡ self.old.entries ++ entry_of event seat (reply_of reply.now) ∷ []) }
+        ensures leads { OnOk result (replay self.new.entries ≡ debug_after (replay self.old.entries) event (Ok (reply_of reply.now))) }
         // One place of the room is taken, if there was any.
-        ensures room { OnOk result (self.old.room ≤ self.new.room + 1) }
+        ensures capacity { OnOk result (self.old.capacity ≤ self.new.capacity + 1) }
         ensures limit { self.new.limit ≡ self.old.limit }
         ensures full { IsErrOf result JournalError.JournalFull ↔ (length self.old.entries ≡ self.old.limit) }
-        ensures memory { IsErrOf result JournalError.NoMemory → self.old.room ≡ 0 }
+        ensures memory { IsErrOf result JournalError.NoMemory → self.old.capacity ≡ 0 }
         ensures err { OnErr result (self.new ≡ self.old) }
     {
         if self.entries.len() == self.limit as usize {
             return Err(JournalError::JournalFull);
         }
         self.entries.reserve(1)?;
-        let event = as_done(event, reply);
+        let event = cut_event(event, reply);
         self.entries.push_reserved(Entry { event, seat });
         Ok(())
     }

@@ -6,7 +6,7 @@ ghost use Rattle.beam_machine.specs.Journal.{IsLawful, replay};
 ghost use Rattle.beam_machine.specs.State.{empty};
 ghost use Rattle.beam_journal.specs.Entering.{entries_of, Accepted, takes_memory};
 
-use crate::done::is_cut;
+use crate::cut::is_cut;
 use crate::entry::Entry;
 use beam_debug::debugger::Debugger;
 use beam_machine::event::Refused;

@@ -17,7 +17,7 @@ use Rattle.beam_machine.specs.State.{State, process_of, with_process, alive, pos
 use Rattle.beam_machine.specs.NodeNative.{Answered, fault, most_references, or_noproc, put_monitor, with_new_monitor, monitored, monitors_by, answer_of}
 use Rattle.beam_machine.specs.Next.{Rows, raised, continues, goes_on_with, done_by, row, running, row_and, steps, next}
 use Rattle.beam_machine.specs.Private.{Sent}
-use Rattle.beam_laws.specs.Private.{having, heard}
+use Rattle.beam_laws.specs.Private.{with_name_and_transit, downs_of_end}
 use Rattle.beam_laws.specs.Signals.{signal_to, end_sends, noproc_sends, native_sends, asker_sends, row_sends, row_and_send, steps_send, signals_to, on_its_way}
 use Rattle.beam_laws.proofs.Ending.{running_is}
 use Rattle.beam_laws.proofs.Hearing.{hearing_here, none_heard}
@@ -59,16 +59,16 @@ account_more c d x y o (Some p) (Some q) g h = λ lives.
           ∙ (ap (λ z. z ++ y) first.1 ∙ (append_assoc c p.transit y ∙ (ap (λ z. c ++ z) then.1 ∙ sym (append_assoc c d q.transit)))),
     )
 
-kept_transit : (name : Option (List ℕ)) (transit : List Signal) (q y : Process) → q ≡ having name transit y → is_ended q.status ≡ false → q.transit ≡ transit
+kept_transit : (name : Option (List ℕ)) (transit : List Signal) (q y : Process) → q ≡ with_name_and_transit name transit y → is_ended q.status ≡ false → q.transit ≡ transit
 kept_transit name transit q y e lives = ap (λ z. z.transit) e ∙ go (is_ended y.status) refl
   where
-    go : (b : Bool) → is_ended y.status ≡ b → (having name transit y).transit ≡ transit
+    go : (b : Bool) → is_ended y.status ≡ b → (with_name_and_transit name transit y).transit ≡ transit
     go true over =
-        let is : having name transit y ≡ y = ap (λ b. cond b y (record y { name = name; transit = transit })) over in
+        let is : with_name_and_transit name transit y ≡ y = ap (λ b. cond b y (record y { name = name; transit = transit })) over in
         absurd (true≢false (sym over ∙ (ap (λ z. is_ended z.status) (sym (e ∙ is)) ∙ lives)))
     go false on = ap (λ b. (cond {A = Process} b y (record y { name = name; transit = transit })).transit) on
 
-was_alive : (name : Option (List ℕ)) (transit : List Signal) (y : Process) → is_ended (having name transit y).status ≡ false → is_ended y.status ≡ false
+was_alive : (name : Option (List ℕ)) (transit : List Signal) (y : Process) → is_ended (with_name_and_transit name transit y).status ≡ false → is_ended y.status ≡ false
 was_alive name transit y lives = go (is_ended y.status) refl
   where
     go : (b : Bool) → is_ended y.status ≡ b → is_ended y.status ≡ false
@@ -79,19 +79,19 @@ pub grown_account : (xs : List Signal) (o u : Option Process) → Grown xs o u �
 grown_account xs None None g = (refl, refl, g)
 grown_account xs None (Some q) g = λ lives. (tt, sym g.1)
 grown_account xs (Some p) u g =
-    let same : Account [] xs (Some p) (Some (having g.0 (p.transit ++ xs) p)) = λ lives. (was_alive g.0 (p.transit ++ xs) p lives, sym (kept_transit g.0 (p.transit ++ xs) (having g.0 (p.transit ++ xs) p) p refl lives)) in
+    let same : Account [] xs (Some p) (Some (with_name_and_transit g.0 (p.transit ++ xs) p)) = λ lives. (was_alive g.0 (p.transit ++ xs) p lives, sym (kept_transit g.0 (p.transit ++ xs) (with_name_and_transit g.0 (p.transit ++ xs) p) p refl lives)) in
     subst (Account [] xs (Some p)) (sym g.1) same
 
 -- ---- a row of the process itself
 
-with_having : (name : Option (List ℕ)) (transit : List Signal) (q : Process) → q ≡ with name transit q → q ≡ having name transit q
-with_having name transit q e = subst (λ x. x ≡ having name transit x) (sym e) refl
+with_having : (name : Option (List ℕ)) (transit : List Signal) (q : Process) → q ≡ with name transit q → q ≡ with_name_and_transit name transit q
+with_having name transit q e = subst (λ x. x ≡ with_name_and_transit name transit x) (sym e) refl
 
-made : (p q : Process) → is_ended p.status ≡ false → q ≡ having p.name p.transit q → Account [] [] (Some p) (Some q)
+made : (p q : Process) → is_ended p.status ≡ false → q ≡ with_name_and_transit p.name p.transit q → Account [] [] (Some p) (Some q)
 made p q on e = λ lives. (on, append-nil p.transit ∙ sym (kept_transit p.name p.transit q q e lives))
 
 -- a running process that gets an answer keeps its signals in transit
-answers_own : (x : Process) (after : After) (value : Result TermValue Exception) → x.status ≡ Running → answers x after value ≡ having x.name x.transit (answers (with None [] x) after value)
+answers_own : (x : Process) (after : After) (value : Result TermValue Exception) → x.status ≡ Running → answers x after value ≡ with_name_and_transit x.name x.transit (answers (with None [] x) after value)
 answers_own x after value runs =
     let is : with x.name x.transit x ≡ x = ap (λ status. record x { status = status }) (sym runs) in
     ap (λ y. answers y after value) (sym is) ∙ answers_same x.name x.transit x after value
@@ -125,9 +125,9 @@ module _ (pid : ℕ) where
 
   -- a process that hasn't ended sends no DOWNs
   pub no_end_at : (at : ℕ) (ps : List Process) (q : Process) → is_ended q.status ≡ false → signals_to pid (end_sends ps at q) ≡ []
-  no_end_at at ps q lives = each_sent_to (heard at q.status) (with_process ps at q) pid ∙ go (process_of (with_process ps at q) pid)
+  no_end_at at ps q lives = each_sent_to (downs_of_end at q.status) (with_process ps at q) pid ∙ go (process_of (with_process ps at q) pid)
     where
-      go : (o : Option Process) → said (heard at q.status) o ≡ []
+      go : (o : Option Process) → said (downs_of_end at q.status) o ≡ []
       go None = refl
       go (Some r) = none_heard at q.status r lives
 
@@ -142,15 +142,15 @@ module _ (pid : ℕ) where
 
   -- the caller of a native of the node: with more signals in transit to it, and perhaps another name and other monitors
   abbrev pub Asked : List Signal → Process → Option Process → Type 0
-  Asked xs q o = (name : Option (List ℕ)) × (ms : List MonitorValue) × (o ≡ Some (record (having name (q.transit ++ xs) q) { monitors = ms }))
+  Asked xs q o = (name : Option (List ℕ)) × (ms : List MonitorValue) × (o ≡ Some (record (with_name_and_transit name (q.transit ++ xs) q) { monitors = ms }))
 
   grown_asked : (xs : List Signal) (q : Process) (o : Option Process) → Grown xs (Some q) o → Asked xs q o
-  grown_asked xs q o g = (g.0, (having g.0 (q.transit ++ xs) q).monitors, g.1)
+  grown_asked xs q o g = (g.0, (with_name_and_transit g.0 (q.transit ++ xs) q).monitors, g.1)
 
   watched_asked : (ps : List Process) (n : ℕ) (watched : TermValue) (xs : List Signal) (q : Process) → is_ended q.status ≡ false → Grown xs (Some q) (process_of ps pid)
       → Asked xs q (process_of (with_new_monitor ps pid n watched) pid)
   watched_asked ps n watched xs q lives g =
-      let x : Process = having g.0 (q.transit ++ xs) q in
+      let x : Process = with_name_and_transit g.0 (q.transit ++ xs) q in
       let on : is_ended x.status ≡ false = ap is_ended (having_status g.0 (q.transit ++ xs) q) ∙ lives in
       let ms : List MonitorValue = x.monitors ++ record { reference = n; pid = watched } ∷ [] in (
         g.0,
@@ -167,7 +167,7 @@ module _ (pid : ℕ) where
       (subst (λ o. Grown xs o (process_of (or_noproc ps pid n watched) pid)) e (noproc_grows pid ps pid n watched))
 
   still_asked : (ps : List Process) (q : Process) → process_of ps pid ≡ Some q → Asked [] q (process_of ps pid)
-  still_asked ps q e = (q.name, (having q.name (q.transit ++ []) q).monitors, e ∙ ap Some (sym (no_signals q)))
+  still_asked ps q e = (q.name, (with_name_and_transit q.name (q.transit ++ []) q).monitors, e ∙ ap Some (sym (no_signals q)))
 
   monitors_asked : (references : ℕ) (ps : List Process) (kind : List ℕ) (watched : TermValue) (q : Process) → process_of ps pid ≡ Some q → is_ended q.status ≡ false
       → Asked (signals_to pid (noproc_sends ps pid watched (monitors_by references ps pid kind watched).made)) q (process_of (monitors_by references ps pid kind watched).processes pid)
@@ -234,11 +234,11 @@ module _ (pid : ℕ) where
       clash e = cc
   answered s p q after a xs (Some x) same on keeps there g =
       let r : Process = answers x after (raised a.value) in
-      let as_asked : x ≡ record (having g.0 (q.transit ++ xs) q) { monitors = g.1 } = injected g.2 in
+      let as_asked : x ≡ record (with_name_and_transit g.0 (q.transit ++ xs) q) { monitors = g.1 } = injected g.2 in
       let runs : x.status ≡ Running = ap (λ y. y.status) as_asked ∙ (having_status g.0 (q.transit ++ xs) q ∙ ap (λ y. y.status) keeps) in
       let lives : is_ended q.status ≡ false = ap (λ y. is_ended y.status) keeps in
       let has : x.transit ≡ q.transit ++ xs = ap (λ y. y.transit) as_asked ∙ ap (λ b. (cond {A = Process} b q (record q { name = g.0; transit = q.transit ++ xs })).transit) lives in
-      let moves : r ≡ having x.name x.transit (answers (with None [] x) after (raised a.value)) = answers_own x after (raised a.value) runs in
+      let moves : r ≡ with_name_and_transit x.name x.transit (answers (with None [] x) after (raised a.value)) = answers_own x after (raised a.value) runs in
       let transit : x.transit ≡ p.transit ++ xs = has ∙ ap (λ y. y.transit ++ xs) keeps in
       subst (λ ps. Account [] (xs ++ signals_to pid (asker_sends pid after a (Some x))) (Some p) (process_of (with_made ps pid r) pid)) (sym same)
       (subst (Account [] (xs ++ signals_to pid (asker_sends pid after a (Some x))) (Some p)) (sym (hearing_here pid r.status (with_process a.processes pid r) r (put_here a.processes pid x r there) refl))

@@ -25,7 +25,7 @@ use Rattle.beam_model.specs.Mailbox.{message_at, with_next, with_removed}
 use Rattle.beam_model.specs.declared.native.ProcessNative.{ProcessNative}
 use Rattle.beam_model.specs.Native.{native_value, truth}
 use Rattle.beam_machine.specs.Change.{is_live}
-use Rattle.beam_laws.proofs.Places.{IsLivePlace, GoesHome, FramesHome, IsDeadlineHome, Stands, Whole}
+use Rattle.beam_laws.proofs.LivePlaces.{IsLivePlace, GoesHome, FramesHome, IsDeadlineHome, Stands, Whole}
 use Rattle.beam_machine.specs.Process.{Process, read, read_x, put_x, dropped, words_of, own_pid, bared}
 use Rattle.beam_machine.specs.declared.callee.After.{After}
 use Rattle.beam_machine.specs.declared.callee.After.TheVariants.{NextRow, Return}

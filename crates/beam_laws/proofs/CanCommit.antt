@@ -5,7 +5,7 @@ use Rattle.beam_machine.specs.Debug.{Debugged}
 use Rattle.beam_machine.specs.Process.{Process, is_ended}
 use Rattle.beam_machine.specs.State.{process_of}
 use Rattle.beam_laws.proofs.Ending.{is_there}
-use Rattle.beam_laws.specs.Kin.{Kin, same_numbers}
+use Rattle.beam_laws.specs.EarlierCode.{IsEarlierCode, same_numbers}
 use Rattle.beam_laws.specs.Origin.{Origin}
 use Rattle.beam_laws.specs.Out.{IsAsItWas, IsOut}
 use Rattle.beam_laws.specs.Slice.{CanCommit}
@@ -16,7 +16,7 @@ lives_on d o q lives (inl over) = absurd (true≢false (sym over ∙ lives))
 lives_on d o q lives (inr was) = was
 
 pub can_commit : (d : Debugged) (o : Origin) (q : Process) → IsOut d o → process_of d.node.processes o.pid ≡ Some q → is_ended q.status ≡ false
-    → Kin o.code d.node → same_numbers o.code d.node.code ≡ true → d.spots ≡ o.spots → CanCommit d o q
+    → IsEarlierCode o.code d.node → same_numbers o.code d.node.code ≡ true → d.spots ≡ o.spots → CanCommit d o q
 can_commit d o q (z, there, was) at lives kin numbers spots =
     let one : z ≡ q = is_there z q (sym there ∙ at) in
     let own : (is_ended q.status ≡ true) ⊎ IsAsItWas d o q = subst (λ x. (is_ended x.status ≡ true) ⊎ IsAsItWas d o x) one was in

@@ -12,7 +12,7 @@ use Rattle.beam_machine.specs.Code.{Instance, Versions, Code, versions_of, listi
 use Rattle.beam_machine.specs.Process.{Process, ended, killed}
 use Rattle.beam_machine.specs.Change.{old_of, loaded, deleted, purged, with_versions, lingers, lingers_at, lingers_in_old, pids_of, ends_or_hears, killing, is_live, IsHome, AreHome}
 use Rattle.beam_laws.proofs.Lookups.{behind, more_live, live_with}
-use Rattle.beam_laws.proofs.Places.{equal}
+use Rattle.beam_laws.proofs.LivePlaces.{equal}
 
 -- ---- a process whose instances stay live stays home
 

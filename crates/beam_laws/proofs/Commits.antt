@@ -11,7 +11,7 @@ use Rattle.beam_machine.specs.Row.{Outcome, makes, sends, asks, sleeps, outcome}
 use Rattle.beam_machine.specs.State.{State, process_of, with_process, alive, live_process, posted_to, posted, hearing_by}
 use Rattle.beam_machine.specs.Next.{Rows, put_process, made_process, done_by, row, one_more, running, row_and, steps}
 use Rattle.beam_machine.specs.Private.{Private, End, at_limit, after_row, before_node_row, stops, with_first_row, with_first_sending, private_by, private_rows}
-use Rattle.beam_laws.specs.Private.{having, posted_all, after_private, before}
+use Rattle.beam_laws.specs.Private.{with_name_and_transit, posted_all, after_private, before}
 use Rattle.beam_laws.proofs.Ending.{alive_is}
 use Rattle.beam_laws.proofs.Numbered.{positive, put_same, put_put, put_commutes, put_here, put_elsewhere, alive_of, gone}
 use Rattle.beam_laws.proofs.Hearing.{none_hear}
@@ -52,8 +52,8 @@ abbrev more : Signal → Process → Process
 more signal p = record p { transit = p.transit ++ signal ∷ [] }
 
 -- the process after rows, put before its signal to itself is posted and after it
-own_commutes : (ps : List Process) (pid : ℕ) (signal : Signal) (p r : Process) (b : Bool) → is_ended r.status ≡ b → process_of ps pid ≡ Some p → having p.name p.transit r ≡ r
-    → with_process ps pid (having p.name (p.transit ++ signal ∷ []) r) ≡ posted (with_process ps pid r) pid signal
+own_commutes : (ps : List Process) (pid : ℕ) (signal : Signal) (p r : Process) (b : Bool) → is_ended r.status ≡ b → process_of ps pid ≡ Some p → with_name_and_transit p.name p.transit r ≡ r
+    → with_process ps pid (with_name_and_transit p.name (p.transit ++ signal ∷ []) r) ≡ posted (with_process ps pid r) pid signal
 own_commutes ps pid signal p r true over e keeps =
     ap (λ b. with_process ps pid (cond b r (record r { name = p.name; transit = p.transit ++ signal ∷ [] }))) over
     ∙ sym (ap (λ o. posted_to (with_process ps pid r) pid signal (alive o)) (put_here ps pid p r e) ∙ ap (posted_to (with_process ps pid r) pid signal) (gone r over))
@@ -163,7 +163,7 @@ sends_commits code n pid m commits s p q to signal true is c e lives first_row =
     let x : Process = more signal q in
     let posts : posted ps pid signal ≡ with_process ps pid x = own ps pid signal q here lives in
     let unread : private_rows code n x ≡ private_having q.name x.transit rows = ap (private_rows code n) (sym (ap (λ b. cond b q (more signal q)) lives)) ∙ rows_unread code n q q.name x.transit in
-    let r : Process = having q.name x.transit rows.process in
+    let r : Process = with_name_and_transit q.name x.transit rows.process in
     let put : with_process (posted ps pid signal) pid r ≡ posted (with_process ps pid rows.process) pid signal =
     ap (λ qs. with_process qs pid r) posts ∙ (put_put ps pid x r ∙ own_commutes ps pid signal q rows.process (is_ended rows.process.status) refl here (rows_keep code n q)) in
     let there : process_of (posted ps pid signal) pid ≡ Some x = ap (λ qs. process_of qs pid) posts ∙ put_here ps pid q x here in

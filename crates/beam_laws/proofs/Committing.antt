@@ -13,7 +13,7 @@ use Rattle.beam_machine.specs.Process.{Process, is_running, is_waiting, is_ended
 use Rattle.beam_machine.specs.State.{State, process_of, with_process, alive, live_process}
 use Rattle.beam_machine.specs.Next.{row, running, row_and, steps}
 use Rattle.beam_machine.specs.Private.{Private, before_node_row, at_spot, private_to_spot}
-use Rattle.beam_laws.specs.Private.{IsStill, having, with_signals, posted_all, after_private, with_given}
+use Rattle.beam_laws.specs.Private.{IsStill, with_name_and_transit, with_signals, posted_all, after_private, with_name_and_transit_of}
 use Rattle.beam_laws.specs.Signals.{signals_to}
 use Rattle.beam_laws.proofs.Ending.{runs_on}
 use Rattle.beam_laws.proofs.Hearing.{as_before, hearing_here}
@@ -29,7 +29,7 @@ use Rattle.beam_laws.proofs.SpotEnds.{slice_ends}
 
 -- ---- the process in the node
 
-having_goes : (name : Option (List ℕ)) (transit : List Signal) (p : Process) → (having name transit p).goes ≡ p.goes
+having_goes : (name : Option (List ℕ)) (transit : List Signal) (p : Process) → (with_name_and_transit name transit p).goes ≡ p.goes
 having_goes name transit p = elim (is_ended p.status) as (λ b. (cond {A = Process} b p (record p { name = name; transit = transit })).goes ≡ p.goes) [ true ↦ refl | false ↦ refl ]
 
 -- the process after private rows, which may have sent signals to itself
@@ -48,11 +48,11 @@ Reaches t pid p = (x : Process) × (process_of t.processes pid ≡ Some x) × (x
 
 reached : (s : State) (pid : ℕ) (q : Process) (rows : Private) → process_of s.processes pid ≡ Some q → Reaches (committed s pid q rows).state pid rows.process
 reached s pid q rows e =
-    let given : Process = having q.name q.transit rows.process in
+    let given : Process = with_name_and_transit q.name q.transit rows.process in
     let signals : List Signal = signals_to pid rows.sent in
     let x : Process = with_signals signals given in (
       x,
-      own_after s pid q (with_given q rows) e,
+      own_after s pid q (with_name_and_transit_of q rows) e,
       having_status given.name (given.transit ++ signals) given ∙ having_status q.name q.transit rows.process,
       having_goes given.name (given.transit ++ signals) given ∙ having_goes q.name q.transit rows.process,
     )
@@ -67,7 +67,7 @@ further : (d : Debugged) (o : Origin) (n m : ℕ) (q : Process) → CanCommit d 
     ≡ before_halting (slice_of o n).count (halting d.spots (passes_after (slice_of o n).count o.passes) (committed d.node o.pid q (slice_of o n)).state o.pid m)
 further d o n m q (at, (still, held, passes), code, spots) lives =
     let rows : Private = slice_of o n in
-    let over : private_to_spot d.spots o.passes d.node.code n q ≡ with_given q rows =
+    let over : private_to_spot d.spots o.passes d.node.code n q ≡ with_name_and_transit_of q rows =
     ap (λ c. private_to_spot d.spots o.passes c n q) code ∙ (ap (λ x. private_to_spot x o.passes o.code n q) spots ∙ spot_later o.spots o.passes o.code n o.process q still) in
     ap (λ b. halting d.spots b d.node o.pid (rows.count + m)) passes
     ∙ subst (λ (r : Private). halting d.spots o.passes d.node o.pid (r.count + m) ≡ before_halting r.count (halting d.spots (passes_after r.count o.passes) (after_private d.node o.pid r) o.pid m))

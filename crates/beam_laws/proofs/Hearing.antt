@@ -12,7 +12,7 @@ use Rattle.beam_machine.specs.Change.{old_of, lingers, lingers_at, lingers_in_ol
 use Rattle.beam_machine.specs.Code.{Code}
 use Rattle.beam_machine.specs.Process.{Process, is_ended, ended, killed}
 use Rattle.beam_machine.specs.State.{process_of, with_signals, downs, hearing_by}
-use Rattle.beam_laws.specs.Private.{heard}
+use Rattle.beam_laws.specs.Private.{downs_of_end}
 
 -- ---- a process with more signals in transit to it
 
@@ -33,7 +33,7 @@ as_before of signals p same = elim (is_ended p.status) as (λ b. of (cond b p (r
 -- ---- the DOWNs of an end
 
 abbrev pub hears : ℕ → Status → Process → Process
-hears pid status q = with_signals (heard pid status q) q
+hears pid status q = with_signals (downs_of_end pid status q) q
 
 unchanged : (f : Process → Process) → ((q : Process) → f q ≡ q) → (ps : List Process) → map f ps ≡ ps
 unchanged f same [] = refl
@@ -69,13 +69,13 @@ pub hearing_here : (pid : ℕ) (status : Status) (ps : List Process) (p : Proces
 hearing_here pid status ps p e same = hearing_at pid status ps pid ∙ (ap (option_map (hears pid status)) e ∙ ap Some (own_hears pid status p same))
 
 -- there are no DOWNs of a process that hasn't ended
-pub none_heard : (pid : ℕ) (status : Status) (q : Process) → is_ended status ≡ false → heard pid status q ≡ []
+pub none_heard : (pid : ℕ) (status : Status) (q : Process) → is_ended status ≡ false → downs_of_end pid status q ≡ []
 none_heard pid Running q lives = refl
 none_heard pid Waiting q lives = refl
 none_heard pid (Ended reason value) q lives = cc
 
 -- the DOWNs to a process don't depend on the signals in transit to it
-pub heard_same : (pid : ℕ) (status : Status) (signals : List Signal) (q : Process) → heard pid status (with_signals signals q) ≡ heard pid status q
+pub heard_same : (pid : ℕ) (status : Status) (signals : List Signal) (q : Process) → downs_of_end pid status (with_signals signals q) ≡ downs_of_end pid status q
 heard_same pid Running signals q = refl
 heard_same pid Waiting signals q = refl
 heard_same pid (Ended reason value) signals q = as_before (λ q. downs pid reason q.monitors) signals q refl

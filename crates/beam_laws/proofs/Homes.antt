@@ -21,10 +21,10 @@ use Rattle.beam_machine.specs.Change.{loaded, deleted, purged, lingers, lingers_
 use Rattle.beam_machine.specs.Next.{made_process, raised, notified, continues, goes_on_with, deadline_at, done_by, row, Rows, running, row_and, steps, signalled, arrived, delivered, purge_old, end_old, load_new, next}
 use Rattle.beam_machine.specs.Run.{run}
 use Rattle.beam_machine.specs.Touch.{Touch, touch_of, Touches, stays, in_turn, loads, deletes, ends, purges, runs, arrives, times_out, ticks, posts, starts}
-use Rattle.beam_laws.proofs.Places.{IsDeadlineHome, Whole, whole_home, home_whole}
+use Rattle.beam_laws.proofs.LivePlaces.{IsDeadlineHome, Whole, whole_home, home_whole}
 use Rattle.beam_laws.proofs.Calls.{AfterHome, ComesHome, answers_home, outcome_home}
 use Rattle.beam_laws.proofs.Answering.{IsHomeIf, set_home, process_home, live_home, appended_home, started_home, posted_home, answer_home}
-use Rattle.beam_laws.specs.Private.{heard}
+use Rattle.beam_laws.specs.Private.{downs_of_end}
 use Rattle.beam_laws.proofs.Changes.{all_kept, loaded_keeps, deleted_keeps, purged_keeps, purged_home, killed_home}
 use Rattle.beam_laws.proofs.Hearing.{as_before, hears, hearing_is}
 use Rattle.beam_laws.proofs.Touching.{next_touches}
@@ -40,7 +40,7 @@ hearing_home code pid status ps h = subst (AreHome code) (sym (hearing_is pid st
   where
     each : (ps : List Process) → AreHome code ps → AreHome code (map (hears pid status) ps)
     each [] h = tt
-    each (q ∷ qs) h = ((λ n e. h.0 n (sym (as_before (lingers n) (heard pid status q) q refl) ∙ e)), each qs h.1)
+    each (q ∷ qs) h = ((λ n e. h.0 n (sym (as_before (lingers n) (downs_of_end pid status q) q refl) ∙ e)), each qs h.1)
 
 made_home : (s : State) (pid : ℕ) (p : Process) → IsStateHome s → IsHome s.code p → IsStateHome (made_process s pid p)
 made_home s pid p h i = hearing_home s.code pid p.status (with_process s.processes pid p) (set_home s.code s.processes (pid - 1) p h i)

@@ -14,7 +14,7 @@ use Rattle.beam_machine.specs.State.{State}
 use Rattle.beam_laws.specs.Numbers.{bears, how_many, Ordered}
 use Rattle.beam_laws.proofs.Debugging.{run_erased}
 use Rattle.beam_laws.proofs.Events.{Kept, kept_run}
-use Rattle.beam_laws.specs.Kin.{IsIn, Kin, same_number, same_numbers}
+use Rattle.beam_laws.specs.EarlierCode.{IsIn, IsEarlierCode, same_number, same_numbers}
 
 -- ---- changes of code bring no other instance
 
@@ -99,10 +99,10 @@ within_loaded number l (v ∷ rest) j =
 
 -- ---- what events keep
 
-fewer_kin : (code new : Code) (s : State) → Within new s.code → Kin code s → Kin code (record s { code = new })
+fewer_kin : (code new : Code) (s : State) → Within new s.code → IsEarlierCode code s → IsEarlierCode code (record s { code = new })
 fewer_kin code new s within k i x = ((k i x).0, λ j y. (k i x).1 j (within j y))
 
-loaded_kin : (code : Code) (s : State) (l : Listing) → Kin code s → Kin code (record s { code = loaded s.code (s.instances + 1) l; instances = s.instances + 1 })
+loaded_kin : (code : Code) (s : State) (l : Listing) → IsEarlierCode code s → IsEarlierCode code (record s { code = loaded s.code (s.instances + 1) l; instances = s.instances + 1 })
 loaded_kin code s l k i x = (omega (arith, (k i x).0), λ j y e. by j (within_loaded (s.instances + 1) l s.code j y) e)
   where
     by : (j : Instance) → IsNew (s.instances + 1) s.code j → j.number ≡ i.number → j ≡ i
@@ -111,7 +111,7 @@ loaded_kin code s l k i x = (omega (arith, (k i x).0), λ j y e. by j (within_lo
 
 kin : Code → Kept
 kin code = record {
-  keeps = λ s t. Kin code s → Kin code t;
+  keeps = λ s t. IsEarlierCode code s → IsEarlierCode code t;
   then = λ s t u a b k. b (a k);
   still = λ s t a k. λ i x. (subst (λ n. i.number ≤ n) (sym a.2) (k i x).0, λ j y. (k i x).1 j (subst (λ c. IsIn c j) a.0 y));
   clock = λ s now a k. k;
@@ -120,11 +120,11 @@ kin code = record {
   load = λ s l k. loaded_kin code s l k;
 }
 
-pub stay_kin : (code : Code) (d : Debugged) (events : List (DebugEvent Listing)) → Kin code d.node → Kin code (debug_run d events).state.node
+pub stay_kin : (code : Code) (d : Debugged) (events : List (DebugEvent Listing)) → IsEarlierCode code d.node → IsEarlierCode code (debug_run d events).state.node
 unfolding kin
-stay_kin code d events k = subst (Kin code) (run_erased d events) (kept_run (kin code) d.node (erase d events) k)
+stay_kin code d events k = subst (IsEarlierCode code) (run_erased d events) (kept_run (kin code) d.node (erase d events) k)
 
-pub stays_kin : (code : Code) (d : Debugged) (e : DebugEvent Listing) → Kin code d.node → Kin code (debug_next d e).state.node
+pub stays_kin : (code : Code) (d : Debugged) (e : DebugEvent Listing) → IsEarlierCode code d.node → IsEarlierCode code (debug_next d e).state.node
 stays_kin code d e k = stay_kin code d (e ∷ []) k
 
 -- ---- each number is one instance's
@@ -160,7 +160,7 @@ module _ (n : ℕ) (i j : Instance) (a : i.number ≡ n) (b : j.number ≡ n) wh
   one_instance (v ∷ rest) h (inr (inr x)) (inr (inl f)) = absurd (omega (arith, h, counted_same n rest i x a, bears_same n j v.old f b))
   one_instance (v ∷ rest) h (inr (inr x)) (inr (inr y)) = one_instance rest (omega (arith, h)) x y
 
-pub own_kin : (s : State) → Ordered s.code s.instances → Kin s.code s
+pub own_kin : (s : State) → Ordered s.code s.instances → IsEarlierCode s.code s
 own_kin s o i x = (by (nat_lt s.instances i.number) refl, λ j y same. one_instance i.number i j refl same s.code (o i.number).0 x y)
   where
     by : (b : Bool) → nat_lt s.instances i.number ≡ b → i.number ≤ s.instances
@@ -206,7 +206,7 @@ same_code (v ∷ code) (w ∷ others) agree e =
     ∙ (ap (λ o. record { name = w.name; current = w.current; old = o } ∷ code) olds
     ∙ ap (λ c. w ∷ c) rest))
 
-pub is_same : (code : Code) (s : State) → Kin code s → same_numbers code s.code ≡ true → code ≡ s.code
+pub is_same : (code : Code) (s : State) → IsEarlierCode code s → same_numbers code s.code ≡ true → code ≡ s.code
 is_same code s k = same_code code s.code (λ i j x y e. (k i x).1 j y e)
 
 own_number : (o : Option Instance) → same_number o o ≡ true

@@ -1,4 +1,4 @@
-pub mod Places
+pub mod LivePlaces
 pub mod Lookups
 pub mod Registers
 pub mod Rows
@@ -33,12 +33,12 @@ pub mod Accounts
 pub mod Waiting
 pub mod Delayed
 pub mod Debugging
-pub mod Answered
+pub mod PreservedByAnswers
 pub mod CanCommit
 pub mod Committing
 pub mod Halts
 pub mod Kinship
-pub mod Marks
+pub mod UndisturbedDebugState
 pub mod Others
 pub mod SpotEnds
 pub mod Spots

@@ -2,7 +2,7 @@
 use Rattle.std.proofs.Common.{◌+◌, ◌^◌, Bool, true, false, cond, not, nat_lt, List, [], ◌∷◌, length}
 use Rattle.std.specs.List.{list_any}
 use Rattle.beam_machine.specs.declared.event.Event.TheVariants as event
-use Rattle.beam_machine.specs.declared.event.Mode.{Mode}
+use Rattle.beam_machine.specs.declared.event.UpgradeMode.{UpgradeMode}
 use Rattle.beam_machine.specs.declared.event.Refused.TheVariants.{Sticky, NotPurged, Duplicated, TooMany}
 use Rattle.beam_model.specs.Listing.{Listing}
 use Rattle.beam_model.specs.NativeNames.{is_erlang}
@@ -26,7 +26,7 @@ either P true x y h k = h
 either P false x y h k = k
 
 -- an upgrade list keeps each statement that those ends and a load keep
-pub kept : (P : State → Type 0) → Ends P → Loads P → (s : State) (mode : Mode) (ls : List Listing) → P s → P (next s (event.AtomicLoad mode ls)).state
+pub kept : (P : State → Type 0) → Ends P → Loads P → (s : State) (mode : UpgradeMode) (ls : List Listing) → P s → P (next s (event.AtomicLoad mode ls)).state
 kept P ends loads s mode ls h =
     either P (list_any (λ l. is_erlang l.name) ls) (refused s Sticky) _ h
     (either P (not (are_apart ls)) (refused s Duplicated) _ h

@@ -6,7 +6,7 @@ use Rattle.beam_model.specs.Listing.{Listing, entry_at}
 use Rattle.beam_model.specs.SameText.{same_text}
 use Rattle.beam_machine.specs.Code.{Instance, Versions, Code, versions_of, listing_in, listing_of, entry_in, entry_of}
 use Rattle.beam_machine.specs.Change.{has_instance, with_versions, is_live}
-use Rattle.beam_laws.proofs.Places.{IsLivePlace}
+use Rattle.beam_laws.proofs.LivePlaces.{IsLivePlace}
 
 -- neither of two truths holds
 pub left_false : (a b : Bool) → (a || b) ≡ false → a ≡ false

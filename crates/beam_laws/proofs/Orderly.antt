@@ -29,7 +29,7 @@ use Rattle.beam_machine.specs.Touch.{Touch, touch_of, Touches, stays, in_turn, l
 pub use Rattle.beam_laws.specs.Orderly.{Numbered, Apart, Orderly}
 use Rattle.beam_laws.proofs.Ending.{is_there, running_is, alive_is, at_index, final}
 use Rattle.beam_laws.proofs.Follows.{Ends, Follows, Lives, on, over, answered, Comes, outcome_comes}
-use Rattle.beam_laws.specs.Private.{heard}
+use Rattle.beam_laws.specs.Private.{downs_of_end}
 use Rattle.beam_laws.proofs.Hearing.{hears, hearing_is}
 use Rattle.beam_laws.proofs.Touching.{next_touches}
 
@@ -111,7 +111,7 @@ map_orderly f ps follows h = carried ps (map f ps) h (λ i q e.
 -- the DOWNs of an end keep the order
 pub hearing_orderly : (pid : ℕ) (status : Status) (ps : List Process) → Orderly ps → Orderly (hearing_by pid status ps)
 hearing_orderly pid status ps h =
-    subst Orderly (sym (hearing_is pid status ps)) (map_orderly (hears pid status) ps (λ p ends. signalled_follows (heard pid status p) p ends) h)
+    subst Orderly (sym (hearing_is pid status ps)) (map_orderly (hears pid status) ps (λ p ends. signalled_follows (downs_of_end pid status p) p ends) h)
 
 pub killing_orderly : (test : Process → Bool) (ps : List Process) → Orderly ps → Orderly (killing test ps)
 killing_orderly test ps h = map_orderly (ends_or_hears test (pids_of test ps)) ps follows h

@@ -16,7 +16,7 @@ use Rattle.beam_machine.specs.State.{State, process_of, with_signals, downs}
 use Rattle.beam_machine.specs.Next.{next}
 use Rattle.beam_machine.specs.Run.{run}
 use Rattle.beam_machine.specs.Touch.{Touch, code, process, clock, nothing, touch_of, Touches, stays, in_turn, loads, deletes, ends, purges}
-use Rattle.beam_laws.specs.Private.{having, IsStill, is_of_others, touches_others}
+use Rattle.beam_laws.specs.Private.{with_name_and_transit, IsStill, is_of_others, touches_others}
 use Rattle.beam_laws.specs.Signals.{sent, signals_to}
 use Rattle.beam_laws.proofs.Debugging.{run_erased}
 use Rattle.beam_laws.proofs.Private.{having_having, having_own}
@@ -27,21 +27,21 @@ use Rattle.beam_laws.proofs.Touching.{next_touches}
 
 -- the second process has ended, or is the first with another name and other signals in transit
 abbrev pub Left : Process → Process → Type 0
-Left q z = (is_ended z.status ≡ true) ⊎ ((name : Option (List ℕ)) × (transit : List Signal) × (z ≡ having name transit q))
+Left q z = (is_ended z.status ≡ true) ⊎ ((name : Option (List ℕ)) × (transit : List Signal) × (z ≡ with_name_and_transit name transit q))
 
 -- ---- a process that was still another
 
-given : (name : Option (List ℕ)) (transit : List Signal) (p : Process) → having name transit p ≡ having (having name transit p).name (having name transit p).transit p
+given : (name : Option (List ℕ)) (transit : List Signal) (p : Process) → with_name_and_transit name transit p ≡ with_name_and_transit (with_name_and_transit name transit p).name (with_name_and_transit name transit p).transit p
 given name transit p = go (is_ended p.status) refl
   where
-    go : (b : Bool) → is_ended p.status ≡ b → cond b p (record p { name = name; transit = transit }) ≡ having (cond {A = Process} b p (record p { name = name; transit = transit })).name (cond {A = Process} b p (record p { name = name; transit = transit })).transit p
+    go : (b : Bool) → is_ended p.status ≡ b → cond b p (record p { name = name; transit = transit }) ≡ with_name_and_transit (cond {A = Process} b p (record p { name = name; transit = transit })).name (cond {A = Process} b p (record p { name = name; transit = transit })).transit p
     go true e = sym (having_own p)
     go false e = sym (ap (λ b. cond b p (record p { name = name; transit = transit })) e)
 
 pub still_left : (p q z : Process) → IsStill p q → Left q z → (is_ended z.status ≡ true) ⊎ IsStill p z
 still_left p q z still (inl over) = inl over
 still_left p q z still (inr (name, transit, is)) =
-    let again : z ≡ having name transit p = is ∙ (ap (having name transit) still ∙ having_having name q.name transit q.transit p) in
+    let again : z ≡ with_name_and_transit name transit p = is ∙ (ap (with_name_and_transit name transit) still ∙ having_having name q.name transit q.transit p) in
     inr (subst (IsStill p) (sym again) (given name transit p))
 
 pub ended_left : (q z : Process) → is_ended q.status ≡ true → Left q z → is_ended z.status ≡ true
@@ -51,7 +51,7 @@ ended_left q z over (inr (name, transit, is)) = ap (λ x. is_ended x.status) is 
 left_more : (q y z : Process) → Left q y → Left y z → Left q z
 left_more q y z h (inl over) = inl over
 left_more q y z (inl over) (inr k) = inl (ended_left y z over (inr k))
-left_more q y z (inr (name, transit, is)) (inr (other, more, as')) = inr (other, more, as' ∙ (ap (having other more) is ∙ having_having other name more transit q))
+left_more q y z (inr (name, transit, is)) (inr (other, more, as')) = inr (other, more, as' ∙ (ap (with_name_and_transit other more) is ∙ having_having other name more transit q))
 
 -- ---- events of the node
 
@@ -66,7 +66,7 @@ module _ (pid : ℕ) where
   by_others s e h q at =
       let left = others_leave s (e ∷ []) pid q (h, tt) at in
       let transit : List Signal = q.transit ++ signals_to pid (sent s (e ∷ [])) in
-      (having left.1.0 transit q, left.1.1, inr (left.1.0, transit, refl))
+      (with_name_and_transit left.1.0 transit q, left.1.1, inr (left.1.0, transit, refl))
 
   -- a change of code ends the processes that linger in an old instance
   mapped : (f : Process → Process) (ps : List Process) (q : Process) → process_of ps pid ≡ Some q → process_of (map f ps) pid ≡ Some (f q)

@@ -16,33 +16,33 @@ use Rattle.beam_machine.specs.State.{process_of, with_process, alive, live_proce
 use Rattle.beam_machine.specs.declared.process.Status.{Status}
 use Rattle.beam_machine.specs.NodeNative.{Answered, answer, fault, most_processes, spawns_with, names, registers, unnames, unregisters, is_alive, posted_if_own, sends_named, most_references, makes_reference, or_noproc, put_monitor, monitored, monitors_by, answer_of}
 use Rattle.beam_machine.specs.Private.{Sent}
-use Rattle.beam_laws.specs.Private.{having, with_signals, posted_all}
+use Rattle.beam_laws.specs.Private.{with_name_and_transit, with_signals, posted_all}
 use Rattle.beam_laws.specs.Signals.{signal_to, signal_if, each_sent, noproc_sends, native_sends, signals_to}
 use Rattle.beam_laws.proofs.Ending.{alive_is, get_push}
 use Rattle.beam_laws.proofs.Numbered.{positive, put_here, put_elsewhere}
-use Rattle.beam_laws.specs.Private.{heard}
+use Rattle.beam_laws.specs.Private.{downs_of_end}
 use Rattle.beam_laws.proofs.Hearing.{hears, hearing_at}
 use Rattle.beam_laws.proofs.Private.{having_own}
 
 -- ---- more signals
 
 pub no_signals : (p : Process) → with_signals [] p ≡ p
-no_signals p = ap (λ ts. having p.name ts p) (append-nil p.transit) ∙ having_own p
+no_signals p = ap (λ ts. with_name_and_transit p.name ts p) (append-nil p.transit) ∙ having_own p
 
 -- two names, and signals twice
 pub having_more : (name m : Option (List ℕ)) (xs ys : List Signal) (p : Process)
-    → having m ((having name (p.transit ++ xs) p).transit ++ ys) (having name (p.transit ++ xs) p) ≡ having m (p.transit ++ (xs ++ ys)) p
+    → with_name_and_transit m ((with_name_and_transit name (p.transit ++ xs) p).transit ++ ys) (with_name_and_transit name (p.transit ++ xs) p) ≡ with_name_and_transit m (p.transit ++ (xs ++ ys)) p
 having_more name m xs ys p = go (is_ended p.status) refl
   where
     go : (b : Bool) → is_ended p.status ≡ b
-        → having m ((cond {A = Process} b p (record p { name = name; transit = p.transit ++ xs })).transit ++ ys) (cond b p (record p { name = name; transit = p.transit ++ xs })) ≡ having m (p.transit ++ (xs ++ ys)) p
+        → with_name_and_transit m ((cond {A = Process} b p (record p { name = name; transit = p.transit ++ xs })).transit ++ ys) (cond b p (record p { name = name; transit = p.transit ++ xs })) ≡ with_name_and_transit m (p.transit ++ (xs ++ ys)) p
     go true e = ap (λ b. cond b p (record p { name = m; transit = p.transit ++ ys })) e ∙ sym (ap (λ b. cond b p (record p { name = m; transit = p.transit ++ (xs ++ ys) })) e)
     go false e =
         ap (λ b. cond b (record p { name = name; transit = p.transit ++ xs }) (record p { name = m; transit = (p.transit ++ xs) ++ ys })) e
         ∙ (ap (λ ts. record p { name = m; transit = ts }) (append_assoc p.transit xs ys) ∙ sym (ap (λ b. cond b p (record p { name = m; transit = p.transit ++ (xs ++ ys) })) e))
 
 pub more_signals : (xs ys : List Signal) (p : Process) → with_signals ys (with_signals xs p) ≡ with_signals (xs ++ ys) p
-more_signals xs ys p = ap (λ name. having name ((with_signals xs p).transit ++ ys) (with_signals xs p)) same_name ∙ having_more p.name p.name xs ys p
+more_signals xs ys p = ap (λ name. with_name_and_transit name ((with_signals xs p).transit ++ ys) (with_signals xs p)) same_name ∙ having_more p.name p.name xs ys p
   where
     same_name : (with_signals xs p).name ≡ p.name
     same_name = elim (is_ended p.status) as (λ b. (cond {A = Process} b p (record p { name = p.name; transit = p.transit ++ xs })).name ≡ p.name) [ true ↦ refl | false ↦ refl ]
@@ -62,7 +62,7 @@ posted_here : (ps : List Process) (to : ℕ) (signal : Signal) (o : Option Proce
 posted_here ps to signal None e = e
 posted_here ps to signal (Some p) e = go (is_ended p.status) refl
   where
-    go : (b : Bool) → is_ended p.status ≡ b → process_of (posted_to ps to signal (cond b None (Some p))) to ≡ Some (having p.name (p.transit ++ signal ∷ []) p)
+    go : (b : Bool) → is_ended p.status ≡ b → process_of (posted_to ps to signal (cond b None (Some p))) to ≡ Some (with_name_and_transit p.name (p.transit ++ signal ∷ []) p)
     go true over = e ∙ sym (ap (λ b. Some (cond b p (record p { name = p.name; transit = p.transit ++ signal ∷ [] }))) over)
     go false lives =
         put_here ps to p (record p { transit = p.transit ++ signal ∷ [] }) e ∙ sym (ap (λ b. Some (cond b p (record p { name = p.name; transit = p.transit ++ signal ∷ [] }))) lives)
@@ -159,13 +159,13 @@ Fresh signals (Some q) = (is_ended q.status ≡ false) × (q.transit ≡ signals
 -- the process with more signals after those in transit to it, and perhaps with another name
 abbrev pub Grown : List Signal → Option Process → Option Process → Type 0
 Grown signals None o = Fresh signals o
-Grown signals (Some p) o = (name : Option (List ℕ)) × (o ≡ Some (having name (p.transit ++ signals) p))
+Grown signals (Some p) o = (name : Option (List ℕ)) × (o ≡ Some (with_name_and_transit name (p.transit ++ signals) p))
 
 grown_still : (o : Option Process) → Grown [] o o
 grown_still None = refl
 grown_still (Some p) = (p.name, ap Some (sym (no_signals p)))
 
-fresh_more : (xs ys : List Signal) (q : Process) (name : Option (List ℕ)) (o : Option Process) → is_ended q.status ≡ false → q.transit ≡ xs → o ≡ Some (having name (q.transit ++ ys) q) → Fresh (xs ++ ys) o
+fresh_more : (xs ys : List Signal) (q : Process) (name : Option (List ℕ)) (o : Option Process) → is_ended q.status ≡ false → q.transit ≡ xs → o ≡ Some (with_name_and_transit name (q.transit ++ ys) q) → Fresh (xs ++ ys) o
 fresh_more xs ys q name o lives t e =
     let is : Some (record q { name = name; transit = xs ++ ys }) ≡ o = ap (λ ts. Some (record q { name = name; transit = ts ++ ys })) (sym t) ∙ (sym (ap (λ b. Some (cond b q (record q { name = name; transit = q.transit ++ ys }))) lives) ∙ sym e) in
     subst (Fresh (xs ++ ys)) is (lives, refl)
@@ -174,7 +174,7 @@ pub grown_more : (xs ys : List Signal) (o u v : Option Process) → Grown xs o u
 grown_more xs ys None None v g h = subst (λ zs. Fresh (zs ++ ys) v) (sym g) h
 grown_more xs ys None (Some q) v g h = fresh_more xs ys q h.0 v g.0 g.1 h.1
 grown_more xs ys (Some p) u v g h =
-    let then : Grown ys (Some (having g.0 (p.transit ++ xs) p)) v = subst (λ u. Grown ys u v) g.1 h in
+    let then : Grown ys (Some (with_name_and_transit g.0 (p.transit ++ xs) p)) v = subst (λ u. Grown ys u v) g.1 h in
     (then.0, then.1 ∙ ap Some (having_more g.0 then.0 xs ys p))
 
 module _ (pid : ℕ) where
@@ -242,7 +242,7 @@ module _ (pid : ℕ) where
       go true h =
           let a = alive_is (process_of ps at) x e in
           let here : at ≡ pid = grind (arith, nat_tests) in
-          let is : record x { name = name } ≡ having name (x.transit ++ []) x =
+          let is : record x { name = name } ≡ with_name_and_transit name (x.transit ++ []) x =
           ap (λ ts. record x { name = name; transit = ts }) (sym (append-nil x.transit)) ∙ sym (ap (λ b. cond b x (record x { name = name; transit = x.transit ++ [] })) a.1) in
           subst (λ pid. Grown [] (process_of ps pid) (process_of (with_process ps at (record x { name = name })) pid)) here
           (subst (λ o. Grown [] o (process_of (with_process ps at (record x { name = name })) at)) (sym a.0)
@@ -252,12 +252,12 @@ module _ (pid : ℕ) where
           subst (Grown [] (process_of ps pid)) (sym (put_elsewhere ps at pid (record x { name = name }) other (positive ps at x (alive_is (process_of ps at) x e).0))) (grown_still (process_of ps pid))
 
   -- the DOWNs of an end are the signals that it sends
-  pub hearing_grows : (at : ℕ) (status : Status) (ps : List Process) → Grows (each_sent 1 (heard at status) ps) ps (hearing_by at status ps)
+  pub hearing_grows : (at : ℕ) (status : Status) (ps : List Process) → Grows (each_sent 1 (downs_of_end at status) ps) ps (hearing_by at status ps)
   hearing_grows at status ps =
-      subst (λ xs. Grown xs (process_of ps pid) (process_of (hearing_by at status ps) pid)) (sym (each_sent_to (heard at status) ps pid))
-      (subst (Grown (said (heard at status) (process_of ps pid)) (process_of ps pid)) (sym (hearing_at at status ps pid)) (go (process_of ps pid)))
+      subst (λ xs. Grown xs (process_of ps pid) (process_of (hearing_by at status ps) pid)) (sym (each_sent_to (downs_of_end at status) ps pid))
+      (subst (Grown (said (downs_of_end at status) (process_of ps pid)) (process_of ps pid)) (sym (hearing_at at status ps pid)) (go (process_of ps pid)))
     where
-      go : (o : Option Process) → Grown (said (heard at status) o) o (option_map (hears at status) o)
+      go : (o : Option Process) → Grown (said (downs_of_end at status) o) o (option_map (hears at status) o)
       go None = refl
       go (Some p) = (p.name, refl)
 

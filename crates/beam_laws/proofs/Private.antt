@@ -8,36 +8,36 @@ use Rattle.beam_machine.specs.Code.{Code}
 use Rattle.beam_machine.specs.Process.{Process, is_running, is_ended}
 use Rattle.beam_machine.specs.Row.{Outcome, makes, sends, asks, sleeps, outcome}
 use Rattle.beam_machine.specs.Private.{Private, with_first_row, with_first_sending, private_by, private_rows}
-use Rattle.beam_laws.specs.Private.{having}
+use Rattle.beam_laws.specs.Private.{with_name_and_transit}
 use Rattle.beam_laws.proofs.Unread.{with}
 use Rattle.beam_laws.proofs.UnreadCalls.{moved, outcome_same}
 
-pub having_having : (name m : Option (List ℕ)) (transit t : List Signal) (p : Process) → having name transit (having m t p) ≡ having name transit p
+pub having_having : (name m : Option (List ℕ)) (transit t : List Signal) (p : Process) → with_name_and_transit name transit (with_name_and_transit m t p) ≡ with_name_and_transit name transit p
 having_having name m transit t p = go (is_ended p.status) refl
   where
-    go : (b : Bool) → is_ended p.status ≡ b → having name transit (cond b p (record p { name = m; transit = t })) ≡ having name transit p
+    go : (b : Bool) → is_ended p.status ≡ b → with_name_and_transit name transit (cond b p (record p { name = m; transit = t })) ≡ with_name_and_transit name transit p
     go true e = refl
     go false e = ap (λ b. cond b (record p { name = m; transit = t }) (record p { name = name; transit = transit })) e ∙ sym (ap (λ b. cond b p (record p { name = name; transit = transit })) e)
 
-pub having_own : (p : Process) → having p.name p.transit p ≡ p
+pub having_own : (p : Process) → with_name_and_transit p.name p.transit p ≡ p
 having_own p = elim (is_ended p.status) as (λ b. cond b p p ≡ p) [ true ↦ refl | false ↦ refl ]
 
-pub having_status : (name : Option (List ℕ)) (transit : List Signal) (p : Process) → (having name transit p).status ≡ p.status
+pub having_status : (name : Option (List ℕ)) (transit : List Signal) (p : Process) → (with_name_and_transit name transit p).status ≡ p.status
 having_status name transit p = elim (is_ended p.status) as (λ b. (cond {A = Process} b p (record p { name = name; transit = transit })).status ≡ p.status) [ true ↦ refl | false ↦ refl ]
 
 -- private rows, after which the process has this name and these signals in transit to it
 abbrev pub private_having : Option (List ℕ) → List Signal → Private → Private
-private_having name transit rows = record rows { process = having name transit rows.process }
+private_having name transit rows = record rows { process = with_name_and_transit name transit rows.process }
 
 again : (name m : Option (List ℕ)) (transit t : List Signal) (rows : Private) → private_having name transit (private_having m t rows) ≡ private_having name transit rows
 again name m transit t rows = ap (λ p. record rows { process = p }) (having_having name m transit t rows.process)
 
 abbrev Unread : Code → ℕ → Type 0
-Unread code n = (p : Process) (name : Option (List ℕ)) (transit : List Signal) → private_rows code n (having name transit p) ≡ private_having name transit (private_rows code n p)
+Unread code n = (p : Process) (name : Option (List ℕ)) (transit : List Signal) → private_rows code n (with_name_and_transit name transit p) ≡ private_having name transit (private_rows code n p)
 
 -- rows of one process with two names and two lists of signals in transit
 both : (code : Code) (n : ℕ) → Unread code n → (q : Process) (name m : Option (List ℕ)) (transit t : List Signal)
-    → private_rows code n (having name transit q) ≡ private_having name transit (private_rows code n (having m t q))
+    → private_rows code n (with_name_and_transit name transit q) ≡ private_having name transit (private_rows code n (with_name_and_transit m t q))
 both code n u q name m transit t = u q name transit ∙ (sym (again name m transit t (private_rows code n q)) ∙ sym (ap (private_having name transit) (u q m t)))
 
 row_unread : (code : Code) (n : ℕ) → Unread code n → (p : Process) (name m : Option (List ℕ)) (transit t : List Signal) (o : Outcome)
@@ -48,7 +48,7 @@ row_unread code n u p name m transit t (asks q native arity after) = refl
 row_unread code n u p name m transit t (sleeps q k next) = refl
 
 more_unread : (code : Code) (n : ℕ) → Unread code n → (p : Process) (name : Option (List ℕ)) (transit : List Signal) (status : Status)
-    → private_rows code (suc n) (having name transit (record p { status = status })) ≡ private_having name transit (private_rows code (suc n) (record p { status = status }))
+    → private_rows code (suc n) (with_name_and_transit name transit (record p { status = status })) ≡ private_having name transit (private_rows code (suc n) (record p { status = status }))
 more_unread code n u p name transit Waiting = refl
 more_unread code n u p name transit (Ended reason value) = refl
 more_unread code n u p name transit Running =
@@ -61,17 +61,17 @@ rows_unread code zero p name transit = refl
 rows_unread code (suc n) p name transit = more_unread code n (rows_unread code n) p name transit p.status
 
 -- private rows keep the name of the process and the signals in transit to it
-pub rows_keep : (code : Code) (n : ℕ) (p : Process) → having p.name p.transit (private_rows code n p).process ≡ (private_rows code n p).process
+pub rows_keep : (code : Code) (n : ℕ) (p : Process) → with_name_and_transit p.name p.transit (private_rows code n p).process ≡ (private_rows code n p).process
 rows_keep code n p = ap (λ rows. rows.process) (sym (rows_unread code n p p.name p.transit)) ∙ ap (λ q. (private_rows code n q).process) (having_own p)
 
 -- ---- one row
 
 -- the process of a row that sends or asks runs on, and keeps its name and the signals in transit to it
 abbrev pub Keeps : Option (List ℕ) → List Signal → Outcome → Type 0
-Keeps name transit (makes q) = q ≡ having name transit q
+Keeps name transit (makes q) = q ≡ with_name_and_transit name transit q
 Keeps name transit (sends q to signal) = q ≡ with name transit q
 Keeps name transit (asks q native arity after) = q ≡ with name transit q
-Keeps name transit (sleeps q n next) = q ≡ having name transit q
+Keeps name transit (sleeps q n next) = q ≡ with_name_and_transit name transit q
 
 moved_keeps : (name : Option (List ℕ)) (transit : List Signal) (o : Outcome) → Keeps name transit (moved name transit o)
 moved_keeps name transit (makes q) = sym (having_having name name transit transit q)

@@ -15,7 +15,7 @@ use Rattle.beam_machine.specs.declared.process.Tag.{Tag}
 use Rattle.beam_machine.specs.declared.process.Frame.{Frame}
 use Rattle.beam_machine.specs.Code.{Code}
 use Rattle.beam_machine.specs.Change.{is_live}
-use Rattle.beam_laws.proofs.Places.{IsLivePlace, GoesHome, IsSlotHome, AreSlotsHome, FramesHome, IsDeadlineHome, Stands, Whole}
+use Rattle.beam_laws.proofs.LivePlaces.{IsLivePlace, GoesHome, IsSlotHome, AreSlotsHome, FramesHome, IsDeadlineHome, Stands, Whole}
 use Rattle.beam_machine.specs.Process.{Process, put, put_y, put_slots, with_slots, without_slots, with_y, bared, dropped}
 use Rattle.beam_machine.specs.Row.{tag_in, tag_of, caught_at, unwound, raises, faults, illegal, cleared}
 

@@ -32,7 +32,7 @@ use Rattle.beam_machine.specs.Run.{run}
 use Rattle.beam_machine.specs.State.{State, process_of, with_process, alive, live_process, registered, posted_to, posted, with_signals, downs, hearing_by, with_made}
 use Rattle.beam_machine.specs.Touch.{Touch, touch_of, Touches, stays, in_turn, loads, deletes, ends, purges, runs, arrives, times_out, ticks, posts, starts}
 use Rattle.beam_laws.specs.Monitors.{ArePart, MonitorsNoMore, Rise, AreRising}
-use Rattle.beam_laws.specs.Private.{heard}
+use Rattle.beam_laws.specs.Private.{downs_of_end}
 use Rattle.beam_laws.proofs.Ending.{runs_on}
 use Rattle.beam_laws.proofs.Hearing.{as_before, hears, hearing_is}
 use Rattle.beam_laws.proofs.Monitoring.{row_part, delivered_part, all_are, none_are}
@@ -119,7 +119,7 @@ module _ (count : ℕ) where
   -- the DOWNs of an end leave the monitors as they are
   hearing_up : (pid : ℕ) (status : Status) (ps : List Process) → Up ps → Up (hearing_by pid status ps)
   hearing_up pid status ps h =
-      subst Up (sym (hearing_is pid status ps)) (map_up (hears pid status) (λ q i. subst (Rise 0 count) (sym (as_before (λ p. p.monitors) (heard pid status q) q refl)) i) ps h)
+      subst Up (sym (hearing_is pid status ps)) (map_up (hears pid status) (λ q i. subst (Rise 0 count) (sym (as_before (λ p. p.monitors) (downs_of_end pid status q) q refl)) i) ps h)
 
   pub made_up : (ps : List Process) (pid : ℕ) (p : Process) → Up ps → Rises count p → Up (with_made ps pid p)
   made_up ps pid p h i = hearing_up pid p.status (with_process ps pid p) (set_up ps (pid - 1) p h i)

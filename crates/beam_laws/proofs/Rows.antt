@@ -30,7 +30,7 @@ use Rattle.beam_machine.specs.Code.{Code}
 use Rattle.beam_model.specs.Exception.{clause_exception}
 use Rattle.beam_model.specs.Native.{compares, is_of_type, limited_term, nullary_value, unary_value, binary_value, class_in}
 use Rattle.beam_machine.specs.Change.{is_live}
-use Rattle.beam_laws.proofs.Places.{IsLivePlace, AreSlotsHome, FramesHome, Stands, Whole}
+use Rattle.beam_laws.proofs.LivePlaces.{IsLivePlace, AreSlotsHome, FramesHome, Stands, Whole}
 use Rattle.beam_machine.specs.Process.{Process, read, read_x, read_all, put, put_y, with_slots, dropped, words_of, own_pid}
 use Rattle.beam_machine.specs.Row.{goes_on, goes_to, changes, stores, stores_made, stores_second, stores_two, decides, has_size, is_tagged, with_one, with_two, tests, fails, stores_computed, computes, held_in, splits, opens, put_elements, stores_tuple, updates_record, moves, allocates_in, trims_in, trims_newest, cleared, stacks, tags, traced, raises_again, raises_raw, catches, handles, catch_rows, raises, faults, illegal}
 use Rattle.beam_laws.proofs.Registers.{StandsIf, raises_home, faults_home, illegal_home, put_stands, put_y_stands, cleared_stands, replicate_home, drop_home, dropped_whole, whole_stands}

@@ -17,7 +17,7 @@ use Rattle.beam_machine.specs.declared.process.Signal.{Signal}
 use Rattle.beam_machine.specs.NodeNative.{Answered, answer_of}
 use Rattle.beam_machine.specs.Next.{Rows, refused, raised, continues, done_by, row, running, row_and, steps, ran, ran_to, next_steps, next}
 use Rattle.beam_machine.specs.Private.{Sent, Private, private_rows}
-use Rattle.beam_laws.specs.Private.{having, with_signals, heard, posted_all, after_private}
+use Rattle.beam_laws.specs.Private.{with_name_and_transit, with_signals, downs_of_end, posted_all, after_private}
 use Rattle.beam_laws.specs.Signals.{end_sends, asker_sends, row_sends, row_and_send, steps_send, signals_to, signal_to, native_sends}
 use Rattle.beam_laws.proofs.Ending.{runs_on, running_is}
 use Rattle.beam_laws.proofs.Numbered.{positive, put_here, put_elsewhere}
@@ -129,7 +129,7 @@ steps_grow (suc n) s pid other ne =
     row_and_grows pid other ne s (λ t. steps t pid n) (λ t. steps_send t pid n) (running (process_of s.processes pid)) refl (λ t. steps_grow n t pid other ne)
 
 pub others_stay : (s : State) (pid n other : ℕ) (q : Process) → process_of s.processes other ≡ Some q → other ≢ pid
-    → (name : Option (List ℕ)) × (process_of (next s (event.Steps pid n)).state.processes other ≡ Some (having name (q.transit ++ signals_to other (steps_send s pid n)) q))
+    → (name : Option (List ℕ)) × (process_of (next s (event.Steps pid n)).state.processes other ≡ Some (with_name_and_transit name (q.transit ++ signals_to other (steps_send s pid n)) q))
 others_stay s pid n other q e ne =
     let grown : Grown (signals_to other (steps_send s pid n)) (Some q) (process_of (steps s pid n).state.processes other) =
     subst (λ o. Grown (signals_to other (steps_send s pid n)) o (process_of (steps s pid n).state.processes other)) e (steps_grow n s pid other ne) in
@@ -149,14 +149,14 @@ own_stays_private s pid n p e =
 
 -- signals, and then the DOWNs of an end
 then_hears : (pid : ℕ) (status : Status) (signals : List Signal) (o : Option Process)
-    → option_map (hears pid status) (option_map (with_signals signals) o) ≡ option_map (λ q. with_signals (signals ++ heard pid status q) q) o
+    → option_map (hears pid status) (option_map (with_signals signals) o) ≡ option_map (λ q. with_signals (signals ++ downs_of_end pid status q) q) o
 then_hears pid status signals None = refl
 then_hears pid status signals (Some q) =
-    ap Some (ap (λ xs. with_signals xs (with_signals signals q)) (heard_same pid status signals q) ∙ more_signals signals (heard pid status q) q)
+    ap Some (ap (λ xs. with_signals xs (with_signals signals q)) (heard_same pid status signals q) ∙ more_signals signals (downs_of_end pid status q) q)
 
 pub others_stay_private : (s : State) (pid n other : ℕ) (p : Process) → process_of s.processes pid ≡ Some p → other ≢ pid
     → process_of (after_private s pid (private_rows s.code n p)).processes other
-    ≡ option_map (λ q. with_signals (signals_to other (private_rows s.code n p).sent ++ heard pid (private_rows s.code n p).process.status q) q) (process_of s.processes other)
+    ≡ option_map (λ q. with_signals (signals_to other (private_rows s.code n p).sent ++ downs_of_end pid (private_rows s.code n p).process.status q) q) (process_of s.processes other)
 others_stay_private s pid n other p e ne =
     let rows : Private = private_rows s.code n p in
     let signals : List Signal = signals_to other rows.sent in

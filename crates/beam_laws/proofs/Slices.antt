@@ -12,7 +12,7 @@ use Rattle.beam_machine.specs.Row.{Outcome, makes, sends, asks, sleeps, outcome}
 use Rattle.beam_machine.specs.State.{State, process_of, alive, live_process}
 use Rattle.beam_machine.specs.Next.{running, refused, replied, steps, ran, ran_to, next_steps, next}
 use Rattle.beam_machine.specs.Private.{Private, End, at_limit, after_row, before_node_row, at_spot, stops, private_by, private_rows}
-use Rattle.beam_laws.specs.Private.{with_signals, heard, after_private, before}
+use Rattle.beam_laws.specs.Private.{with_signals, downs_of_end, after_private, before}
 use Rattle.beam_laws.specs.Signals.{signals_to}
 use Rattle.beam_laws.proofs.Ending.{runs_on}
 use Rattle.beam_laws.proofs.Numbered.{alive_of}
@@ -84,7 +84,7 @@ node_stays s pid n = subst (Alike s) (sym (steps_state s pid n)) (steps_alike n 
 
 pub others_stay_whole : (s : State) (pid n other : ℕ) (p : Process) → process_of s.processes pid ≡ Some p → is_ended p.status ≡ false → (private_rows s.code n p).end ≢ before_node_row → other ≢ pid
     → process_of (next s (event.Steps pid n)).state.processes other
-    ≡ option_map (λ q. with_signals (signals_to other (private_rows s.code n p).sent ++ heard pid (private_rows s.code n p).process.status q) q) (process_of s.processes other)
+    ≡ option_map (λ q. with_signals (signals_to other (private_rows s.code n p).sent ++ downs_of_end pid (private_rows s.code n p).process.status q) q) (process_of s.processes other)
 others_stay_whole s pid n other p e lives end ne =
     ap (λ t. process_of t.processes other) (steps_state s pid n)
     ∙ (ap (λ rows. process_of rows.state.processes other) (rows_whole s pid n p e lives end) ∙ others_stay_private s pid n other p e ne)

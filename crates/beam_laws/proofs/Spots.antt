@@ -12,7 +12,7 @@ use Rattle.beam_machine.specs.Debug.{is_at_spot}
 use Rattle.beam_machine.specs.Process.{Process, is_running}
 use Rattle.beam_machine.specs.Row.{Outcome, makes, sends, asks, sleeps, outcome}
 use Rattle.beam_machine.specs.Private.{Private, End, at_limit, after_row, at_spot, stops, with_first_row, with_first_sending, private_by, private_rows, private_to_spot}
-use Rattle.beam_laws.specs.Private.{having, IsStill, with_given}
+use Rattle.beam_laws.specs.Private.{with_name_and_transit, IsStill, with_name_and_transit_of}
 use Rattle.beam_laws.proofs.Ending.{runs_on}
 use Rattle.beam_laws.proofs.Follows.{Comes, outcome_comes}
 use Rattle.beam_laws.proofs.Unread.{with}
@@ -78,13 +78,13 @@ module _ (spots : List Place) (code : Code) where
   -- ---- neither the name nor the signals in transit are read
 
   abbrev Unread : Bool → ℕ → Type 0
-  Unread passes n = (p : Process) (name : Option (List ℕ)) (transit : List Signal) → rows passes n (having name transit p) ≡ private_having name transit (rows passes n p)
+  Unread passes n = (p : Process) (name : Option (List ℕ)) (transit : List Signal) → rows passes n (with_name_and_transit name transit p) ≡ private_having name transit (rows passes n p)
 
   again : (name m : Option (List ℕ)) (transit t : List Signal) (r : Private) → private_having name transit (private_having m t r) ≡ private_having name transit r
   again name m transit t r = ap (λ p. record r { process = p }) (having_having name m transit t r.process)
 
   both : (n : ℕ) → Unread false n → (q : Process) (name m : Option (List ℕ)) (transit t : List Signal)
-      → rows false n (having name transit q) ≡ private_having name transit (rows false n (having m t q))
+      → rows false n (with_name_and_transit name transit q) ≡ private_having name transit (rows false n (with_name_and_transit m t q))
   both n u q name m transit t = u q name transit ∙ (sym (again name m transit t (rows false n q)) ∙ sym (ap (private_having name transit) (u q m t)))
 
   row_unread : (n : ℕ) → Unread false n → (p : Process) (name m : Option (List ℕ)) (transit t : List Signal) (o : Outcome)
@@ -104,7 +104,7 @@ module _ (spots : List Place) (code : Code) where
       ∙ ap (λ o. private_having name transit (private_by (rows false n) (with p.name p.transit p) o)) (sym (outcome_same p.name p.transit code p)))
 
   more_unread : (passes : Bool) (n : ℕ) → Unread false n → (p : Process) (name : Option (List ℕ)) (transit : List Signal) (status : Status)
-      → rows passes (suc n) (having name transit (record p { status = status })) ≡ private_having name transit (rows passes (suc n) (record p { status = status }))
+      → rows passes (suc n) (with_name_and_transit name transit (record p { status = status })) ≡ private_having name transit (rows passes (suc n) (record p { status = status }))
   more_unread passes n u p name transit Waiting = refl
   more_unread passes n u p name transit (Ended reason value) = refl
   more_unread passes n u p name transit Running = running_unread n u p name transit (not passes && is_at_spot spots p.goes)
@@ -114,11 +114,11 @@ module _ (spots : List Place) (code : Code) where
   rows_unread passes (suc n) p name transit = more_unread passes n (rows_unread false n) p name transit p.status
 
 pub spot_later : (spots : List Place) (passes : Bool) (code : Code) (n : ℕ) (p q : Process) → IsStill p q
-    → private_to_spot spots passes code n q ≡ with_given q (private_to_spot spots passes code n p)
+    → private_to_spot spots passes code n q ≡ with_name_and_transit_of q (private_to_spot spots passes code n p)
 spot_later spots passes code n p q still = ap (private_to_spot spots passes code n) still ∙ rows_unread spots code passes n p q.name q.transit
 
 pub spot_unread : (spots : List Place) (passes : Bool) (code : Code) (n : ℕ) (p : Process) (name : Option (List ℕ)) (transit : List Signal)
-    → private_to_spot spots passes code n (having name transit p) ≡ private_having name transit (private_to_spot spots passes code n p)
+    → private_to_spot spots passes code n (with_name_and_transit name transit p) ≡ private_having name transit (private_to_spot spots passes code n p)
 spot_unread spots passes code n p name transit = rows_unread spots code passes n p name transit
 
 pub spot_prefix : (spots : List Place) (passes : Bool) (code : Code) (n : ℕ) (p : Process)
@@ -130,9 +130,9 @@ pub spot_cut : (spots : List Place) (passes : Bool) (code : Code) (n : ℕ) (p :
 spot_cut spots passes code n p = rows_cut spots code passes n p
 
 pub spot_keeps : (spots : List Place) (passes : Bool) (code : Code) (n : ℕ) (p : Process)
-    → having p.name p.transit (private_to_spot spots passes code n p).process ≡ (private_to_spot spots passes code n p).process
+    → with_name_and_transit p.name p.transit (private_to_spot spots passes code n p).process ≡ (private_to_spot spots passes code n p).process
 spot_keeps spots passes code n p =
-    subst (λ (r : Private). having p.name p.transit r.process ≡ r.process) (spot_prefix spots passes code n p) (rows_keep code (private_to_spot spots passes code n p).count p)
+    subst (λ (r : Private). with_name_and_transit p.name p.transit r.process ≡ r.process) (spot_prefix spots passes code n p) (rows_keep code (private_to_spot spots passes code n p).count p)
 
 -- ---- the pid
 

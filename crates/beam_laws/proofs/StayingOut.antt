@@ -13,7 +13,7 @@ use Rattle.beam_laws.proofs.Private.{having_own}
 use Rattle.beam_laws.specs.Origin.{Origin}
 use Rattle.beam_laws.specs.Out.{IsAsItWas, IsOut, is_busy}
 use Rattle.beam_laws.proofs.Others.{Left, still_left, ended_left, event_leaves}
-use Rattle.beam_laws.proofs.Marks.{Marked, event_marks}
+use Rattle.beam_laws.proofs.UndisturbedDebugState.{Marked, event_marks}
 
 -- a process that lives on keeps its marks
 as_it_was : (d x : Debugged) (o : Origin) (q z : Process) (b : Bool) → is_ended z.status ≡ b → process_of x.node.processes o.pid ≡ Some z → IsAsItWas d o q

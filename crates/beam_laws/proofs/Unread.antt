@@ -35,7 +35,7 @@ use Rattle.beam_model.specs.Exception.{clause_exception}
 use Rattle.beam_model.specs.Native.{compares, is_of_type, limited_term, nullary_value, unary_value, binary_value, class_in}
 use Rattle.beam_machine.specs.Process.{Process, read, read_x, read_all, in_front, put, put_y, put_slots, with_slots, dropped, without_slots, words_of, own_pid}
 use Rattle.beam_machine.specs.Row.{tag_of, caught_at, goes_on, goes_to, changes, stores, stores_made, stores_second, stores_two, decides, has_size, is_tagged, with_one, with_two, tests, fails, stores_computed, computes, held_in, splits, opens, put_element, put_elements, stores_tuple, updates_record, moves, allocates_in, trims_in, trims_newest, cleared, stacks, tags, traced, raises_again, raises_raw, catches, handles, catch_rows, unwound, raises, faults, illegal}
-use Rattle.beam_laws.specs.Private.{having}
+use Rattle.beam_laws.specs.Private.{with_name_and_transit}
 
 -- a running process with this name, and these signals in transit to it
 abbrev pub with : Option (List ℕ) → List Signal → Process → Process
@@ -107,7 +107,7 @@ module _ (name : Option (List ℕ)) (transit : List Signal) where
   bare p = with None [] p
 
   abbrev pub Same : Process → Process → Type 0
-  Same q r = q ≡ having name transit r
+  Same q r = q ≡ with_name_and_transit name transit r
 
   -- ---- raising
 
@@ -141,7 +141,7 @@ module _ (name : Option (List ℕ)) (transit : List Signal) where
   -- a change of registers or frames that reads neither
   pub changes_same : (p : Process) (next : Place) (x y o : Option Process) → x ≡ option_map (with name transit) o → y ≡ option_map (with None []) o
       → Same (changes (full p) next x) (changes (bare p) next y)
-  changes_same p next x y o e f = ap (changes (full p) next) e ∙ (changes_each p next o ∙ ap (λ y. having name transit (changes (bare p) next y)) (sym f))
+  changes_same p next x y o e f = ap (changes (full p) next) e ∙ (changes_each p next o ∙ ap (λ y. with_name_and_transit name transit (changes (bare p) next y)) (sym f))
 
   pub stores_same : (p : Process) (next : Place) (dest : Register) (value : TermValue) → Same (stores (full p) next dest value) (stores (bare p) next dest value)
   stores_same p next dest value =
@@ -161,7 +161,7 @@ module _ (name : Option (List ℕ)) (transit : List Signal) where
       → Same (stores_two (full p) next first v second t) (stores_two (bare p) next first v second t)
   stores_two_same p next first v second t =
       ap (stores_second (full p) next second t) (put_with name transit p first v)
-      ∙ (stores_second_each p next second t (put p first v) ∙ ap (λ y. having name transit (stores_second (bare p) next second t y)) (sym (put_with None [] p first v)))
+      ∙ (stores_second_each p next second t (put p first v) ∙ ap (λ y. with_name_and_transit name transit (stores_second (bare p) next second t y)) (sym (put_with None [] p first v)))
 
   with_one_each : (p : Process) (o : Option TermValue) (does does' : TermValue → Process) → ((t : TermValue) → Same (does t) (does' t)) → Same (with_one (full p) o does) (with_one (bare p) o does')
   with_one_each p None does does' h = illegal_same p
@@ -171,7 +171,7 @@ module _ (name : Option (List ℕ)) (transit : List Signal) where
       → Same (with_one (full p) (read (full p) v) does) (with_one (bare p) (read (bare p) v) does')
   with_one_same p v does does' h =
       ap (λ o. with_one (full p) o does) (read_with name transit p v)
-      ∙ (with_one_each p (read p v) does does' h ∙ ap (λ o. having name transit (with_one (bare p) o does')) (sym (read_with None [] p v)))
+      ∙ (with_one_each p (read p v) does does' h ∙ ap (λ o. with_name_and_transit name transit (with_one (bare p) o does')) (sym (read_with None [] p v)))
 
   with_two_each : (p : Process) (o u : Option TermValue) (does does' : TermValue → TermValue → Process) → ((s t : TermValue) → Same (does s t) (does' s t))
       → Same (with_two (full p) o u does) (with_two (bare p) o u does')
@@ -185,8 +185,8 @@ module _ (name : Option (List ℕ)) (transit : List Signal) where
       ap (λ o. with_two (full p) o (read (full p) w) does) (read_with name transit p v)
       ∙ (ap (λ o. with_two (full p) (read p v) o does) (read_with name transit p w)
       ∙ (with_two_each p (read p v) (read p w) does does' h
-      ∙ (ap (λ o. having name transit (with_two (bare p) (read p v) o does')) (sym (read_with None [] p w))
-      ∙ ap (λ o. having name transit (with_two (bare p) o (read (bare p) w) does')) (sym (read_with None [] p v)))))
+      ∙ (ap (λ o. with_name_and_transit name transit (with_two (bare p) (read p v) o does')) (sym (read_with None [] p w))
+      ∙ ap (λ o. with_name_and_transit name transit (with_two (bare p) o (read (bare p) w) does')) (sym (read_with None [] p v)))))
 
   -- ---- tests and natives
 
@@ -229,7 +229,7 @@ module _ (name : Option (List ℕ)) (transit : List Signal) where
   stores_tuple_each p next dest (Some items) = stores_made_same p next dest (limited_term (tuple_of items))
 
   stores_tuple_same : (p : Process) (next : Place) (dest : Register) (x y o : Option (List TermValue)) → x ≡ o → y ≡ o → Same (stores_tuple (full p) next dest x) (stores_tuple (bare p) next dest y)
-  stores_tuple_same p next dest x y o e f = ap (stores_tuple (full p) next dest) e ∙ (stores_tuple_each p next dest o ∙ ap (λ y. having name transit (stores_tuple (bare p) next dest y)) (sym f))
+  stores_tuple_same p next dest x y o e f = ap (stores_tuple (full p) next dest) e ∙ (stores_tuple_each p next dest o ∙ ap (λ y. with_name_and_transit name transit (stores_tuple (bare p) next dest y)) (sym f))
 
   updates_record_same : (p : Process) (next : Place) (size : ℕ) (dest : Register) (updates : List Update) (items : List TermValue)
       → Same (updates_record (full p) next size dest updates items) (updates_record (bare p) next size dest updates items)
@@ -321,7 +321,7 @@ module _ (name : Option (List ℕ)) (transit : List Signal) where
   handles_same : (p : Process) (next : Place) (dest : Register) (e : Option Exception) → Same (handles (full p) next (put (full p) dest nil_term) e) (handles (bare p) next (put (bare p) dest nil_term) e)
   handles_same p next dest e =
       ap (λ o. handles (full p) next o e) (put_with name transit p dest nil_term)
-      ∙ (handles_each p next (put p dest nil_term) e ∙ ap (λ o. having name transit (handles (bare p) next o e)) (sym (put_with None [] p dest nil_term)))
+      ∙ (handles_each p next (put p dest nil_term) e ∙ ap (λ o. with_name_and_transit name transit (handles (bare p) next o e)) (sym (put_with None [] p dest nil_term)))
 
   pub catch_rows_same : (c : Catching) (next : Place) (p : Process) → Same (catch_rows c next (full p)) (catch_rows c next (bare p))
   catch_rows_same (catching.Raise fault) next p = faults_same p fault

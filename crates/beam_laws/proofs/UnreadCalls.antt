@@ -34,15 +34,15 @@ use Rattle.beam_machine.specs.Callee.{callee_named}
 use Rattle.beam_machine.specs.Code.{Code, step_of, entry_of}
 use Rattle.beam_machine.specs.Process.{Process, read, read_x, put_x, dropped, words_of, own_pid, bared}
 use Rattle.beam_machine.specs.Row.{Outcome, makes, sends, asks, sleeps, goes_on, goes_to, illegal, faults, returns_to, returns_from, returns, follows, answers, demonitored, flushed_if, flush_in, demonitors, changed_by, answers_true, arguments_of, enters, with_new_frame, pushes, calls, calls_only, after_dropping, applies, callee_at, chosen, selects, size_chosen, selects_size, controls, own_number, sends_own, sends_to, peeks, with_message_at, waits_for_message, waits, Duration, forever, milliseconds, duration_of, sleeps_at, sleeps_for, waits_for, waits_with, message_rows, perform, performs, outcome_at, outcome, exits, finds_message}
-use Rattle.beam_laws.specs.Private.{having}
+use Rattle.beam_laws.specs.Private.{with_name_and_transit}
 use Rattle.beam_laws.proofs.Unread.{with, read_with, dropped_with, Same, raises_same, faults_same, illegal_same, goes_to_same, stores_same, with_one_same, with_two_same, tests_same, computes_same, moves_same, stacks_same, catch_rows_same}
 
 -- the outcome of a row, with another name of its process and other signals in transit to it
 abbrev pub moved : Option (List ℕ) → List Signal → Outcome → Outcome
-moved name transit (makes p) = makes (having name transit p)
+moved name transit (makes p) = makes (with_name_and_transit name transit p)
 moved name transit (sends p to signal) = sends (with name transit p) to signal
 moved name transit (asks p native arity after) = asks (with name transit p) native arity after
-moved name transit (sleeps p n next) = sleeps (having name transit p) n next
+moved name transit (sleeps p n next) = sleeps (with_name_and_transit name transit p) n next
 
 chosen_with : (name : Option (List ℕ)) (transit : List Signal) (p : Process) (t : TermValue) (choices : List Choice) (fail : Option ℕ) → chosen (with name transit p) t choices fail ≡ chosen p t choices fail
 chosen_with name transit p t [] fail = refl
@@ -142,7 +142,7 @@ module _ (name : Option (List ℕ)) (transit : List Signal) where
       → Alike (answers_true (full p) after (changed_by (full p) native ts)) (answers_true (bare p) after (changed_by (bare p) native ts))
   of_process_same p after native ts =
       ap (answers_true (full p) after) (changed_with name transit p native ts)
-      ∙ (true_same p after (changed_by p native ts) ∙ ap (λ o. having name transit (answers_true (bare p) after o)) (sym (changed_with None [] p native ts)))
+      ∙ (true_same p after (changed_by p native ts) ∙ ap (λ o. with_name_and_transit name transit (answers_true (bare p) after o)) (sym (changed_with None [] p native ts)))
 
   calls_same : (code : Code) (c : Callee) (next : Place) (p : Process) → SameRow (calls code c next (full p)) (calls code c next (bare p))
   calls_same code (callee.Function «module» f arity) next p = ap makes (pushes_same p (λ q. enters q (entry_of code «module» f arity)) next (λ q. enters_same q (entry_of code «module» f arity)))
@@ -181,7 +181,7 @@ module _ (name : Option (List ℕ)) (transit : List Signal) where
       → Alike (selects (full p) instance (chosen (full p) t choices fail)) (selects (bare p) instance (chosen (bare p) t choices fail))
   selects_same p instance t choices fail =
       ap (selects (full p) instance) (chosen_with name transit p t choices fail)
-      ∙ (selects_each p instance (chosen p t choices fail) ∙ ap (λ o. having name transit (selects (bare p) instance o)) (sym (chosen_with None [] p t choices fail)))
+      ∙ (selects_each p instance (chosen p t choices fail) ∙ ap (λ o. with_name_and_transit name transit (selects (bare p) instance o)) (sym (chosen_with None [] p t choices fail)))
 
   selects_size_same : (p : Process) (instance : ℕ) (t : TermValue) (choices : List SizeChoice) (fail : Option ℕ) → Alike (selects_size (full p) instance t choices fail) (selects_size (bare p) instance t choices fail)
   selects_size_same p instance (tuple_term items) choices fail = goes_to_same name transit p instance (size_chosen (count_of items) choices fail)

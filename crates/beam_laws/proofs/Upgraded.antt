@@ -4,8 +4,8 @@ use Rattle.std.proofs.lemmas.Bool.Decides.{nat_tests}
 use Rattle.std.specs.Prelude.{Option, Some, None, is_some, Ok, option_map}
 use Rattle.std.specs.List.{list_any}
 use Rattle.beam_machine.specs.declared.event.Event.TheVariants as event
-use Rattle.beam_machine.specs.declared.event.Mode.{Mode}
-use Rattle.beam_machine.specs.declared.event.Mode.TheVariants.{Strict, Soft, Hard}
+use Rattle.beam_machine.specs.declared.event.UpgradeMode.{UpgradeMode}
+use Rattle.beam_machine.specs.declared.event.UpgradeMode.TheVariants.{Strict, Soft, Hard}
 use Rattle.beam_machine.specs.declared.event.Refused.TheVariants.{Sticky, NotPurged, Duplicated, TooMany}
 use Rattle.beam_machine.specs.declared.event.Reply.{Reply}
 use Rattle.beam_model.specs.Listing.{Listing}
@@ -118,7 +118,7 @@ olds_ended s ls =
 -- ---- an upgrade list that isn't refused
 
 -- an upgrade list passes all tests
-abbrev Passed : State → Mode → List Listing → Type 0
+abbrev Passed : State → UpgradeMode → List Listing → Type 0
 Passed s mode ls =
     (list_any (λ l. is_erlang l.name) ls ≡ false) × (are_apart ls ≡ true) × (list_any (λ l. stands_in_way mode s l.name) ls ≡ false)
     × (s.instances + length ls < 2 ^ 32)
@@ -131,7 +131,7 @@ not_false : (b : Bool) → not b ≡ false → b ≡ true
 not_false true e = refl
 not_false false e = cc
 
-passes : (s : State) (mode : Mode) (ls : List Listing) (r : Reply) → (next s (event.AtomicLoad mode ls)).answer ≡ Ok r → Passed s mode ls
+passes : (s : State) (mode : UpgradeMode) (ls : List Listing) (r : Reply) → (next s (event.AtomicLoad mode ls)).answer ≡ Ok r → Passed s mode ls
 passes s mode ls r =
     passed_if r _ (refused s Sticky) _ (λ e h. cc) (λ e sticky.
     passed_if r _ (refused s Duplicated) _ (λ e h. cc) (λ e apart.
@@ -144,7 +144,7 @@ answered : (P : State → Type 0) (s : State) (r : Reply) (b : Bool) (x y : Next
 answered P s r true x y f g e = f e
 answered P s r false x y f g e = g e
 
-pub upgrade_loads : (s : State) (mode : Mode) (ls : List Listing) (r : Reply) → (next s (event.AtomicLoad mode ls)).answer ≡ Ok r
+pub upgrade_loads : (s : State) (mode : UpgradeMode) (ls : List Listing) (r : Reply) → (next s (event.AtomicLoad mode ls)).answer ≡ Ok r
     → (next s (event.AtomicLoad mode ls)).state ≡ load_each (end_olds s ls) ls
 upgrade_loads s mode ls r =
     let Q : State → Type 0 = λ t. t ≡ load_each (end_olds s ls) ls in
@@ -153,7 +153,7 @@ upgrade_loads s mode ls r =
     (answered Q s r _ (refused s NotPurged) _ (λ e. cc)
     (answered Q s r _ (upgraded (load_each (end_olds s ls) ls) ls) (refused s TooMany) (λ e. refl) (λ e. cc))))
 
-pub upgrade_parts : (s : State) (mode : Mode) (ls : List Listing) (r : Reply) → (next s (event.AtomicLoad mode ls)).answer ≡ Ok r
+pub upgrade_parts : (s : State) (mode : UpgradeMode) (ls : List Listing) (r : Reply) → (next s (event.AtomicLoad mode ls)).answer ≡ Ok r
     → (next s (event.AtomicLoad mode ls)).state ≡ with_each (end_olds s ls) ls
 upgrade_parts s mode ls r e =
     let p = passes s mode ls r e in
@@ -163,7 +163,7 @@ run_loads : (s : State) (ls : List Listing) → load_each s ls ≡ (run s (map (
 run_loads s [] = refl
 run_loads s (l ∷ rest) = run_loads (next s (event.Load l)).state rest
 
-pub upgrade_run : (s : State) (mode : Mode) (ls : List Listing) (r : Reply) → (next s (event.AtomicLoad mode ls)).answer ≡ Ok r
+pub upgrade_run : (s : State) (mode : UpgradeMode) (ls : List Listing) (r : Reply) → (next s (event.AtomicLoad mode ls)).answer ≡ Ok r
     → (next s (event.AtomicLoad mode ls)).state ≡ (run (end_olds s ls) (map (λ l. event.Load l) ls)).state
 upgrade_run s mode ls r e = upgrade_loads s mode ls r e ∙ run_loads (end_olds s ls) ls
 
@@ -173,23 +173,23 @@ no_old : (o : Option ℕ) (ps : List Process) → is_some o ≡ false → list_a
 no_old None ps e = none_of ps
 no_old (Some number) ps e = cc
 
-one_clear : (s : State) (mode : Mode) (name : List ℕ) → mode ≢ Hard → stands_in_way mode s name ≡ false → list_any (lingers_in_old s.code name) s.processes ≡ false
+one_clear : (s : State) (mode : UpgradeMode) (name : List ℕ) → mode ≢ Hard → stands_in_way mode s name ≡ false → list_any (lingers_in_old s.code name) s.processes ≡ false
 one_clear s Strict name gentle e = no_old (old_of s.code name) s.processes e
 one_clear s Soft name gentle e = e
 one_clear s Hard name gentle e = absurd (gentle refl)
 
-all_clear : (s : State) (mode : Mode) (ls : List Listing) → mode ≢ Hard → list_any (λ l. stands_in_way mode s l.name) ls ≡ false → Nobody s.code ls s.processes
+all_clear : (s : State) (mode : UpgradeMode) (ls : List Listing) → mode ≢ Hard → list_any (λ l. stands_in_way mode s l.name) ls ≡ false → Nobody s.code ls s.processes
 all_clear s mode [] gentle e = none_of s.processes
 all_clear s mode (l ∷ rest) gentle e =
     let each = either_false (stands_in_way mode s l.name) (list_any (λ l. stands_in_way mode s l.name) rest) e in
     neither (lingers_in_old s.code l.name) (lingers_in_olds s.code (map (λ l. l.name) rest)) s.processes (one_clear s mode l.name gentle each.0) (all_clear s mode rest gentle each.1)
 
 -- in modes other than Hard no process ends, and so the upgrade is just the loads
-gentle_is : (s : State) (mode : Mode) (ls : List Listing) → mode ≢ Hard → list_any (λ l. stands_in_way mode s l.name) ls ≡ false → end_olds s ls ≡ s
+gentle_is : (s : State) (mode : UpgradeMode) (ls : List Listing) → mode ≢ Hard → list_any (λ l. stands_in_way mode s l.name) ls ≡ false → end_olds s ls ≡ s
 gentle_is s mode ls gentle e =
     ap (λ ps. record s { processes = ps }) (nobody_ends (lingers_in_olds s.code (map (λ l. l.name) ls)) s.processes (all_clear s mode ls gentle e))
 
-pub gentle_run : (s : State) (mode : Mode) (ls : List Listing) (r : Reply) → mode ≢ Hard → (next s (event.AtomicLoad mode ls)).answer ≡ Ok r
+pub gentle_run : (s : State) (mode : UpgradeMode) (ls : List Listing) (r : Reply) → mode ≢ Hard → (next s (event.AtomicLoad mode ls)).answer ≡ Ok r
     → (next s (event.AtomicLoad mode ls)).state ≡ (run s (map (λ l. event.Load l) ls)).state
 gentle_run s mode ls r gentle e =
     upgrade_run s mode ls r e ∙ ap (λ t. (run t (map (λ l. event.Load l) ls)).state) (gentle_is s mode ls gentle (passes s mode ls r e).2)
@@ -198,7 +198,7 @@ gentle_if : (s : State) (b : Bool) (x y : Next) → ((b ≡ true) → x.state.pr
 gentle_if s true x y f g = f refl
 gentle_if s false x y f g = g refl
 
-pub gentle_ends_none : (s : State) (mode : Mode) (ls : List Listing) → mode ≢ Hard → (next s (event.AtomicLoad mode ls)).state.processes ≡ s.processes
+pub gentle_ends_none : (s : State) (mode : UpgradeMode) (ls : List Listing) → mode ≢ Hard → (next s (event.AtomicLoad mode ls)).state.processes ≡ s.processes
 gentle_ends_none s mode ls gentle =
     gentle_if s _ (refused s Sticky) _ (λ h. refl) (λ sticky.
     gentle_if s _ (refused s Duplicated) _ (λ h. refl) (λ apart.

@@ -19,7 +19,7 @@ use Rattle.beam_machine.specs.NodeNative.{most_processes}
 use Rattle.beam_machine.specs.Next.{Next, refused, replied, put_process, made_process, next_steps, delivered, is_nothing, next_deliver, timed_out, next_timeout, sent_to, next_send, next}
 use Rattle.beam_machine.specs.Run.{run}
 use Rattle.beam_machine.specs.Private.{Sent, Private, private_rows}
-use Rattle.beam_laws.specs.Private.{having, after_private, with_given, is_of_others}
+use Rattle.beam_laws.specs.Private.{with_name_and_transit, after_private, with_name_and_transit_of, is_of_others}
 use Rattle.beam_laws.specs.Signals.{signal_to, signal_if, end_sends, steps_send, deliver_sends, event_sends, sent, signals_to}
 use Rattle.beam_laws.proofs.Ending.{alive_is}
 use Rattle.beam_laws.proofs.Events.{steps_alike}
@@ -111,29 +111,29 @@ module _ (pid : ℕ) where
       (rest.0 ∙ first.0, grows_more pid (event_sends s e) (sent (next s e).state events) s.processes (next s e).state.processes (run (next s e).state events).state.processes first.1 rest.1)
 
 pub others_leave : (s : State) (events : List (Event Listing)) (pid : ℕ) (p : Process) → AllByRecursion (λ e. is_of_others pid e ≡ true) events → process_of s.processes pid ≡ Some p
-    → ((run s events).state.code ≡ s.code) × ((name : Option (List ℕ)) × (process_of (run s events).state.processes pid ≡ Some (having name (p.transit ++ signals_to pid (sent s events)) p)))
+    → ((run s events).state.code ≡ s.code) × ((name : Option (List ℕ)) × (process_of (run s events).state.processes pid ≡ Some (with_name_and_transit name (p.transit ++ signals_to pid (sent s events)) p)))
 others_leave s events pid p h e =
     let leaves = run_leaves pid s events h in
     (leaves.0, subst (λ o. Grown (signals_to pid (sent s events)) o (process_of (run s events).state.processes pid)) e leaves.1)
 
 -- the process has the name and the signals in transit that it was given
-given : (name : Option (List ℕ)) (transit : List Signal) (p : Process) → having name transit p ≡ having (having name transit p).name (having name transit p).transit p
+given : (name : Option (List ℕ)) (transit : List Signal) (p : Process) → with_name_and_transit name transit p ≡ with_name_and_transit (with_name_and_transit name transit p).name (with_name_and_transit name transit p).transit p
 given name transit p = go (is_ended p.status) refl
   where
-    go : (b : Bool) → is_ended p.status ≡ b → cond b p (record p { name = name; transit = transit }) ≡ having (cond {A = Process} b p (record p { name = name; transit = transit })).name (cond {A = Process} b p (record p { name = name; transit = transit })).transit p
+    go : (b : Bool) → is_ended p.status ≡ b → cond b p (record p { name = name; transit = transit }) ≡ with_name_and_transit (cond {A = Process} b p (record p { name = name; transit = transit })).name (cond {A = Process} b p (record p { name = name; transit = transit })).transit p
     go true e = sym (having_own p)
     go false e = sym (ap (λ b. cond b p (record p { name = name; transit = transit })) e)
 
 pub was_given : (s : State) (events : List (Event Listing)) (pid : ℕ) (p q : Process) → AllByRecursion (λ e. is_of_others pid e ≡ true) events → process_of s.processes pid ≡ Some p
-    → process_of (run s events).state.processes pid ≡ Some q → q ≡ having q.name q.transit p
+    → process_of (run s events).state.processes pid ≡ Some q → q ≡ with_name_and_transit q.name q.transit p
 was_given s events pid p q h e f =
     let leaves = others_leave s events pid p h e in
-    let same : Some q ≡ Some (having leaves.1.0 (p.transit ++ signals_to pid (sent s events)) p) = sym f ∙ leaves.1.1 in
-    let is : q ≡ having leaves.1.0 (p.transit ++ signals_to pid (sent s events)) p = cc in
-    subst (λ x. x ≡ having x.name x.transit p) (sym is) (given leaves.1.0 (p.transit ++ signals_to pid (sent s events)) p)
+    let same : Some q ≡ Some (with_name_and_transit leaves.1.0 (p.transit ++ signals_to pid (sent s events)) p) = sym f ∙ leaves.1.1 in
+    let is : q ≡ with_name_and_transit leaves.1.0 (p.transit ++ signals_to pid (sent s events)) p = cc in
+    subst (λ x. x ≡ with_name_and_transit x.name x.transit p) (sym is) (given leaves.1.0 (p.transit ++ signals_to pid (sent s events)) p)
 
 pub rows_wait : (s : State) (events : List (Event Listing)) (pid n : ℕ) (p q : Process) → AllByRecursion (λ e. is_of_others pid e ≡ true) events → process_of s.processes pid ≡ Some p
-    → process_of (run s events).state.processes pid ≡ Some q → private_rows (run s events).state.code n q ≡ with_given q (private_rows s.code n p)
+    → process_of (run s events).state.processes pid ≡ Some q → private_rows (run s events).state.code n q ≡ with_name_and_transit_of q (private_rows s.code n p)
 rows_wait s events pid n p q h e f =
     let leaves = others_leave s events pid p h e in
     ap (λ code. private_rows code n q) leaves.0 ∙ (ap (private_rows s.code n) (was_given s events pid p q h e f) ∙ rows_unread s.code n p q.name q.transit)
@@ -141,11 +141,11 @@ rows_wait s events pid n p q h e f =
 pub commits : (s : State) (events : List (Event Listing)) (pid n : ℕ) (p q : Process) → AllByRecursion (λ e. is_of_others pid e ≡ true) events → process_of s.processes pid ≡ Some p
     → process_of (run s events).state.processes pid ≡ Some q → is_running p.status ≡ true
     → next (run s events).state (event.Steps pid (private_rows s.code n p).count)
-    ≡ replied (after_private (run s events).state pid (with_given q (private_rows s.code n p))) (Ran (private_rows s.code n p).count (then_of (private_rows s.code n p).process.status))
+    ≡ replied (after_private (run s events).state pid (with_name_and_transit_of q (private_rows s.code n p))) (Ran (private_rows s.code n p).count (then_of (private_rows s.code n p).process.status))
 commits s events pid n p q h e f r =
     let t : State = (run s events).state in
     let runs : is_running q.status ≡ true = ap (λ x. is_running x.status) (was_given s events pid p q h e f) ∙ (ap is_running (having_status q.name q.transit p) ∙ r) in
     let rows : Private = private_rows s.code n p in
     subst (λ (rows : Private). next (run s events).state (event.Steps pid rows.count) ≡ replied (after_private (run s events).state pid rows) (Ran rows.count (then_of rows.process.status)))
     (rows_wait s events pid n p q h e f) (rows_event t pid n q f runs)
-    ∙ ap (λ status. replied (after_private t pid (with_given q rows)) (Ran rows.count (then_of status))) (having_status q.name q.transit rows.process)
+    ∙ ap (λ status. replied (after_private t pid (with_name_and_transit_of q rows)) (Ran rows.count (then_of status))) (having_status q.name q.transit rows.process)

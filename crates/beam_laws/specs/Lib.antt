@@ -9,7 +9,7 @@ pub mod Changes
 pub mod Origin
 pub mod Out
 pub mod Slice
-pub mod Kin
+pub mod EarlierCode
 pub mod Written
 pub mod Listings
 pub mod Terms

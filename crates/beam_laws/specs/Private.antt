@@ -13,17 +13,17 @@ use Rattle.beam_machine.specs.Private.{Sent, Private}
 use Rattle.beam_machine.specs.Touch.{Touch, code, process, touch_of}
 
 -- a process with another name, and other signals in transit to it; an ended one stays as it is
-abbrev pub having : Option (List ℕ) → List Signal → Process → Process
-having name transit p = if is_ended p.status then p else record p { name = name; transit = transit }
+abbrev pub with_name_and_transit : Option (List ℕ) → List Signal → Process → Process
+with_name_and_transit name transit p = if is_ended p.status then p else record p { name = name; transit = transit }
 
 -- q is p, except for the name and the signals in transit
 abbrev pub IsStill : Process → Process → Type 0
-IsStill p q = q ≡ having q.name q.transit p
+IsStill p q = q ≡ with_name_and_transit q.name q.transit p
 
 -- the DOWNs that a process gets of another with this status
-abbrev pub heard : ℕ → Status → Process → List Signal
-heard pid (Ended reason value) q = downs pid reason q.monitors
-heard pid status q = []
+abbrev pub downs_of_end : ℕ → Status → Process → List Signal
+downs_of_end pid (Ended reason value) q = downs pid reason q.monitors
+downs_of_end pid status q = []
 
 -- signals posted one after another
 abbrev pub posted_all : List Process → List Sent → List Process
@@ -36,8 +36,8 @@ abbrev pub after_private : State → ℕ → Private → State
 after_private s pid rows = record s { processes = hearing_by pid rows.process.status (posted_all (put_process s pid rows.process).processes rows.sent) }
 
 -- private rows of a process that got another name, and other signals in transit, while they were done
-abbrev pub with_given : Process → Private → Private
-with_given p rows = record rows { process = having p.name p.transit rows.process }
+abbrev pub with_name_and_transit_of : Process → Private → Private
+with_name_and_transit_of p rows = record rows { process = with_name_and_transit p.name p.transit rows.process }
 
 -- n rows, and then others
 abbrev pub before : ℕ → Rows → Rows

@@ -18,7 +18,7 @@ use Rattle.beam_machine.specs.Row.{Outcome, makes, sends, asks, sleeps, own_numb
 use Rattle.beam_machine.specs.State.{State, process_of, live_process, with_process, receiver_of, downs}
 use Rattle.beam_machine.specs.Next.{raised, running, row, delivered, down_term, next}
 use Rattle.beam_machine.specs.Private.{Sent}
-use Rattle.beam_laws.specs.Private.{heard}
+use Rattle.beam_laws.specs.Private.{downs_of_end}
 
 -- ---- sent signals
 
@@ -37,7 +37,7 @@ each_sent at signals (p ∷ rest) = map (λ signal. record { to = at; signal = s
 
 -- the DOWNs that a process sends after a row or a delivery, if that ended it, to all processes that monitor it
 abbrev pub end_sends : List Process → ℕ → Process → List Sent
-end_sends ps pid p = each_sent 1 (heard pid p.status) (with_process ps pid p)
+end_sends ps pid p = each_sent 1 (downs_of_end pid p.status) (with_process ps pid p)
 
 -- monitor sends its caller a DOWN where no process of that pid lives
 abbrev pub noproc_sends : List Process → ℕ → TermValue → Option ℕ → List Sent

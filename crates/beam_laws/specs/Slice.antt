@@ -5,7 +5,7 @@ use Rattle.beam_machine.specs.Next.{Rows, steps}
 use Rattle.beam_machine.specs.Private.{Private, End, at_limit, after_row, before_node_row, at_spot, private_to_spot}
 use Rattle.beam_machine.specs.Process.{Process}
 use Rattle.beam_machine.specs.State.{State, process_of}
-use Rattle.beam_laws.specs.Private.{after_private, before, with_given}
+use Rattle.beam_laws.specs.Private.{after_private, before, with_name_and_transit_of}
 use Rattle.beam_laws.specs.Origin.{Origin}
 use Rattle.beam_laws.specs.Out.{IsAsItWas}
 
@@ -19,7 +19,7 @@ CanCommit d o q = (process_of d.node.processes o.pid ≡ Some q) × IsAsItWas d 
 
 -- private rows as rows of the node in which the process is q now
 abbrev pub committed : State → ℕ → Process → Private → Rows
-committed s pid q rows = record { count = rows.count; state = after_private s pid (with_given q rows) }
+committed s pid q rows = record { count = rows.count; state = after_private s pid (with_name_and_transit_of q rows) }
 
 -- rows, and the next row of the process
 abbrev pub and_next_row : Rows → ℕ → Rows

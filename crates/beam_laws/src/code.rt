@@ -8,16 +8,16 @@ ghost use Rattle.beam_machine.specs.DebugRun.{DebugAnswers};
 ghost use Rattle.beam_machine.specs.State.{State};
 ghost use Rattle.beam_laws.specs.Numbers.{Ordered};
 ghost use Rattle.beam_model.specs.Listing.{Listing};
-ghost use Rattle.beam_laws.specs.Kin.{Kin, same_numbers};
+ghost use Rattle.beam_laws.specs.EarlierCode.{IsEarlierCode, same_numbers};
 
 /// A node's code is kin to the code that it has after any events: the number of an instance never becomes that of another. So where
 /// the modules are the same, in one order, and their instances have the same numbers, the code is the same.
 pub fn code_stays_kin()
-    ensures start { (s : State) → Ordered s.code s.instances → Kin s.code s }
-    ensures event { (code : Code) (d : Debugged) (e : DebugEvent Listing) → Kin code d.node → Kin code (debug_next d e).state.node }
-    ensures events { (code : Code) (d : Debugged) (events : List (DebugEvent Listing)) → Kin code d.node → Kin code (debug_run d events).state.node }
+    ensures start { (s : State) → Ordered s.code s.instances → IsEarlierCode s.code s }
+    ensures event { (code : Code) (d : Debugged) (e : DebugEvent Listing) → IsEarlierCode code d.node → IsEarlierCode code (debug_next d e).state.node }
+    ensures events { (code : Code) (d : Debugged) (events : List (DebugEvent Listing)) → IsEarlierCode code d.node → IsEarlierCode code (debug_run d events).state.node }
     ensures answered { (code : Code) (d new : Debugged) (e : DebugEvent Listing) (a : DebugAnswer) → DebugAnswers d e a new
-        → Kin code d.node → Kin code new.node }
-    ensures same { (code : Code) (s : State) → Kin code s → same_numbers code s.code ≡ true → code ≡ s.code }
+        → IsEarlierCode code d.node → IsEarlierCode code new.node }
+    ensures same { (code : Code) (s : State) → IsEarlierCode code s → same_numbers code s.code ≡ true → code ≡ s.code }
     ensures itself { (code : Code) → same_numbers code code ≡ true }
 {}

@@ -12,8 +12,8 @@ ghost use Rattle.beam_machine.specs.Next.{steps};
 ghost use Rattle.beam_machine.specs.Private.{Private, at_limit, after_row, before_node_row, at_spot, private_rows, private_to_spot};
 ghost use Rattle.beam_machine.specs.Process.{Process, is_running, is_ended, then_of};
 ghost use Rattle.beam_machine.specs.State.{process_of};
-ghost use Rattle.beam_laws.specs.Private.{IsStill, having, with_given};
-ghost use Rattle.beam_laws.specs.Kin.{Kin, same_numbers};
+ghost use Rattle.beam_laws.specs.Private.{IsStill, with_name_and_transit, with_name_and_transit_of};
+ghost use Rattle.beam_laws.specs.EarlierCode.{IsEarlierCode, same_numbers};
 ghost use Rattle.beam_laws.specs.Origin.{Origin};
 ghost use Rattle.beam_laws.specs.Out.{IsOut};
 ghost use Rattle.beam_laws.specs.Slice.{slice_of, CanCommit, committed, and_next_row, passes_after, before_halting};
@@ -22,9 +22,9 @@ ghost use Rattle.beam_laws.specs.Slice.{slice_of, CanCommit, committed, and_next
 /// that end early are the rows under a limit of exactly their count. Without break spots they are the private rows.
 pub fn rows_to_a_spot()
     ensures later { (spots : List Place) (passes : Bool) (code : Code) (n : ℕ) (p q : Process) → IsStill p q
-        → private_to_spot spots passes code n q ≡ with_given q (private_to_spot spots passes code n p) }
+        → private_to_spot spots passes code n q ≡ with_name_and_transit_of q (private_to_spot spots passes code n p) }
     ensures given { (spots : List Place) (passes : Bool) (code : Code) (n : ℕ) (p : Process)
-        → having p.name p.transit (private_to_spot spots passes code n p).process ≡ (private_to_spot spots passes code n p).process }
+        → with_name_and_transit p.name p.transit (private_to_spot spots passes code n p).process ≡ (private_to_spot spots passes code n p).process }
     ensures pid { (spots : List Place) (passes : Bool) (code : Code) (n : ℕ) (p : Process)
         → (private_to_spot spots passes code n p).process.pid ≡ p.pid }
     ensures cut { (spots : List Place) (passes : Bool) (code : Code) (n : ℕ) (p : Process)
@@ -50,7 +50,7 @@ pub fn slices_end()
 /// at the checkout.
 pub fn out_can_commit()
     ensures { (d : Debugged) (o : Origin) (q : Process) → IsOut d o → process_of d.node.processes o.pid ≡ Some q → is_ended q.status ≡ false
-        → Kin o.code d.node → same_numbers o.code d.node.code ≡ true → d.spots ≡ o.spots → CanCommit d o q }
+        → IsEarlierCode o.code d.node → same_numbers o.code d.node.code ≡ true → d.spots ≡ o.spots → CanCommit d o q }
 {}
 
 /// A slice can be committed later, after any events, where the node has the code and the break spots of the checkout, and the process is

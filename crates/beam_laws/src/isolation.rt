@@ -14,7 +14,7 @@ ghost use Rattle.beam_machine.specs.State.{State, process_of};
 ghost use Rattle.beam_machine.specs.Next.{replied, steps, next};
 ghost use Rattle.beam_machine.specs.Run.{run};
 ghost use Rattle.beam_machine.specs.Private.{private_rows, before_node_row};
-ghost use Rattle.beam_laws.specs.Private.{having, with_signals, heard, after_private, before, with_given, is_of_others};
+ghost use Rattle.beam_laws.specs.Private.{with_name_and_transit, with_signals, downs_of_end, after_private, before, with_name_and_transit_of, is_of_others};
 ghost use Rattle.beam_laws.specs.Signals.{steps_send, sent, signals_to};
 
 /// Private rows of a process that hasn't ended are its next rows in the node. They change only three things in the node: the process,
@@ -42,7 +42,7 @@ pub fn private_rows_send_signals()
         ≡ Some (with_signals (signals_to pid (private_rows s.code n p).sent) (private_rows s.code n p).process) }
     ensures others { (s : State) (pid n other : ℕ) (p : Process) → process_of s.processes pid ≡ Some p → other ≢ pid
         → process_of (after_private s pid (private_rows s.code n p)).processes other
-        ≡ option_map (λ q. with_signals (signals_to other (private_rows s.code n p).sent ++ heard pid (private_rows s.code n p).process.status q) q)
+        ≡ option_map (λ q. with_signals (signals_to other (private_rows s.code n p).sent ++ downs_of_end pid (private_rows s.code n p).process.status q) q)
         (process_of s.processes other) }
 {}
 
@@ -53,10 +53,10 @@ pub fn rows_leave_others()
     ensures node { (s : State) (pid n : ℕ) → ((next s (event.Steps pid n)).state.code ≡ s.code)
         × ((next s (event.Steps pid n)).state.clock ≡ s.clock) × ((next s (event.Steps pid n)).state.instances ≡ s.instances) }
     ensures others { (s : State) (pid n other : ℕ) (q : Process) → process_of s.processes other ≡ Some q → other ≢ pid → (name : Option (List ℕ))
-        × (process_of (next s (event.Steps pid n)).state.processes other ≡ Some (having name (q.transit ++ signals_to other (steps_send s pid n)) q)) }
+        × (process_of (next s (event.Steps pid n)).state.processes other ≡ Some (with_name_and_transit name (q.transit ++ signals_to other (steps_send s pid n)) q)) }
     ensures private { (s : State) (pid n other : ℕ) (p : Process) → process_of s.processes pid ≡ Some p → is_ended p.status ≡ false
         → (private_rows s.code n p).end ≢ before_node_row → other ≢ pid → process_of (next s (event.Steps pid n)).state.processes other
-        ≡ option_map (λ q. with_signals (signals_to other (private_rows s.code n p).sent ++ heard pid (private_rows s.code n p).process.status q) q)
+        ≡ option_map (λ q. with_signals (signals_to other (private_rows s.code n p).sent ++ downs_of_end pid (private_rows s.code n p).process.status q) q)
         (process_of s.processes other) }
 {}
 
@@ -64,7 +64,7 @@ pub fn rows_leave_others()
 /// same rows, and the process after them has these, unless it has ended.
 pub fn private_rows_read_the_process_alone()
     ensures { (code : Code) (n : ℕ) (p : Process) (name : Option (List ℕ)) (transit : List Signal)
-        → private_rows code n (having name transit p) ≡ record (private_rows code n p) { process = having name transit (private_rows code n p).process } }
+        → private_rows code n (with_name_and_transit name transit p) ≡ record (private_rows code n p) { process = with_name_and_transit name transit (private_rows code n p).process } }
 {}
 
 /// Private rows can be executed first and committed later. Events of others leave the code as it is; of the process they may change the
@@ -75,13 +75,13 @@ pub fn private_rows_can_wait()
     ensures process { (s : State) (events : List (Event Listing)) (pid : ℕ) (p : Process) → AllByRecursion (λ e. is_of_others pid e ≡ true) events
         → process_of s.processes pid ≡ Some p
         → ((run s events).state.code ≡ s.code)
-        × ((name : Option (List ℕ)) × (process_of (run s events).state.processes pid ≡ Some (having name (p.transit ++ signals_to pid (sent s events)) p))) }
+        × ((name : Option (List ℕ)) × (process_of (run s events).state.processes pid ≡ Some (with_name_and_transit name (p.transit ++ signals_to pid (sent s events)) p))) }
     ensures rows { (s : State) (events : List (Event Listing)) (pid n : ℕ) (p q : Process) → AllByRecursion (λ e. is_of_others pid e ≡ true) events
         → process_of s.processes pid ≡ Some p → process_of (run s events).state.processes pid ≡ Some q
-        → private_rows (run s events).state.code n q ≡ with_given q (private_rows s.code n p) }
+        → private_rows (run s events).state.code n q ≡ with_name_and_transit_of q (private_rows s.code n p) }
     ensures commit { (s : State) (events : List (Event Listing)) (pid n : ℕ) (p q : Process) → AllByRecursion (λ e. is_of_others pid e ≡ true) events
         → process_of s.processes pid ≡ Some p → process_of (run s events).state.processes pid ≡ Some q → is_running p.status ≡ true
         → next (run s events).state (event.Steps pid (private_rows s.code n p).count)
-        ≡ replied (after_private (run s events).state pid (with_given q (private_rows s.code n p)))
+        ≡ replied (after_private (run s events).state pid (with_name_and_transit_of q (private_rows s.code n p)))
         (Ran (private_rows s.code n p).count (then_of (private_rows s.code n p).process.status)) }
 {}

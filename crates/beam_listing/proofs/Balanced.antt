@@ -5,8 +5,8 @@ use Rattle.std.specs.List.{list_all, list_any}
 use Rattle.std.proofs.lemmas.Bool.{eqb-true}
 use Rattle.std.proofs.lemmas.List.{length-append}
 use Rattle.beam_erltext.proofs.Texts.{differ}
-use Rattle.beam_model.specs.declared.inside.Inside.{Inside}
-use Rattle.beam_model.specs.declared.inside.Inside.TheVariants as inside
+use Rattle.beam_model.specs.declared.lex_state.LexState.{LexState}
+use Rattle.beam_model.specs.declared.lex_state.LexState.TheVariants as inside
 use Rattle.beam_model.specs.Forms.{◌>>=◌, inside_after, is_closing, closed, open_after, is_stop, stop_from, stop_in}
 use Rattle.beam_listing.specs.BracketForm.{IsQuote, IsQuoted, no_byte, one_byte, escape, ArePair, round_pair, square_pair, brace_pair, IsPlain, IsBalanced, empty, plain, quoted, bracketed, commented}
 
@@ -70,7 +70,7 @@ pair_is _ _ brace_pair = record { stays = refl; opens = λ d. refl; goes_on = re
 
 -- ---- balanced text is passed over
 
-step : (mark : ℕ) (s : Inside) (d : List ℕ) (n c : ℕ) (cs : List ℕ) (t : Inside) (inner : List ℕ) → is_stop mark s d c ≡ false → inside_after s c ≡ t → open_after s c d ≡ Some inner
+step : (mark : ℕ) (s : LexState) (d : List ℕ) (n c : ℕ) (cs : List ℕ) (t : LexState) (inner : List ℕ) → is_stop mark s d c ≡ false → inside_after s c ≡ t → open_after s c d ≡ Some inner
     → stop_from mark s d n (c ∷ cs) ≡ stop_from mark t inner (n + 1) cs
 unfolding stop_from
 step mark s d n c cs t inner a b e = rw (a, b, e) refl
@@ -200,7 +200,7 @@ Closes (b ∷ d) mark text = (inner rest : List ℕ) × (text ≡ inner ++ (b �
 abbrev QuoteCloses : ℕ → List ℕ → ℕ → List ℕ → Type 0
 QuoteCloses q d mark text = (inner rest : List ℕ) × (text ≡ inner ++ (q ∷ rest)) × IsQuoted q inner × Closes d mark rest
 
-abbrev Remains : Inside → List ℕ → ℕ → List ℕ → Type 0
+abbrev Remains : LexState → List ℕ → ℕ → List ℕ → Type 0
 Remains inside.Nothing d mark text = Closes d mark text
 Remains (inside.Quotes q) d mark text = QuoteCloses q d mark text
 Remains (inside.Escape q) d mark text = (c : ℕ) × (rest : List ℕ) × (text ≡ c ∷ rest) × QuoteCloses q d mark rest
@@ -269,8 +269,8 @@ outside_back : (mark : ℕ) (d : List ℕ) (c : ℕ) (inner cs : List ℕ) → A
     → Remains (inside_after inside.Nothing c) inner mark cs → Closes d mark (c ∷ cs)
 outside_back mark d c inner cs are stop opens is = by (class_of c)
   where
-    stays : (s : Inside) (k : List ℕ) → inside_after inside.Nothing c ≡ s → open_after inside.Nothing c d ≡ Some k → Remains s k mark cs
-    stays s k e f = subst (λ (t : Inside). Remains t k mark cs) e (subst (λ (t : List ℕ). Remains (inside_after inside.Nothing c) t mark cs) (some_is inner k (sym opens ∙ f)) is)
+    stays : (s : LexState) (k : List ℕ) → inside_after inside.Nothing c ≡ s → open_after inside.Nothing c d ≡ Some k → Remains s k mark cs
+    stays s k e f = subst (λ (t : LexState). Remains t k mark cs) e (subst (λ (t : List ℕ). Remains (inside_after inside.Nothing c) t mark cs) (some_is inner k (sym opens ∙ f)) is)
 
     by : Class c → Closes d mark (c ∷ cs)
     by (percent e) =
@@ -286,7 +286,7 @@ outside_back mark d c inner cs are stop opens is = by (class_of c)
         let r : Closes (close ∷ d) mark cs = stays inside.Nothing (close ∷ d) p.stays (p.opens d) in
         let whole = piece_pushed d mark c close r.0 r.1 (λ m t more. bracketed m c close r.0 t pair r.3 more) r.4 in
         subst (Closes d mark) (ap (λ (t : List ℕ). c ∷ t) (sym r.2)) whole
-    by (closing k s o) = closing_back mark d c inner cs k stop (sym (o d) ∙ opens) (subst (λ (t : Inside). Remains t inner mark cs) s is)
+    by (closing k s o) = closing_back mark d c inner cs k stop (sym (o d) ∙ opens) (subst (λ (t : LexState). Remains t inner mark cs) s is)
     by (other p) =
         let byte = plain_byte c p in
         byte_pushed d mark c cs p (front_differs mark d c are p stop) (stays inside.Nothing d byte.stays (byte.opens d))
@@ -312,7 +312,7 @@ comment_back mark d c cs is = by (c == 10) refl is
     by true e r = ([], cs, ap (λ (x : ℕ). x ∷ cs) (eqb-true c 10 e), refl, r)
     by false e (inner, after, parts, none, closes) = (c ∷ inner, after, ap (λ (t : List ℕ). c ∷ t) parts, rw (e, none) refl, closes)
 
-back : (mark : ℕ) (s : Inside) (d : List ℕ) (c : ℕ) (inner cs : List ℕ) → AreClosing d → is_stop mark s d c ≡ false → open_after s c d ≡ Some inner
+back : (mark : ℕ) (s : LexState) (d : List ℕ) (c : ℕ) (inner cs : List ℕ) → AreClosing d → is_stop mark s d c ≡ false → open_after s c d ≡ Some inner
     → Remains (inside_after s c) inner mark cs → Remains s d mark (c ∷ cs)
 back mark inside.Nothing d c inner cs are stop opens is = outside_back mark d c inner cs are stop opens is
 back mark (inside.Quotes q) d c inner cs are stop opens is = quoted_back mark q d c cs (subst (λ (k : List ℕ). Remains (inside_after (inside.Quotes q) c) k mark cs) (sym (some_is d inner opens)) is)
@@ -320,7 +320,7 @@ back mark (inside.Escape q) d c inner cs are stop opens is = (c, cs, refl, subst
 back mark inside.Comment d c inner cs are stop opens is = comment_back mark d c cs (subst (λ (k : List ℕ). Remains (inside_after inside.Comment c) k mark cs) (sym (some_is d inner opens)) is)
 
 -- after a byte the open brackets are still given by closing brackets
-still_closing : (s : Inside) (c : ℕ) (d inner : List ℕ) → AreClosing d → open_after s c d ≡ Some inner → AreClosing inner
+still_closing : (s : LexState) (c : ℕ) (d inner : List ℕ) → AreClosing d → open_after s c d ≡ Some inner → AreClosing inner
 still_closing inside.Nothing c d inner are e = by (class_of c)
   where
     same : (k : List ℕ) → open_after inside.Nothing c d ≡ Some k → AreClosing k → AreClosing inner
@@ -348,7 +348,7 @@ still_closing (inside.Escape q) c d inner are e = subst AreClosing (some_is d in
 still_closing inside.Comment c d inner are e = subst AreClosing (some_is d inner e) are
 
 -- a stop stands after the bytes that were counted
-stop_grows : (mark : ℕ) (s : Inside) (d : List ℕ) (n : ℕ) (text : List ℕ) (m : ℕ) → stop_from mark s d n text ≡ Some m → n ≤ m
+stop_grows : (mark : ℕ) (s : LexState) (d : List ℕ) (n : ℕ) (text : List ℕ) (m : ℕ) → stop_from mark s d n text ≡ Some m → n ≤ m
 unfolding stop_from
 stop_grows mark s d n [] m e = absurd cc
 stop_grows mark s d n (c ∷ cs) m e = by (is_stop mark s d c) (open_after s c d) e (λ inner f. stop_grows mark (inside_after s c) inner (n + 1) cs m f)
@@ -360,11 +360,11 @@ stop_grows mark s d n (c ∷ cs) m e = by (is_stop mark s d c) (open_after s c d
     by false (Some inner) f more = omega (arith, more inner f)
 
 -- no bracket is open at the stop
-stop_outside : (mark : ℕ) (s : Inside) (d : List ℕ) (n at : ℕ) (more : List ℕ) → stop_from mark s d n (at ∷ more) ≡ Some (n + 0) → Remains s d mark []
+stop_outside : (mark : ℕ) (s : LexState) (d : List ℕ) (n at : ℕ) (more : List ℕ) → stop_from mark s d n (at ∷ more) ≡ Some (n + 0) → Remains s d mark []
 unfolding stop_from
 stop_outside mark s d n at more e = by (is_stop mark s d at) (open_after s at d) refl e
   where
-    outside : (s : Inside) (d : List ℕ) → is_stop mark s d at ≡ true → Remains s d mark []
+    outside : (s : LexState) (d : List ℕ) → is_stop mark s d at ≡ true → Remains s d mark []
     outside inside.Nothing [] t = empty mark
     outside inside.Nothing (b ∷ d) t = let bad : true ≡ false = sym t ∙ within_none mark b d at in absurd cc (bad)
     outside (inside.Quotes q) d t = absurd cc
@@ -376,7 +376,7 @@ stop_outside mark s d n at more e = by (is_stop mark s d at) (open_after s at d)
     by false None t f = absurd cc (f)
     by false (Some inner) t f = absurd (omega (arith, stop_grows mark (inside_after s at) inner (n + 1) more (n + 0) f))
 
-remains : (mark : ℕ) (s : Inside) (d : List ℕ) (n : ℕ) (text : List ℕ) (at : ℕ) (more : List ℕ) → AreClosing d → stop_from mark s d n (text ++ (at ∷ more)) ≡ Some (n + length text) → Remains s d mark text
+remains : (mark : ℕ) (s : LexState) (d : List ℕ) (n : ℕ) (text : List ℕ) (at : ℕ) (more : List ℕ) → AreClosing d → stop_from mark s d n (text ++ (at ∷ more)) ≡ Some (n + length text) → Remains s d mark text
 unfolding stop_from
 remains mark s d n [] at more are e = stop_outside mark s d n at more e
 remains mark s d n (c ∷ cs) at more are e =

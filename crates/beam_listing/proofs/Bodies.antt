@@ -5,7 +5,7 @@ use Rattle.std.specs.Fmt.{decimal}
 use Rattle.std.specs.Str.{chars, is_utf8}
 use Rattle.std.proofs.lemmas.List.{length-append}
 use Rattle.beam_term.specs.Atom.{IsAtomText}
-use Rattle.beam_model.specs.declared.inside.Inside.TheVariants as inside
+use Rattle.beam_model.specs.declared.lex_state.LexState.TheVariants as inside
 use Rattle.beam_model.specs.declared.function.Function.{Function}
 use Rattle.beam_model.specs.declared.item.Item.{Item}
 use Rattle.beam_model.specs.declared.item.Item.TheVariants as item
@@ -15,7 +15,7 @@ use Rattle.beam_model.specs.Forms.{uncommented, uncommented_from}
 use Rattle.beam_model.specs.ListingForms.{item_of, item_by, function_of_parts}
 use Rattle.beam_model.specs.ListingReading.{ListingBody, with_item, next_form, body_from}
 use Rattle.beam_erltext.proofs.Texts.{differ}
-use Rattle.beam_erltext.proofs.AgainTerms.{no_blanks}
+use Rattle.beam_erltext.proofs.TermRoundTrip.{no_blanks}
 use Rattle.beam_listing.proofs.Traces.{brace, uncommented_behind}
 use Rattle.beam_listing.proofs.Elements.{IsPart, AreParts, closed}
 use Rattle.beam_listing.proofs.Operands.{IsWord, word, word_part, number_whole, number_part, atom_whole, atom_part}

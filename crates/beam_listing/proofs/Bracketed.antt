@@ -4,7 +4,7 @@ use Rattle.std.specs.Prelude.{◌==◌, ◌||◌}
 use Rattle.std.proofs.lemmas.Bool.{eqb-true}
 use Rattle.std.proofs.lemmas.List.{append-nil, take_at, drop_at, take-append-drop, length-take, length-drop, length-append}
 use Rattle.beam_erltext.proofs.Texts.{differ}
-use Rattle.beam_model.specs.declared.inside.Inside.TheVariants as inside
+use Rattle.beam_model.specs.declared.lex_state.LexState.TheVariants as inside
 use Rattle.beam_model.specs.Forms.{◌>>=◌, is_closing, is_stop, stop_from, stop_in, alone, elements_after, element_by, elements_from, elements_within, bracketed_elements, tuple_parts, list_parts}
 use Rattle.beam_model.specs.TextReading.{is_blank, after_blanks}
 use Rattle.beam_listing.specs.BracketForm.{HasNoMargin, AreBlanks, IsElement, AreElements, AreBracketed}

@@ -3,11 +3,11 @@ use Rattle.std.proofs.Common.{◌≡◌, ℕ, zero, suc, ◌+◌, ◌<◌, false
 use Rattle.std.specs.Prelude.{Option, ◌==◌}
 use Rattle.std.proofs.Math.Seq.{take-append_seam, drop-append_seam}
 use Rattle.std.proofs.lemmas.List.{length-append}
-use Rattle.beam_model.specs.declared.inside.Inside.TheVariants as inside
+use Rattle.beam_model.specs.declared.lex_state.LexState.TheVariants as inside
 use Rattle.beam_model.specs.TextReading.{after_blanks}
 use Rattle.beam_model.specs.Forms.{stop_from, stop_in, elements_after, element_by, elements_from, elements_within, bracketed_elements}
 use Rattle.beam_erltext.proofs.Texts.{differ}
-use Rattle.beam_erltext.proofs.AgainTerms.{Begins, no_blanks}
+use Rattle.beam_erltext.proofs.TermRoundTrip.{Begins, no_blanks}
 use Rattle.beam_listing.proofs.Traces.{Brackets, square, brace, left, right, Safe, stop_behind}
 
 -- a text that can stand between commas

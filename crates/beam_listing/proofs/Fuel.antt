@@ -9,14 +9,14 @@ pub elements_from_is : (n m close : ℕ) (elements : List (List ℕ)) (text : Li
 unfolding elements_from
 elements_from_is n m close elements text h = let e : n - m ≡ suc (n - (m + 1)) = omega arith in rw e refl
 
-pub is_loose_is : (n : ℕ) (text : List ℕ) → 0 < n → is_partial_term n text ≡ (is_term text || (is_partial_tuple (is_partial_term (n - 1)) (headed_of text) || is_partial_list (is_partial_term (n - 1)) (list_parts text)))
+pub is_partial_term_is : (n : ℕ) (text : List ℕ) → 0 < n → is_partial_term n text ≡ (is_term text || (is_partial_tuple (is_partial_term (n - 1)) (headed_of text) || is_partial_list (is_partial_term (n - 1)) (list_parts text)))
 unfolding is_partial_term
-is_loose_is zero text h = absurd (omega arith)
-is_loose_is (suc n) text h = let e : suc n - 1 ≡ n = omega arith in rw e refl
+is_partial_term_is zero text h = absurd (omega arith)
+is_partial_term_is (suc n) text h = let e : suc n - 1 ≡ n = omega arith in rw e refl
 
-pub is_loose_none : (n : ℕ) (text : List ℕ) → n ≡ 0 → is_partial_term n text ≡ is_term text
+pub is_partial_term_none : (n : ℕ) (text : List ℕ) → n ≡ 0 → is_partial_term n text ≡ is_term text
 unfolding is_partial_term
-is_loose_none n text e = rw e refl
+is_partial_term_none n text e = rw e refl
 
 pub body_from_is : (n m : ℕ) (body : ListingBody) (text : List ℕ) → m < n → body_from (n - m) body text ≡ (if length text == 0 then Ok body else body_by (body_from (n - (m + 1))) body text)
 unfolding body_from

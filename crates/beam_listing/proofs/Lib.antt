@@ -1,6 +1,6 @@
 mod Added
-mod Again
-mod Answered
+mod RoundTrip
+mod ReadResults
 mod Balanced
 mod Bodies
 mod Bracketed

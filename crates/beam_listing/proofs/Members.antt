@@ -13,7 +13,7 @@ use Rattle.beam_model.specs.Forms.{tuple_parts, list_parts}
 use Rattle.beam_model.specs.ListingText.{tagged, term_text, argument_text, arguments_text, import_text, list_text}
 use Rattle.beam_model.specs.ListingForms.{headed_of, part_of, plain_register, register_of_parts, term_of_part, term_source, nil_source, member_of_parts, member_of_text, number_member, members_from, members_of_text, import_of_text, native_of}
 use Rattle.beam_erltext.proofs.Texts.{differ}
-use Rattle.beam_erltext.proofs.AgainIntegers.{digit_is, decimal_begins}
+use Rattle.beam_erltext.proofs.IntegerRoundTrip.{digit_is, decimal_begins}
 use Rattle.beam_listing.specs.Typed.{IsImport}
 use Rattle.beam_listing.proofs.Traces.{Brackets, square, brace, right, Inner, inner_append, inner_of, comma_inner, empty_safe, in_brackets}
 use Rattle.beam_listing.proofs.Elements.{IsPart, AreParts, closed, parts_again}

@@ -5,7 +5,7 @@ use Rattle.std.proofs.lemmas.Bool.{eqb-true}
 use Rattle.std.proofs.lemmas.Bool.Decides.{nat_tests}
 use Rattle.beam_term.specs.TermValue.{TermValue, int_term, atom_term, nil_term}
 use Rattle.beam_erltext.proofs.Texts.{differ}
-use Rattle.beam_erltext.proofs.AgainNames.{IsBare, bare_is}
+use Rattle.beam_erltext.proofs.AtomRoundTrip.{IsBare, bare_is}
 use Rattle.beam_model.specs.declared.function.Import.{Import}
 use Rattle.beam_model.specs.declared.instruction.Argument.{Argument}
 use Rattle.beam_model.specs.declared.instruction.Argument.TheVariants as argument

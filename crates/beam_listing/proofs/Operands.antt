@@ -14,9 +14,9 @@ use Rattle.beam_model.specs.TextReading.{after_blanks, integer_at, atom_at, term
 use Rattle.beam_model.specs.Forms.{tuple_parts}
 use Rattle.beam_model.specs.ListingText.{tagged, term_text, argument_text}
 use Rattle.beam_model.specs.ListingForms.{whole_of, integer_of_text, atom_of_text, term_of, number_of_text, headed_of, part_of, plain_register, register_of_parts, register_of_text, label_of_text, term_of_part, term_source, nil_source, source_of_text}
-use Rattle.beam_erltext.proofs.AgainIntegers.{integer_again, lt_true}
-use Rattle.beam_erltext.proofs.AgainNames.{atom_again}
-use Rattle.beam_erltext.proofs.AgainTerms.{from_integer, from_atom, integer_begins, atom_begins, text_begins, term_again}
+use Rattle.beam_erltext.proofs.IntegerRoundTrip.{integer_again, lt_true}
+use Rattle.beam_erltext.proofs.AtomRoundTrip.{atom_again}
+use Rattle.beam_erltext.proofs.TermRoundTrip.{from_integer, from_atom, integer_begins, atom_begins, text_begins, term_again}
 use Rattle.beam_listing.proofs.Traces.{brace, inner_append, inner_of, comma_inner, safe_integer, safe_atom, safe_term, in_brackets}
 use Rattle.beam_listing.proofs.Elements.{IsPart, closed, parts_again}
 

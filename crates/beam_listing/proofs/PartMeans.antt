@@ -4,7 +4,7 @@ use Rattle.std.specs.Prelude.{nat_lt, ◌&&◌}
 use Rattle.std.proofs.lemmas.Bool.Decides.{nat_tests}
 use Rattle.std.proofs.lemmas.Slice.Eq.{bytes_eq-Decides}
 use Rattle.beam_term.specs.TermValue.{TermValue}
-use Rattle.beam_erltext.proofs.AgainIntegers.{lt_true}
+use Rattle.beam_erltext.proofs.IntegerRoundTrip.{lt_true}
 use Rattle.beam_model.specs.SameText.{same_text}
 use Rattle.beam_model.specs.TextReading.{Reading, integer_at, atom_at, term_at}
 use Rattle.beam_model.specs.Forms.{◌>>=◌, tuple_parts}

@@ -10,16 +10,16 @@ use Rattle.std.proofs.lemmas.Int.{ints}
 use Rattle.std.proofs.lemmas.List.Concat.{flat_map-cons}
 use Rattle.std.proofs.lemmas.List.Folds.{list_all-append}
 use Rattle.beam_term.specs.TermValue.{TermValue, Terms, int_term, atom_term, reference_term, pid_term, nil_term, pair_term, tuple_term, no_terms, more_terms, IsSmall, IsInRange, AreInRange}
-use Rattle.beam_model.specs.declared.inside.Inside.{Inside}
-use Rattle.beam_model.specs.declared.inside.Inside.TheVariants as inside
+use Rattle.beam_model.specs.declared.lex_state.LexState.{LexState}
+use Rattle.beam_model.specs.declared.lex_state.LexState.TheVariants as inside
 use Rattle.beam_model.specs.Text.{is_lower, is_digit, is_name, is_unquoted, escaped, atom_text, text_of, tail_text, items_text, HasText, AllHaveText}
 use Rattle.beam_model.specs.Forms.{inside_after, is_comment, is_closing, open_after, is_stop, stop_from, uncommented_from}
 use Rattle.beam_erltext.proofs.Texts.{differ}
-use Rattle.beam_erltext.proofs.AgainIntegers.{digit_is}
-use Rattle.beam_erltext.proofs.AgainNames.{and_true, bare_is}
+use Rattle.beam_erltext.proofs.IntegerRoundTrip.{digit_is}
+use Rattle.beam_erltext.proofs.AtomRoundTrip.{and_true, bare_is}
 
 -- no byte of the text is a stop or a part of a comment, and the scan leads from one state to another
-abbrev pub Trace : ℕ → Inside → List ℕ → List ℕ → Inside → List ℕ → Type 0
+abbrev pub Trace : ℕ → LexState → List ℕ → List ℕ → LexState → List ℕ → Type 0
 Trace mark s d [] t e = (s ≡ t) × (d ≡ e)
 Trace mark s d (c ∷ cs) t e =
     (is_stop mark s d c ≡ false) × (is_comment (inside_after s c) ≡ false)
@@ -36,9 +36,9 @@ Safe text = (mark : ℕ) → IsMark mark → (d : List ℕ) → Trace mark insid
 abbrev pub Inner : List ℕ → Type 0
 Inner text = (mark : ℕ) → IsMark mark → (o : ℕ) (d : List ℕ) → Trace mark inside.Nothing (o ∷ d) text inside.Nothing (o ∷ d)
 
-pub trace_append : (mark : ℕ) (s : Inside) (d xs : List ℕ) (t : Inside) (e ys : List ℕ) (u : Inside) (f : List ℕ)
+pub trace_append : (mark : ℕ) (s : LexState) (d xs : List ℕ) (t : LexState) (e ys : List ℕ) (u : LexState) (f : List ℕ)
     → Trace mark s d xs t e → Trace mark t e ys u f → Trace mark s d (xs ++ ys) u f
-trace_append mark s d [] t e ys u f first second = subst (λ (k : List ℕ). Trace mark s k ys u f) (sym first.1) (subst (λ (x : Inside). Trace mark x e ys u f) (sym first.0) second)
+trace_append mark s d [] t e ys u f first second = subst (λ (k : List ℕ). Trace mark s k ys u f) (sym first.1) (subst (λ (x : LexState). Trace mark x e ys u f) (sym first.0) second)
 trace_append mark s d (c ∷ cs) t e ys u f first second =
     (first.0, first.1, (first.2.0, first.2.1, trace_append mark (inside_after s c) first.2.0 cs t e ys u f first.2.2 second))
 
@@ -53,18 +53,18 @@ inner_of text safe mark m o d = safe mark m (o ∷ d)
 
 -- ---- facts of traces
 
-pub stop_behind : (mark : ℕ) (s : Inside) (d text : List ℕ) (t : Inside) (e : List ℕ) (n : ℕ) (rest : List ℕ) → Trace mark s d text t e
+pub stop_behind : (mark : ℕ) (s : LexState) (d text : List ℕ) (t : LexState) (e : List ℕ) (n : ℕ) (rest : List ℕ) → Trace mark s d text t e
     → stop_from mark s d n (text ++ rest) ≡ stop_from mark t e (n + length text) rest
 unfolding stop_from
 stop_behind mark s d [] t e n rest h =
-    ap (λ (x : Inside). stop_from mark x d n rest) h.0 ∙ ap (λ (k : List ℕ). stop_from mark t k n rest) h.1 ∙ ap (λ (k : ℕ). stop_from mark t e k rest) (omega arith)
+    ap (λ (x : LexState). stop_from mark x d n rest) h.0 ∙ ap (λ (k : List ℕ). stop_from mark t k n rest) h.1 ∙ ap (λ (k : ℕ). stop_from mark t e k rest) (omega arith)
 stop_behind mark s d (c ∷ cs) t e n rest h =
     rw (h.0, h.2.1) (stop_behind mark (inside_after s c) h.2.0 cs t e (n + 1) rest h.2.2 ∙ ap (λ (k : ℕ). stop_from mark t e k rest) (omega arith))
 
-pub uncommented_behind : (mark : ℕ) (s : Inside) (d text : List ℕ) (t : Inside) (e rest : List ℕ) → Trace mark s d text t e
+pub uncommented_behind : (mark : ℕ) (s : LexState) (d text : List ℕ) (t : LexState) (e rest : List ℕ) → Trace mark s d text t e
     → uncommented_from s (text ++ rest) ≡ text ++ uncommented_from t rest
 unfolding uncommented_from
-uncommented_behind mark s d [] t e rest h = ap (λ (x : Inside). uncommented_from x rest) h.0
+uncommented_behind mark s d [] t e rest h = ap (λ (x : LexState). uncommented_from x rest) h.0
 uncommented_behind mark s d (c ∷ cs) t e rest h =
     rw h.1 (ap (λ (text : List ℕ). c ∷ text) (uncommented_behind mark (inside_after s c) h.2.0 cs t e rest h.2.2))
 

@@ -5,36 +5,36 @@ ghost use Rattle.beam_model.specs.Forms.{inside_after, is_comment, is_outside, u
 ghost use Rattle.beam_listing.specs.Gives.{Gives};
 
 use crate::miss::Miss;
-use crate::part::Part;
+use crate::part::FormPart;
 use beam_erltext::token::skip_blanks;
-use beam_model::inside::Inside;
+use beam_model::lex_state::LexState;
 use std::alloc::{AllocError, Global};
 
-fn inside_behind(stands: Inside, byte: u8) -> Inside
-    ensures { result ≡ inside_after stands byte }
+fn inside_after(state: LexState, byte: u8) -> LexState
+    ensures { result ≡ inside_after state byte }
 {
-    match stands {
-        Inside::Nothing if byte == b'%' => Inside::Comment,
-        Inside::Nothing if byte == b'"' || byte == b'\'' => Inside::Quotes(byte),
-        Inside::Nothing => Inside::Nothing,
-        Inside::Quotes(quote) if byte == quote => Inside::Nothing,
-        Inside::Quotes(quote) if byte == b'\\' => Inside::Escape(quote),
-        Inside::Quotes(quote) | Inside::Escape(quote) => Inside::Quotes(quote),
-        Inside::Comment if byte == b'\n' => Inside::Nothing,
-        Inside::Comment => Inside::Comment,
+    match state {
+        LexState::Nothing if byte == b'%' => LexState::Comment,
+        LexState::Nothing if byte == b'"' || byte == b'\'' => LexState::Quotes(byte),
+        LexState::Nothing => LexState::Nothing,
+        LexState::Quotes(quote) if byte == quote => LexState::Nothing,
+        LexState::Quotes(quote) if byte == b'\\' => LexState::Escape(quote),
+        LexState::Quotes(quote) | LexState::Escape(quote) => LexState::Quotes(quote),
+        LexState::Comment if byte == b'\n' => LexState::Nothing,
+        LexState::Comment => LexState::Comment,
     }
 }
 
-fn is_comment(stands: Inside) -> bool
-    ensures { result ≡ is_comment stands }
+fn is_comment(state: LexState) -> bool
+    ensures { result ≡ is_comment state }
 {
-    matches!(stands, Inside::Comment)
+    matches!(state, LexState::Comment)
 }
 
-fn is_outside(stands: Inside) -> bool
-    ensures { result ≡ is_outside stands }
+fn is_outside(state: LexState) -> bool
+    ensures { result ≡ is_outside state }
 {
-    matches!(stands, Inside::Nothing)
+    matches!(state, LexState::Nothing)
 }
 
 /// The text with blanks in the place of its comments.
@@ -43,11 +43,11 @@ pub fn uncommented(alloc: Global, text: &[u8]) -> Result<Vec<u8>, AllocError>
     ensures { IfOk result (λ v. v.items ≡ uncommented text.now) }
 {
     let mut shown = Vec::new(alloc);
-    let mut stands = Inside::Nothing;
+    let mut state = LexState::Nothing;
     let mut rest = text;
     while let Some((first, others)) = rest.split_first() {
-        stands = inside_behind(stands, *first);
-        shown.push(if is_comment(stands) { b' ' } else { *first })?;
+        state = inside_after(state, *first);
+        shown.push(if is_comment(state) { b' ' } else { *first })?;
         rest = others;
     }
     Ok(shown)
@@ -72,10 +72,10 @@ fn close(brackets: &mut Vec<u8>, byte: u8) -> Result<(), Miss>
 
 // The brackets that are open after a byte, each by its closing bracket, the innermost last.
 #[tactic(auto, using(crate::proofs::Reversed::reversed_push))]
-fn nest(brackets: &mut Vec<u8>, stands: Inside, byte: u8) -> Result<(), Miss>
-    ensures { Gives (λ _. reverse brackets.new.items) result (open_after stands byte (reverse brackets.old.items)) }
+fn nest(brackets: &mut Vec<u8>, state: LexState, byte: u8) -> Result<(), Miss>
+    ensures { Gives (λ _. reverse brackets.new.items) result (open_after state byte (reverse brackets.old.items)) }
 {
-    if !is_outside(stands) {
+    if !is_outside(state) {
         return Ok(());
     }
     match byte {
@@ -88,10 +88,10 @@ fn nest(brackets: &mut Vec<u8>, stands: Inside, byte: u8) -> Result<(), Miss>
 }
 
 #[tactic(auto, using(crate::proofs::Reversed::reversed_length))]
-fn is_stop(mark: u8, stands: Inside, brackets: &[u8], byte: u8) -> bool
-    ensures { result ≡ is_stop mark stands (reverse brackets.now) byte }
+fn is_stop(mark: u8, state: LexState, brackets: &[u8], byte: u8) -> bool
+    ensures { result ≡ is_stop mark state (reverse brackets.now) byte }
 {
-    is_outside(stands) && brackets.is_empty() && (byte == mark || is_closing(byte))
+    is_outside(state) && brackets.is_empty() && (byte == mark || is_closing(byte))
 }
 
 /// How many bytes stand before the first mark or closing bracket that is outside of quotes and brackets.
@@ -100,16 +100,16 @@ pub fn stop(alloc: Global, mark: u8, text: &[u8]) -> Result<usize, Miss>
     ensures value { Gives (λ n. n) result (stop_in mark text.now) }
     ensures within { IfOk result (λ n. n < length text.now) }
 {
-    let mut stands = Inside::Nothing;
+    let mut state = LexState::Nothing;
     let mut brackets = Vec::new(alloc);
     let mut count = 0;
     let mut rest = text;
     while let Some((first, others)) = rest.split_first() {
-        if is_stop(mark, stands, &brackets, *first) {
+        if is_stop(mark, state, &brackets, *first) {
             return Ok(count);
         }
-        nest(&mut brackets, stands, *first)?;
-        stands = inside_behind(stands, *first);
+        nest(&mut brackets, state, *first)?;
+        state = inside_after(state, *first);
         count += 1;
         rest = others;
     }
@@ -118,7 +118,7 @@ pub fn stop(alloc: Global, mark: u8, text: &[u8]) -> Result<usize, Miss>
 
 // The elements up to the end of the bracket.
 #[tactic(auto, using(crate::proofs::Fuel::elements_from_is), unfolding(beam_model::specs::Forms::elements_from))]
-fn elements_up_to(alloc: Global, close: u8, text: &[u8]) -> Result<Vec<Part<'_>>, Miss>
+fn elements_up_to(alloc: Global, close: u8, text: &[u8]) -> Result<Vec<FormPart<'_>>, Miss>
     ensures { Gives (λ v. v.items) result (elements_from (length text.now) close [] text.now) }
 {
     let mut elements = Vec::new(alloc);
@@ -128,9 +128,9 @@ fn elements_up_to(alloc: Global, close: u8, text: &[u8]) -> Result<Vec<Part<'_>>
         if size == 0 {
             return Err(Miss::Unknown);
         }
-        let (element, behind) = rest.split_at(size);
-        elements.push(Part::new(element))?;
-        let Some((mark, others)) = behind.split_first() else {
+        let (element, after) = rest.split_at(size);
+        elements.push(FormPart::new(element))?;
+        let Some((mark, others)) = after.split_first() else {
             return Err(Miss::Unknown);
         };
         if *mark != b',' {
@@ -142,17 +142,21 @@ fn elements_up_to(alloc: Global, close: u8, text: &[u8]) -> Result<Vec<Part<'_>>
 }
 
 // The elements, where their bracket is closed and nothing stands after it.
-fn ended<'a>(elements: Vec<Part<'a>>, is_closed: bool, behind: &[u8]) -> Result<Vec<Part<'a>>, Miss>
-    ensures { Gives (λ v. v.items) result (if is_closed then alone elements.entry.items behind.now else None) }
+fn ended<'a>(
+    elements: Vec<FormPart<'a>>,
+    is_closed: bool,
+    after: &[u8],
+) -> Result<Vec<FormPart<'a>>, Miss>
+    ensures { Gives (λ v. v.items) result (if is_closed then alone elements.entry.items after.now else None) }
 {
-    if is_closed && behind.is_empty() {
+    if is_closed && after.is_empty() {
         return Ok(elements);
     }
     Err(Miss::Unknown)
 }
 
 #[tactic(auto, unfolding(beam_model::specs::Forms::elements_within))]
-fn elements_within(alloc: Global, close: u8, text: &[u8]) -> Result<Vec<Part<'_>>, Miss>
+fn elements_within(alloc: Global, close: u8, text: &[u8]) -> Result<Vec<FormPart<'_>>, Miss>
     ensures { Gives (λ v. v.items) result (elements_within close text.now) }
 {
     let Some((first, others)) = text.split_first() else {
@@ -166,7 +170,12 @@ fn elements_within(alloc: Global, close: u8, text: &[u8]) -> Result<Vec<Part<'_>
 
 /// The elements of a text in these brackets, in their order.
 #[tactic(auto, unfolding(beam_model::specs::Forms::bracketed_elements))]
-pub fn elements(alloc: Global, opening: u8, close: u8, text: &[u8]) -> Result<Vec<Part<'_>>, Miss>
+pub fn elements(
+    alloc: Global,
+    opening: u8,
+    close: u8,
+    text: &[u8],
+) -> Result<Vec<FormPart<'_>>, Miss>
     ensures { Gives (λ v. v.items) result (bracketed_elements opening close text.now) }
 {
     let Some((first, others)) = text.split_first() else {

@@ -6,7 +6,7 @@ ghost use Rattle.beam_listing.specs.Gives.{Gives};
 
 use crate::instruction::{instruction, plain};
 use crate::miss::Miss;
-use crate::part::Part;
+use crate::part::FormPart;
 use crate::value::{atom, headed, list_parts, number, only, part, tuple_parts};
 use beam_model::function::{Function, Signature};
 use beam_model::item::Item;
@@ -15,7 +15,7 @@ use std::alloc::Global;
 
 // The function of `{function,F,A,Entry}`.
 #[tactic(auto, unfolding(beam_model::specs::ListingForms::function_of_parts))]
-fn function(alloc: Global, parts: &[Part<'_>]) -> Result<Function, Miss>
+fn function(alloc: Global, parts: &[FormPart<'_>]) -> Result<Function, Miss>
     ensures { Gives (λ f. f) result (function_of_parts parts.now) }
 {
     let [name, arity, entry] = parts else {
@@ -29,7 +29,7 @@ fn function(alloc: Global, parts: &[Part<'_>]) -> Result<Function, Miss>
 }
 
 #[tactic(auto, unfolding(beam_model::specs::ListingForms::item_by))]
-fn item_by(alloc: Global, name: &str, parts: &[Part<'_>]) -> Result<Item, Miss>
+fn item_by(alloc: Global, name: &str, parts: &[FormPart<'_>]) -> Result<Item, Miss>
     ensures { Gives (λ i. i) result (item_by name.now parts.now) }
 {
     match name {
@@ -91,7 +91,7 @@ fn signature(alloc: Global, text: &[u8]) -> Result<Signature, Miss>
 }
 
 #[tactic(auto, unfolding(beam_model::specs::ListingForms::signatures_from))]
-fn signatures(alloc: Global, parts: &[Part<'_>]) -> Result<Vec<Signature>, Miss>
+fn signatures(alloc: Global, parts: &[FormPart<'_>]) -> Result<Vec<Signature>, Miss>
     ensures { Gives (λ v. v.items) result (signatures_from [] parts.now) }
 {
     let mut signatures = Vec::new(alloc);

@@ -8,7 +8,7 @@ ghost use Rattle.beam_listing.specs.Gives.{Gives};
 
 use crate::miss::Miss;
 use crate::operand::{label, operands};
-use crate::part::Part;
+use crate::part::FormPart;
 use crate::value::{atom, list_parts, only};
 use beam_genop::{by_name, by_number, kinds};
 use beam_model::instruction::{Argument, Instruction, Operand, Operands};
@@ -18,11 +18,11 @@ use beam_print::shape::shape_of;
 use std::alloc::{AllocError, Global};
 
 // The instruction of an opcode that is written in its shape.
-fn written(
+fn instruction_of_parts(
     alloc: Global,
     fits: bool,
     opcode: Opcode,
-    parts: &[Part<'_>],
+    parts: &[FormPart<'_>],
 ) -> Result<Instruction, Miss>
     ensures { Gives (λ i. i) result (instruction_of_parts fits opcode parts.now) }
 {
@@ -33,37 +33,37 @@ fn written(
     Ok(Instruction { opcode, operands })
 }
 
-fn is_plain(shape: Shape) -> bool
+fn is_plain_shape(shape: Shape) -> bool
     ensures { result ≡ is_plain_shape shape }
 {
     matches!(shape, Shape::Plain)
 }
 
-fn is_test(shape: Shape) -> bool
+fn is_test_shape(shape: Shape) -> bool
     ensures { result ≡ is_test_shape shape }
 {
     matches!(shape, Shape::Test)
 }
 
-fn is_bif0(shape: Shape) -> bool
+fn is_bif0_shape(shape: Shape) -> bool
     ensures { result ≡ is_bif0_shape shape }
 {
     matches!(shape, Shape::Bif0)
 }
 
-fn is_bif(shape: Shape) -> bool
+fn is_bif_shape(shape: Shape) -> bool
     ensures { result ≡ is_bif_shape shape }
 {
     matches!(shape, Shape::Bif)
 }
 
-fn is_gc_bif(shape: Shape) -> bool
+fn is_gc_bif_shape(shape: Shape) -> bool
     ensures { result ≡ is_gc_bif_shape shape }
 {
     matches!(shape, Shape::GcBif)
 }
 
-fn is_raise(shape: Shape) -> bool
+fn is_raise_shape(shape: Shape) -> bool
     ensures { result ≡ is_raise_shape shape }
 {
     matches!(shape, Shape::Raise)
@@ -76,11 +76,11 @@ fn is_end(opcode: Opcode) -> bool
 }
 
 // Appends these parts to others.
-fn append<'a>(parts: &mut Vec<Part<'a>>, more: &[Part<'a>]) -> Result<(), AllocError>
+fn append<'a>(parts: &mut Vec<FormPart<'a>>, more: &[FormPart<'a>]) -> Result<(), AllocError>
     ensures { OnOk result (parts.new.items ≡ parts.old.items ++ more.now) }
 {
     for part in more {
-        parts.push(Part::new(part.text()))?;
+        parts.push(FormPart::new(part.text()))?;
     }
     Ok(())
 }
@@ -88,10 +88,10 @@ fn append<'a>(parts: &mut Vec<Part<'a>>, more: &[Part<'a>]) -> Result<(), AllocE
 // The parts of three lists, one after another.
 fn joined<'a>(
     alloc: Global,
-    front: &[Part<'a>],
-    middle: &[Part<'a>],
-    back: &[Part<'a>],
-) -> Result<Vec<Part<'a>>, AllocError>
+    front: &[FormPart<'a>],
+    middle: &[FormPart<'a>],
+    back: &[FormPart<'a>],
+) -> Result<Vec<FormPart<'a>>, AllocError>
     ensures { IfOk result (λ v. v.items ≡ front.now ++ middle.now ++ back.now) }
 {
     let mut parts = Vec::new(alloc);
@@ -133,19 +133,19 @@ fn counted(first: u8, count: usize) -> Result<Opcode, Miss>
 
 /// The instruction of `{name,operands..}`, or of a name alone.
 #[tactic(auto, unfolding(beam_model::specs::ListingForms::plain_of))]
-pub fn plain(alloc: Global, name: &str, parts: &[Part<'_>]) -> Result<Instruction, Miss>
+pub fn plain(alloc: Global, name: &str, parts: &[FormPart<'_>]) -> Result<Instruction, Miss>
     ensures { Gives (λ i. i) result (plain_of name.now parts.now) }
 {
     let opcode = named(name)?;
     if is_end(opcode) {
         return Err(Miss::Unknown);
     }
-    written(alloc, is_plain(shape_of(opcode)), opcode, parts)
+    instruction_of_parts(alloc, is_plain_shape(shape_of(opcode)), opcode, parts)
 }
 
 // `{test,name,F,[arguments]}`
 #[tactic(auto, unfolding(beam_model::specs::ListingForms::test_of))]
-fn test(alloc: Global, parts: &[Part<'_>]) -> Result<Instruction, Miss>
+fn test(alloc: Global, parts: &[FormPart<'_>]) -> Result<Instruction, Miss>
     ensures { Gives (λ i. i) result (test_of parts.now) }
 {
     let [name, fail, arguments] = parts else {
@@ -154,17 +154,17 @@ fn test(alloc: Global, parts: &[Part<'_>]) -> Result<Instruction, Miss>
     let name = atom(alloc, name.text())?;
     let opcode = named(name.as_str())?;
     let arguments = list_parts(alloc, arguments.text())?;
-    let parts = joined(alloc, &[Part::new(fail.text())], &arguments, &[])?;
-    written(alloc, is_test(shape_of(opcode)), opcode, &parts)
+    let parts = joined(alloc, &[FormPart::new(fail.text())], &arguments, &[])?;
+    instruction_of_parts(alloc, is_test_shape(shape_of(opcode)), opcode, &parts)
 }
 
 // The instruction raise of these operands.
 #[tactic(auto, unfolding(beam_model::specs::ListingForms::raise_by))]
-fn raise_by(alloc: Global, parts: &[Part<'_>]) -> Result<Instruction, Miss>
+fn raise_by(alloc: Global, parts: &[FormPart<'_>]) -> Result<Instruction, Miss>
     ensures { Gives (λ i. i) result (raise_by parts.now) }
 {
     let opcode = numbered(108)?;
-    written(alloc, is_raise(shape_of(opcode)), opcode, parts)
+    instruction_of_parts(alloc, is_raise_shape(shape_of(opcode)), opcode, parts)
 }
 
 // `{raise,[operands]}`
@@ -183,8 +183,13 @@ fn bif0<'a>(alloc: Global, name: &'a [u8], fail: &[u8], dest: &'a [u8]) -> Resul
 {
     let label = label(alloc, fail)?;
     let opcode = numbered(9)?;
-    let fits = label == 0 && is_bif0(shape_of(opcode));
-    written(alloc, fits, opcode, &[Part::new(name), Part::new(dest)])
+    let fits = label == 0 && is_bif0_shape(shape_of(opcode));
+    instruction_of_parts(
+        alloc,
+        fits,
+        opcode,
+        &[FormPart::new(name), FormPart::new(dest)],
+    )
 }
 
 // `{bif,Name,F,[arguments],D}`
@@ -193,7 +198,7 @@ fn bif_by<'a>(
     alloc: Global,
     name: &'a [u8],
     fail: &'a [u8],
-    arguments: &[Part<'a>],
+    arguments: &[FormPart<'a>],
     dest: &'a [u8],
 ) -> Result<Instruction, Miss>
     ensures { Gives (λ i. i) result (bif_by name.now fail.now arguments.now dest.now) }
@@ -202,20 +207,20 @@ fn bif_by<'a>(
         return bif0(alloc, name, fail, dest);
     }
     let opcode = counted(9, arguments.len())?;
-    let front = [Part::new(fail), Part::new(name)];
-    let parts = joined(alloc, &front, arguments, &[Part::new(dest)])?;
-    written(alloc, is_bif(shape_of(opcode)), opcode, &parts)
+    let front = [FormPart::new(fail), FormPart::new(name)];
+    let parts = joined(alloc, &front, arguments, &[FormPart::new(dest)])?;
+    instruction_of_parts(alloc, is_bif_shape(shape_of(opcode)), opcode, &parts)
 }
 
 // Two arguments of the native raise.
-fn is_raise_call(name: &str, parts: &[Part<'_>]) -> bool
+fn is_raise_call(name: &str, parts: &[FormPart<'_>]) -> bool
     ensures { result ≡ is_raise_call name.now parts.now }
 {
     parts.len() == 2 && name == "raise"
 }
 
 #[tactic(auto, unfolding(beam_model::specs::ListingForms::bif_of))]
-fn bif(alloc: Global, parts: &[Part<'_>]) -> Result<Instruction, Miss>
+fn bif(alloc: Global, parts: &[FormPart<'_>]) -> Result<Instruction, Miss>
     ensures { Gives (λ i. i) result (bif_of parts.now) }
 {
     let [name, fail, arguments, dest] = parts else {
@@ -231,7 +236,7 @@ fn bif(alloc: Global, parts: &[Part<'_>]) -> Result<Instruction, Miss>
 
 // `{gc_bif,Name,F,Live,[arguments],D}`
 #[tactic(auto, unfolding(beam_model::specs::ListingForms::gc_bif_of))]
-fn gc_bif(alloc: Global, parts: &[Part<'_>]) -> Result<Instruction, Miss>
+fn gc_bif(alloc: Global, parts: &[FormPart<'_>]) -> Result<Instruction, Miss>
     ensures { Gives (λ i. i) result (gc_bif_of parts.now) }
 {
     let [name, fail, live, arguments, dest] = parts else {
@@ -240,12 +245,12 @@ fn gc_bif(alloc: Global, parts: &[Part<'_>]) -> Result<Instruction, Miss>
     let arguments = list_parts(alloc, arguments.text())?;
     let opcode = counted(123, arguments.len())?;
     let front = [
-        Part::new(fail.text()),
-        Part::new(live.text()),
-        Part::new(name.text()),
+        FormPart::new(fail.text()),
+        FormPart::new(live.text()),
+        FormPart::new(name.text()),
     ];
-    let parts = joined(alloc, &front, &arguments, &[Part::new(dest.text())])?;
-    written(alloc, is_gc_bif(shape_of(opcode)), opcode, &parts)
+    let parts = joined(alloc, &front, &arguments, &[FormPart::new(dest.text())])?;
+    instruction_of_parts(alloc, is_gc_bif_shape(shape_of(opcode)), opcode, &parts)
 }
 
 // `{line,_}`
@@ -262,7 +267,7 @@ fn line(alloc: Global) -> Result<Instruction, AllocError>
 
 /// The instruction of a form with this name and these parts after it.
 #[tactic(auto, unfolding(beam_model::specs::ListingForms::instruction_by))]
-pub fn instruction(alloc: Global, name: &str, parts: &[Part<'_>]) -> Result<Instruction, Miss>
+pub fn instruction(alloc: Global, name: &str, parts: &[FormPart<'_>]) -> Result<Instruction, Miss>
     ensures { Gives (λ i. i) result (instruction_by name.now parts.now) }
 {
     match name {

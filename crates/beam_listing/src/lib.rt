@@ -7,10 +7,10 @@ mod forms;
 mod heads;
 mod instruction;
 mod laws;
-mod loose;
 mod miss;
 mod operand;
 mod part;
+mod partial_terms;
 pub mod print;
 mod read;
 mod refusal;
@@ -25,4 +25,4 @@ pub use laws::{
 };
 pub use read::read_listing;
 pub use typed::listing_is_typed;
-pub use walk::{FormAt, Found, forms_of};
+pub use walk::{FormAt, FormKind, forms_of};

@@ -5,7 +5,7 @@ ghost use Rattle.beam_model.specs.ListingForms.{plain_register, typed_part, type
 ghost use Rattle.beam_listing.specs.Gives.{Gives};
 
 use crate::miss::Miss;
-use crate::part::Part;
+use crate::part::FormPart;
 use crate::value::{atom, headed, integer, list_parts, number, only, part, term, tuple_parts};
 use beam_model::function::Import;
 use beam_model::instruction::{Argument, Arguments, Operand, Operands};
@@ -14,7 +14,7 @@ use beam_term::{Atom, Term};
 use std::alloc::Global;
 
 #[tactic(auto, unfolding(beam_model::specs::ListingForms::plain_register))]
-fn plain_register(name: &str, parts: &[Part<'_>]) -> Result<Argument, Miss>
+fn plain_register(name: &str, parts: &[FormPart<'_>]) -> Result<Argument, Miss>
     ensures { Gives (λ a. a) result (plain_register name.now parts.now) }
 {
     let number = number(only(parts)?)?;
@@ -27,7 +27,7 @@ fn plain_register(name: &str, parts: &[Part<'_>]) -> Result<Argument, Miss>
 
 // The register of `{tr,R,_}`.
 #[tactic(auto, unfolding(beam_model::specs::ListingForms::typed_register, beam_model::specs::ListingForms::headed_of))]
-fn typed_register(alloc: Global, parts: &[Part<'_>]) -> Result<Argument, Miss>
+fn typed_register(alloc: Global, parts: &[FormPart<'_>]) -> Result<Argument, Miss>
     ensures { Gives (λ a. a) result (typed_register parts.now) }
 {
     let [register, _] = parts else {
@@ -39,7 +39,7 @@ fn typed_register(alloc: Global, parts: &[Part<'_>]) -> Result<Argument, Miss>
 }
 
 #[tactic(auto, unfolding(beam_model::specs::ListingForms::register_of_parts))]
-fn register_by(alloc: Global, name: &str, parts: &[Part<'_>]) -> Result<Argument, Miss>
+fn register_of_parts(alloc: Global, name: &str, parts: &[FormPart<'_>]) -> Result<Argument, Miss>
     ensures { Gives (λ a. a) result (register_of_parts name.now parts.now) }
 {
     if name == "tr" {
@@ -54,7 +54,7 @@ fn register(alloc: Global, text: &[u8]) -> Result<Argument, Miss>
 {
     let parts = tuple_parts(alloc, text)?;
     let (name, others) = headed(alloc, &parts)?;
-    register_by(alloc, name.as_str(), others)
+    register_of_parts(alloc, name.as_str(), others)
 }
 
 /// The label of `{f,N}`.
@@ -66,7 +66,7 @@ pub fn label(alloc: Global, text: &[u8]) -> Result<u32, Miss>
 }
 
 #[tactic(auto, unfolding(beam_model::specs::ListingForms::term_of_part))]
-fn term_by(alloc: Global, name: &str, part: &[u8]) -> Result<Term, Miss>
+fn term_of_part(alloc: Global, name: &str, part: &[u8]) -> Result<Term, Miss>
     ensures { Gives (λ t. t) result (term_of_part name.now part.now) }
 {
     match name {
@@ -78,10 +78,10 @@ fn term_by(alloc: Global, name: &str, part: &[u8]) -> Result<Term, Miss>
 }
 
 #[tactic(auto, unfolding(beam_model::specs::ListingForms::term_source))]
-fn term_source(alloc: Global, name: &str, parts: &[Part<'_>]) -> Result<Argument, Miss>
+fn term_source(alloc: Global, name: &str, parts: &[FormPart<'_>]) -> Result<Argument, Miss>
     ensures { Gives (λ a. a) result (term_source name.now parts.now) }
 {
-    Ok(Argument::Term(term_by(alloc, name, only(parts)?)?))
+    Ok(Argument::Term(term_of_part(alloc, name, only(parts)?)?))
 }
 
 fn is_register_name(name: &str) -> bool
@@ -90,11 +90,11 @@ fn is_register_name(name: &str) -> bool
     name == "x" || name == "y" || name == "tr"
 }
 
-fn source_by(alloc: Global, name: &str, parts: &[Part<'_>]) -> Result<Argument, Miss>
+fn source_of_parts(alloc: Global, name: &str, parts: &[FormPart<'_>]) -> Result<Argument, Miss>
     ensures { Gives (λ a. a) result (source_of_parts name.now parts.now) }
 {
     if is_register_name(name) {
-        return register_by(alloc, name, parts);
+        return register_of_parts(alloc, name, parts);
     }
     term_source(alloc, name, parts)
 }
@@ -119,7 +119,7 @@ fn source(alloc: Global, text: &[u8]) -> Result<Argument, Miss>
         [b'{', ..] => {
             let parts = tuple_parts(alloc, text)?;
             let (name, others) = headed(alloc, &parts)?;
-            source_by(alloc, name.as_str(), others)
+            source_of_parts(alloc, name.as_str(), others)
         }
         _ => nil_source(alloc, text),
     }
@@ -127,13 +127,13 @@ fn source(alloc: Global, text: &[u8]) -> Result<Argument, Miss>
 
 // A member of a list operand, in braces.
 #[tactic(auto, unfolding(beam_model::specs::ListingForms::member_of_parts))]
-fn member_by(alloc: Global, name: &str, parts: &[Part<'_>]) -> Result<Argument, Miss>
+fn member_of_parts(alloc: Global, name: &str, parts: &[FormPart<'_>]) -> Result<Argument, Miss>
     ensures { Gives (λ a. a) result (member_of_parts name.now parts.now) }
 {
     if name == "f" {
         return Ok(Argument::Label(number(only(parts)?)?));
     }
-    source_by(alloc, name, parts)
+    source_of_parts(alloc, name, parts)
 }
 
 fn plain_number(text: &[u8]) -> Result<Argument, Miss>
@@ -151,7 +151,7 @@ fn member(alloc: Global, text: &[u8]) -> Result<Argument, Miss>
         [b'{', ..] => {
             let parts = tuple_parts(alloc, text)?;
             let (name, others) = headed(alloc, &parts)?;
-            member_by(alloc, name.as_str(), others)
+            member_of_parts(alloc, name.as_str(), others)
         }
         [b'0'..=b'9', ..] => plain_number(text),
         _ => nil_source(alloc, text),
@@ -159,7 +159,7 @@ fn member(alloc: Global, text: &[u8]) -> Result<Argument, Miss>
 }
 
 #[tactic(auto, unfolding(beam_model::specs::ListingForms::members_from))]
-fn members(alloc: Global, parts: &[Part<'_>]) -> Result<Arguments, Miss>
+fn members(alloc: Global, parts: &[FormPart<'_>]) -> Result<Arguments, Miss>
     ensures { Gives (λ v. v) result (members_from [] parts.now) }
 {
     let mut items = Vec::new(alloc);
@@ -178,7 +178,7 @@ fn list(alloc: Global, text: &[u8]) -> Result<Arguments, Miss>
     members(alloc, &parts)
 }
 
-fn import_by(alloc: Global, name: &str, parts: &[Part<'_>]) -> Result<Import, Miss>
+fn import_of_parts(alloc: Global, name: &str, parts: &[FormPart<'_>]) -> Result<Import, Miss>
     ensures { Gives (λ i. i) result (import_of_parts name.now parts.now) }
 {
     let [module, function, arity] = parts else {
@@ -204,7 +204,7 @@ fn import(alloc: Global, text: &[u8]) -> Result<Import, Miss>
 {
     let parts = tuple_parts(alloc, text)?;
     let (name, others) = headed(alloc, &parts)?;
-    import_by(alloc, name.as_str(), others)
+    import_of_parts(alloc, name.as_str(), others)
 }
 
 // The module of the natives.
@@ -265,7 +265,7 @@ fn operand(alloc: Global, kind: Kind, text: &[u8]) -> Result<Operand, Miss>
 
 /// The operands that the texts are under these kinds, each of which is for one of them.
 #[tactic(auto, unfolding(beam_model::specs::ListingForms::operands_from))]
-pub fn operands(alloc: Global, kinds: &[Kind], parts: &[Part<'_>]) -> Result<Operands, Miss>
+pub fn operands(alloc: Global, kinds: &[Kind], parts: &[FormPart<'_>]) -> Result<Operands, Miss>
     ensures { Gives (λ v. v) result (operands_from [] kinds.now parts.now) }
 {
     let mut items = Vec::new(alloc);

@@ -4,11 +4,11 @@ use std::marker::Model;
 
 /// A part of a form, as text.
 #[derive(Debug, Drop)]
-pub struct Part<'a> {
+pub struct FormPart<'a> {
     text: &'a [u8],
 }
 
-impl<'a> Model for Part<'a> {
+impl<'a> Model for FormPart<'a> {
     ghost use Rattle.std.specs.Prelude.{ℕ, List};
 
     ghost Value = { List ℕ };
@@ -16,13 +16,13 @@ impl<'a> Model for Part<'a> {
     ghost view = { λ p. p.text.now };
 }
 
-impl<'a> Part<'a> {
+impl<'a> FormPart<'a> {
     ghost use Rattle.std.specs.Prelude.{◌≡◌};
 
-    pub fn new(text: &'a [u8]) -> Part<'a>
+    pub fn new(text: &'a [u8]) -> FormPart<'a>
         ensures { result ≡ text.now }
     {
-        Part { text }
+        FormPart { text }
     }
 
     pub fn text(&self) -> &'a [u8]

@@ -11,9 +11,9 @@ use crate::entries::with_labels;
 use crate::error::ListingError;
 use crate::forms::{stop, uncommented};
 use crate::heads::{attributes, exports, item, labels, module};
-use crate::loose::is_loose;
 use crate::miss::Miss;
-use crate::refusal::Refusal;
+use crate::partial_terms::is_partial_term;
+use crate::refusal::FormRefusal;
 use beam_erltext::read::line_at;
 use beam_erltext::token::skip_blanks;
 use beam_model::function::{Function, Signature};
@@ -25,49 +25,49 @@ use std::alloc::Global;
 
 /// The functions and instructions that were read.
 #[derive(Drop)]
-pub struct Body {
+pub struct ListingBody {
     functions: Vec<Function>,
     instructions: Vec<Instruction>,
 }
 
 // The form at the front of a text, and the text after its full stop.
 #[tactic(auto, unfolding(beam_model::specs::ListingReading::listing_form_at))]
-fn form(alloc: Global, text: &[u8]) -> Result<(&[u8], &[u8]), Refusal>
+fn form(alloc: Global, text: &[u8]) -> Result<(&[u8], &[u8]), FormRefusal>
     ensures { Reads (λ x. (x.0.now, x.1.now)) result (listing_form_at text.now) }
 {
     let size = match stop(alloc, b'.', text) {
         Ok(size) => size,
-        Err(Miss::Unknown) => return Err(Refusal::Syntax(text.len())),
-        Err(Miss::NoMemory) => return Err(Refusal::NoMemory),
+        Err(Miss::Unknown) => return Err(FormRefusal::Syntax(text.len())),
+        Err(Miss::NoMemory) => return Err(FormRefusal::NoMemory),
     };
-    let (form, behind) = text.split_at(size);
-    match behind {
+    let (form, after) = text.split_at(size);
+    match after {
         [b'.', rest @ ..] => Ok((form, skip_blanks(rest))),
-        _ => Err(Refusal::Syntax(text.len())),
+        _ => Err(FormRefusal::Syntax(text.len())),
     }
 }
 
 // The refusal of a form at the front of a text, where the form isn't the one that is looked for.
-fn refusal(alloc: Global, text: &[u8], form: &[u8], miss: Miss) -> Refusal
+fn refusal(alloc: Global, text: &[u8], form: &[u8], miss: Miss) -> FormRefusal
     ensures unknown { miss ≡ Miss.Unknown → Names result (fault_of text.now form.now) }
-    ensures memory { miss ≡ Miss.NoMemory → result ≡ Refusal.NoMemory }
+    ensures memory { miss ≡ Miss.NoMemory → result ≡ FormRefusal.NoMemory }
 {
     if matches!(miss, Miss::NoMemory) {
-        return Refusal::NoMemory;
+        return FormRefusal::NoMemory;
     }
-    match is_loose(alloc, 4, form) {
-        Ok(true) => Refusal::Unknown(text.len()),
-        Ok(false) => Refusal::Syntax(text.len()),
-        Err(_) => Refusal::NoMemory,
+    match is_partial_term(alloc, 4, form) {
+        Ok(true) => FormRefusal::Unknown(text.len()),
+        Ok(false) => FormRefusal::Syntax(text.len()),
+        Err(_) => FormRefusal::NoMemory,
     }
 }
 
 #[tactic(auto, unfolding(beam_model::specs::ListingReading::next_form))]
-fn module_head(alloc: Global, text: &[u8]) -> Result<(Atom, &[u8]), Refusal>
+fn module_head(alloc: Global, text: &[u8]) -> Result<(Atom, &[u8]), FormRefusal>
     ensures { Reads (λ x. (x.0, x.1.now)) result (next_form module_of text.now) }
 {
     let Some(_) = text.first() else {
-        return Err(Refusal::Unknown(0));
+        return Err(FormRefusal::Unknown(0));
     };
     let (form, rest) = form(alloc, text)?;
     match module(alloc, form) {
@@ -77,11 +77,11 @@ fn module_head(alloc: Global, text: &[u8]) -> Result<(Atom, &[u8]), Refusal>
 }
 
 #[tactic(auto, unfolding(beam_model::specs::ListingReading::next_form))]
-fn exports_head(alloc: Global, text: &[u8]) -> Result<(Vec<Signature>, &[u8]), Refusal>
+fn exports_head(alloc: Global, text: &[u8]) -> Result<(Vec<Signature>, &[u8]), FormRefusal>
     ensures { Reads (λ x. (x.0.items, x.1.now)) result (next_form exports_of text.now) }
 {
     let Some(_) = text.first() else {
-        return Err(Refusal::Unknown(0));
+        return Err(FormRefusal::Unknown(0));
     };
     let (form, rest) = form(alloc, text)?;
     match exports(alloc, form) {
@@ -91,11 +91,11 @@ fn exports_head(alloc: Global, text: &[u8]) -> Result<(Vec<Signature>, &[u8]), R
 }
 
 #[tactic(auto, unfolding(beam_model::specs::ListingReading::next_form))]
-fn attributes_head(alloc: Global, text: &[u8]) -> Result<(&[u8], &[u8]), Refusal>
+fn attributes_head(alloc: Global, text: &[u8]) -> Result<(&[u8], &[u8]), FormRefusal>
     ensures { Reads (λ x. (x.0.now, x.1.now)) result (next_form attributes_of text.now) }
 {
     let Some(_) = text.first() else {
-        return Err(Refusal::Unknown(0));
+        return Err(FormRefusal::Unknown(0));
     };
     let (form, rest) = form(alloc, text)?;
     match attributes(alloc, form) {
@@ -105,11 +105,11 @@ fn attributes_head(alloc: Global, text: &[u8]) -> Result<(&[u8], &[u8]), Refusal
 }
 
 #[tactic(auto, unfolding(beam_model::specs::ListingReading::next_form))]
-fn labels_head(alloc: Global, text: &[u8]) -> Result<(u32, &[u8]), Refusal>
+fn labels_head(alloc: Global, text: &[u8]) -> Result<(u32, &[u8]), FormRefusal>
     ensures { Reads (λ x. (x.0, x.1.now)) result (next_form labels_of text.now) }
 {
     let Some(_) = text.first() else {
-        return Err(Refusal::Unknown(0));
+        return Err(FormRefusal::Unknown(0));
     };
     let (form, rest) = form(alloc, text)?;
     match labels(alloc, form) {
@@ -119,11 +119,11 @@ fn labels_head(alloc: Global, text: &[u8]) -> Result<(u32, &[u8]), Refusal>
 }
 
 #[tactic(auto, unfolding(beam_model::specs::ListingReading::next_form))]
-fn next_item(alloc: Global, text: &[u8]) -> Result<(Item, &[u8]), Refusal>
+fn next_item(alloc: Global, text: &[u8]) -> Result<(Item, &[u8]), FormRefusal>
     ensures { Reads (λ x. (x.0, x.1.now)) result (next_form item_of text.now) }
 {
     let Some(_) = text.first() else {
-        return Err(Refusal::Unknown(0));
+        return Err(FormRefusal::Unknown(0));
     };
     let (form, rest) = form(alloc, text)?;
     match item(alloc, form) {
@@ -133,7 +133,7 @@ fn next_item(alloc: Global, text: &[u8]) -> Result<(Item, &[u8]), Refusal>
 }
 
 // A body with one form more; at the form's beginning `left` bytes of the text are left.
-fn with_item(left: usize, body: Body, item: Item) -> Result<Body, Refusal>
+fn with_item(left: usize, body: ListingBody, item: Item) -> Result<ListingBody, FormRefusal>
     ensures { Reads body_of result (with_item left (body_of body) item) }
 {
     let mut body = body;
@@ -144,7 +144,7 @@ fn with_item(left: usize, body: Body, item: Item) -> Result<Body, Refusal>
         }
         Item::Instruction(instruction) => {
             if body.functions.is_empty() {
-                return Err(Refusal::Unknown(left));
+                return Err(FormRefusal::Unknown(left));
             }
             body.instructions.push(instruction)?;
             Ok(body)
@@ -155,10 +155,10 @@ fn with_item(left: usize, body: Body, item: Item) -> Result<Body, Refusal>
 
 // The functions and their instructions, up to the end of the text.
 #[tactic(auto, using(crate::proofs::Fuel::body_from_is, crate::proofs::Fuel::body_from_none))]
-fn functions(alloc: Global, text: &[u8]) -> Result<Body, Refusal>
+fn functions(alloc: Global, text: &[u8]) -> Result<ListingBody, FormRefusal>
     ensures { Reads body_of result (body_from (length text.now) no_body text.now) }
 {
-    let mut body = Body {
+    let mut body = ListingBody {
         functions: Vec::new(alloc),
         instructions: Vec::new(alloc),
     };
@@ -167,36 +167,36 @@ fn functions(alloc: Global, text: &[u8]) -> Result<Body, Refusal>
         if rest.is_empty() {
             return Ok(body);
         }
-        let (item, behind) = next_item(alloc, rest)?;
+        let (item, after) = next_item(alloc, rest)?;
         body = with_item(rest.len(), body, item)?;
-        rest = behind;
+        rest = after;
     }
     if rest.is_empty() {
         return Ok(body);
     }
-    Err(Refusal::Syntax(rest.len()))
+    Err(FormRefusal::Syntax(rest.len()))
 }
 
 // The number of functions. NoMemory above 4,294,967,295, which would fill any memory.
-fn count(functions: &[Function]) -> Result<u32, Refusal>
+fn count(functions: &[Function]) -> Result<u32, FormRefusal>
     ensures ok { IfOk result (λ n. n ≡ length functions.now) }
-    ensures memory { IfErr result (λ e. e ≡ Refusal.NoMemory) }
+    ensures memory { IfErr result (λ e. e ≡ FormRefusal.NoMemory) }
 {
     match u32::try_from(functions.len()) {
         Ok(count) => Ok(count),
-        Err(_) => Err(Refusal::NoMemory),
+        Err(_) => Err(FormRefusal::NoMemory),
     }
 }
 
 #[tactic(auto, unfolding(beam_model::specs::ListingReading::listing_at))]
-fn listing(alloc: Global, text: &[u8]) -> Result<Listing, Refusal>
+fn listing(alloc: Global, text: &[u8]) -> Result<Listing, FormRefusal>
     ensures { Reads (λ l. l) result (listing_at text.now) }
 {
-    let (module, behind_module) = module_head(alloc, text)?;
-    let (signatures, behind_exports) = exports_head(alloc, behind_module)?;
-    let (_, behind_attributes) = attributes_head(alloc, behind_exports)?;
-    let (label_count, rest) = labels_head(alloc, behind_attributes)?;
-    let Body {
+    let (module, after_module) = module_head(alloc, text)?;
+    let (signatures, after_exports) = exports_head(alloc, after_module)?;
+    let (_, after_attributes) = attributes_head(alloc, after_exports)?;
+    let (label_count, rest) = labels_head(alloc, after_attributes)?;
+    let ListingBody {
         functions,
         instructions,
     } = functions(alloc, rest)?;
@@ -218,9 +218,9 @@ fn read_forms(alloc: Global, text: &[u8]) -> Result<Listing, ListingError>
 {
     match listing(alloc, skip_blanks(text)) {
         Ok(listing) => Ok(listing),
-        Err(Refusal::Syntax(left)) => Err(ListingError::Syntax(line_at(text, left))),
-        Err(Refusal::Unknown(left)) => Err(ListingError::UnknownForm(line_at(text, left))),
-        Err(Refusal::NoMemory) => Err(ListingError::NoMemory),
+        Err(FormRefusal::Syntax(left)) => Err(ListingError::Syntax(line_at(text, left))),
+        Err(FormRefusal::Unknown(left)) => Err(ListingError::UnknownForm(line_at(text, left))),
+        Err(FormRefusal::NoMemory) => Err(ListingError::NoMemory),
     }
 }
 

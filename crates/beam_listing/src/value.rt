@@ -8,8 +8,8 @@ ghost use Rattle.beam_listing.specs.Gives.{Gives};
 
 use crate::forms::elements;
 use crate::miss::Miss;
-use crate::part::Part;
-use beam_erltext::Fault;
+use crate::part::FormPart;
+use beam_erltext::ReadFault;
 use beam_erltext::read::{MAX_DEPTH, read_term};
 use beam_erltext::token::{read_atom, read_integer};
 use beam_term::{Atom, Term};
@@ -23,8 +23,8 @@ pub fn integer(text: &[u8]) -> Result<i64, Miss>
 {
     match read_integer(text) {
         Ok((value, [])) => Ok(value),
-        Ok(_) | Err(Fault::At(_)) => Err(Miss::Unknown),
-        Err(Fault::NoMemory) => Err(Miss::NoMemory),
+        Ok(_) | Err(ReadFault::At(_)) => Err(Miss::Unknown),
+        Err(ReadFault::NoMemory) => Err(Miss::NoMemory),
     }
 }
 
@@ -47,8 +47,8 @@ pub fn atom(alloc: Global, text: &[u8]) -> Result<Atom, Miss>
 {
     match read_atom(alloc, text) {
         Ok((name, [])) => Ok(name),
-        Ok(_) | Err(Fault::At(_)) => Err(Miss::Unknown),
-        Err(Fault::NoMemory) => Err(Miss::NoMemory),
+        Ok(_) | Err(ReadFault::At(_)) => Err(Miss::Unknown),
+        Err(ReadFault::NoMemory) => Err(Miss::NoMemory),
     }
 }
 
@@ -59,27 +59,30 @@ pub fn term(alloc: Global, text: &[u8]) -> Result<Term, Miss>
 {
     match read_term(alloc, MAX_DEPTH, text) {
         Ok((term, [])) => Ok(term),
-        Ok(_) | Err(Fault::At(_)) => Err(Miss::Unknown),
-        Err(Fault::NoMemory) => Err(Miss::NoMemory),
+        Ok(_) | Err(ReadFault::At(_)) => Err(Miss::Unknown),
+        Err(ReadFault::NoMemory) => Err(Miss::NoMemory),
     }
 }
 
 /// The parts of `{..}`.
-pub fn tuple_parts(alloc: Global, text: &[u8]) -> Result<Vec<Part<'_>>, Miss>
+pub fn tuple_parts(alloc: Global, text: &[u8]) -> Result<Vec<FormPart<'_>>, Miss>
     ensures { Gives (λ v. v.items) result (tuple_parts text.now) }
 {
     elements(alloc, b'{', b'}', text)
 }
 
 /// The elements of `[..]`.
-pub fn list_parts(alloc: Global, text: &[u8]) -> Result<Vec<Part<'_>>, Miss>
+pub fn list_parts(alloc: Global, text: &[u8]) -> Result<Vec<FormPart<'_>>, Miss>
     ensures { Gives (λ v. v.items) result (list_parts text.now) }
 {
     elements(alloc, b'[', b']', text)
 }
 
 /// The name in front, and the parts after it.
-pub fn headed<'p, 'a>(alloc: Global, parts: &'p [Part<'a>]) -> Result<(Atom, &'p [Part<'a>]), Miss>
+pub fn headed<'p, 'a>(
+    alloc: Global,
+    parts: &'p [FormPart<'a>],
+) -> Result<(Atom, &'p [FormPart<'a>]), Miss>
     ensures { Gives (λ x. (x.0, x.1.now)) result (headed_by parts.now) }
 {
     match parts {
@@ -89,7 +92,7 @@ pub fn headed<'p, 'a>(alloc: Global, parts: &'p [Part<'a>]) -> Result<(Atom, &'p
 }
 
 /// The one part.
-pub fn only<'a>(parts: &[Part<'a>]) -> Result<&'a [u8], Miss>
+pub fn only<'a>(parts: &[FormPart<'a>]) -> Result<&'a [u8], Miss>
     ensures { Gives (λ part. part.now) result (only parts.now) }
 {
     match parts {

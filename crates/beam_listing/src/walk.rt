@@ -2,15 +2,15 @@
 
 use crate::forms::{stop, uncommented};
 use crate::heads::{attributes, exports, item, labels, module};
-use crate::loose::is_loose;
 use crate::miss::Miss;
+use crate::partial_terms::is_partial_term;
 use beam_erltext::token::skip_blanks;
 use beam_model::item::Item;
 use std::alloc::{AllocError, Global};
 
 /// The kind of a form.
 #[derive(Clone, Copy, Debug, PartialEq, Eq)]
-pub enum Found {
+pub enum FormKind {
     /// A head, a function or a remark.
     Other,
     /// An instruction of a function.
@@ -25,12 +25,12 @@ pub enum Found {
 #[derive(Clone, Copy, Debug, PartialEq, Eq)]
 pub struct FormAt {
     pub line: usize,
-    pub found: Found,
+    pub kind: FormKind,
 }
 
 // The state of a walk: the rest of the text, its line, and which forms were passed.
 #[derive(Drop)]
-struct Walk<'a> {
+struct FormWalk<'a> {
     rest: &'a [u8],
     line: usize,
     heads: u8,
@@ -38,7 +38,7 @@ struct Walk<'a> {
 }
 
 // The text after the next full stop that ends a line.
-fn behind_line(text: &[u8]) -> &[u8] {
+fn after_full_stop(text: &[u8]) -> &[u8] {
     for at in 1..text.len() {
         if text[at - 1] == b'.' && text[at] == b'\n' {
             return &text[at..];
@@ -58,13 +58,13 @@ fn newlines(text: &[u8]) -> usize {
 }
 
 // The kind of a form that isn't the expected one.
-fn missed(alloc: Global, form: &[u8], miss: Miss) -> Result<Found, AllocError> {
+fn fault_kind(alloc: Global, form: &[u8], miss: Miss) -> Result<FormKind, AllocError> {
     if matches!(miss, Miss::NoMemory) {
         return Err(AllocError);
     }
-    match is_loose(alloc, 4, form) {
-        Ok(true) => Ok(Found::Unknown),
-        Ok(false) => Ok(Found::Syntax),
+    match is_partial_term(alloc, 4, form) {
+        Ok(true) => Ok(FormKind::Unknown),
+        Ok(false) => Ok(FormKind::Syntax),
         Err(_) => Err(AllocError),
     }
 }
@@ -87,7 +87,7 @@ fn head(alloc: Global, heads: u8, form: &[u8]) -> Result<(), Miss> {
     Ok(())
 }
 
-impl<'a> Walk<'a> {
+impl<'a> FormWalk<'a> {
     // Passes the text before the rest.
     fn pass(&mut self, rest: &'a [u8]) {
         let size = self.rest.len().saturating_sub(rest.len());
@@ -96,38 +96,38 @@ impl<'a> Walk<'a> {
         self.rest = rest;
     }
 
-    fn found(&mut self, alloc: Global, form: &[u8]) -> Result<Found, AllocError> {
+    fn kind(&mut self, alloc: Global, form: &[u8]) -> Result<FormKind, AllocError> {
         if self.heads < 4 {
             let read = head(alloc, self.heads, form);
             self.heads = self.heads.saturating_add(1);
             return match read {
-                Ok(()) => Ok(Found::Other),
-                Err(miss) => missed(alloc, form, miss),
+                Ok(()) => Ok(FormKind::Other),
+                Err(miss) => fault_kind(alloc, form, miss),
             };
         }
         match item(alloc, form) {
             Ok(Item::Function(_)) => {
                 self.in_function = true;
-                Ok(Found::Other)
+                Ok(FormKind::Other)
             }
-            Ok(Item::Instruction(_)) if self.in_function => Ok(Found::Instruction),
-            Ok(Item::Instruction(_)) => Ok(Found::Unknown),
-            Ok(Item::Remark) => Ok(Found::Other),
-            Err(miss) => missed(alloc, form, miss),
+            Ok(Item::Instruction(_)) if self.in_function => Ok(FormKind::Instruction),
+            Ok(Item::Instruction(_)) => Ok(FormKind::Unknown),
+            Ok(Item::Remark) => Ok(FormKind::Other),
+            Err(miss) => fault_kind(alloc, form, miss),
         }
     }
 
     // The kind of the form at the front of a text, and the text after it.
-    fn next(&mut self, alloc: Global, text: &'a [u8]) -> Result<(Found, &'a [u8]), AllocError> {
+    fn next(&mut self, alloc: Global, text: &'a [u8]) -> Result<(FormKind, &'a [u8]), AllocError> {
         match stop(alloc, b'.', text) {
             Ok(size) => {
-                let (form, behind) = text.split_at(size);
-                match behind {
-                    [b'.', rest @ ..] => Ok((self.found(alloc, form)?, rest)),
-                    _ => Ok((Found::Syntax, behind_line(text))),
+                let (form, after) = text.split_at(size);
+                match after {
+                    [b'.', rest @ ..] => Ok((self.kind(alloc, form)?, rest)),
+                    _ => Ok((FormKind::Syntax, after_full_stop(text))),
                 }
             }
-            Err(Miss::Unknown) => Ok((Found::Syntax, behind_line(text))),
+            Err(Miss::Unknown) => Ok((FormKind::Syntax, after_full_stop(text))),
             Err(Miss::NoMemory) => Err(AllocError),
         }
     }
@@ -135,9 +135,9 @@ impl<'a> Walk<'a> {
     // Passes the next form, and answers it with its line.
     fn step(&mut self, alloc: Global) -> Result<FormAt, AllocError> {
         let line = self.line;
-        let (found, rest) = self.next(alloc, self.rest)?;
+        let (kind, rest) = self.next(alloc, self.rest)?;
         self.pass(skip_blanks(rest));
-        Ok(FormAt { line, found })
+        Ok(FormAt { line, kind })
     }
 }
 
@@ -145,7 +145,7 @@ impl<'a> Walk<'a> {
 /// that ends a line. Where heads are missing at the text's end, an unknown form stands there.
 pub fn forms_of(alloc: Global, text: &str) -> Result<Vec<FormAt>, AllocError> {
     let shown = uncommented(alloc, text.as_bytes())?;
-    let mut walk = Walk {
+    let mut walk = FormWalk {
         rest: &shown,
         line: 1,
         heads: 0,
@@ -162,7 +162,7 @@ pub fn forms_of(alloc: Global, text: &str) -> Result<Vec<FormAt>, AllocError> {
     if walk.heads < 4 {
         forms.push(FormAt {
             line: walk.line,
-            found: Found::Unknown,
+            kind: FormKind::Unknown,
         })?;
     }
     Ok(forms)

@@ -23,8 +23,8 @@ use Rattle.beam_machine.specs.declared.debug.Spot.{Spot}
 use Rattle.beam_machine.specs.declared.debug.Version.{Version}
 use Rattle.beam_machine.specs.declared.debug.Version.TheVariants.{Current, Old}
 use Rattle.beam_machine.specs.declared.event.Event.TheVariants as event
-use Rattle.beam_machine.specs.declared.event.Mode.{Mode}
-use Rattle.beam_machine.specs.declared.event.Mode.TheVariants.{Strict, Soft, Hard}
+use Rattle.beam_machine.specs.declared.event.UpgradeMode.{UpgradeMode}
+use Rattle.beam_machine.specs.declared.event.UpgradeMode.TheVariants.{Strict, Soft, Hard}
 use Rattle.beam_machine.specs.declared.event.Numbers.{Numbers}
 use Rattle.beam_machine.specs.declared.event.Reply.TheVariants as reply
 use Rattle.beam_machine.specs.declared.event.Then.{Then}
@@ -62,7 +62,7 @@ spot_number (negsuc n) = 2 ^ 32 - 1
 abbrev pub spot_at : Version → List ℕ → ℤ → ℤ → Spot
 spot_at version name label rows = record { version = version; «module» = name; label = spot_number label; rows = spot_number rows }
 
-abbrev pub mode_number : Mode → ℕ
+abbrev pub mode_number : UpgradeMode → ℕ
 mode_number Strict = 0
 mode_number Soft = 1
 mode_number Hard = 2
@@ -106,7 +106,7 @@ pub data SpellsCommand : ℕ → List ℕ → Command → Type 0 where
   inspect : (field : List ℕ) (pid : ℕ) → IsNumber 4 field pid → SpellsCommand 16 field (Inspect pid)
   versions : (name : List ℕ) → IsAtomText name → SpellsCommand 17 name (Node (event.Versions name))
   -- a mode, how many files, and these
-  atomic_load : (mode : Mode) (count body : List ℕ) (files : List (List ℕ)) → IsNumber 4 count (length files) → AreFiles body files
+  atomic_load : (mode : UpgradeMode) (count body : List ℕ) (files : List (List ℕ)) → IsNumber 4 count (length files) → AreFiles body files
       → SpellsCommand 18 (mode_number mode ∷ (count ++ body)) (Node (event.AtomicLoad mode files))
 
 -- ---- reading a body
@@ -180,7 +180,7 @@ spot_of fields = None
 abbrev pub steps_in : List ℕ → Option Command
 steps_in body = option_and_then (λ pid. option_map (λ rows. Node (event.Steps pid rows)) (number_in_body 4 (drop 4 body))) (number_in_body 4 (take 4 body))
 
-abbrev pub mode_of : ℕ → Option Mode
+abbrev pub mode_of : ℕ → Option UpgradeMode
 mode_of n = if n == 0 then Some Strict else (if n == 1 then Some Soft else (if n == 2 then Some Hard else None))
 
 -- reads a number in four bytes at the front, and then the bytes after it, by a reader that knows the number

@@ -5,8 +5,8 @@ use Rattle.beam_term.specs.TermValue.{TermValue, atom_term, nil_term, tuple_of}
 use Rattle.beam_machine.specs.declared.callee.After.{After}
 use Rattle.beam_machine.specs.declared.event.Event.{Event}
 use Rattle.beam_machine.specs.declared.event.Event.TheVariants as event
-use Rattle.beam_machine.specs.declared.event.Mode.{Mode}
-use Rattle.beam_machine.specs.declared.event.Mode.TheVariants.{Strict, Soft, Hard}
+use Rattle.beam_machine.specs.declared.event.UpgradeMode.{UpgradeMode}
+use Rattle.beam_machine.specs.declared.event.UpgradeMode.TheVariants.{Strict, Soft, Hard}
 use Rattle.beam_machine.specs.declared.event.Numbers.{Numbers}
 use Rattle.beam_machine.specs.declared.event.Reply.{Reply}
 use Rattle.beam_machine.specs.declared.event.Reply.TheVariants.{Done, Changed, Versions, Upgraded, Started, Ran}
@@ -261,7 +261,7 @@ are_apart [] = true
 are_apart (l ∷ rest) = not (list_any (λ other. same_text l.name other.name) rest) && are_apart rest
 
 -- whether a module's old code stands in the way of its upgrade
-abbrev pub stands_in_way : Mode → State → List ℕ → Bool
+abbrev pub stands_in_way : UpgradeMode → State → List ℕ → Bool
 stands_in_way Strict s name = is_some (old_of s.code name)
 stands_in_way Soft s name = is_lingered_in s name
 stands_in_way Hard s name = false
@@ -282,7 +282,7 @@ abbrev pub upgraded : State → List Listing → Next
 upgraded s ls = replied s (Upgraded (map (numbers_of s.code) ls))
 
 -- an upgrade list: the processes that linger in removed code end, and then all are loaded in their order; or nothing changes
-abbrev pub next_atomic : State → Mode → List Listing → Next
+abbrev pub next_atomic : State → UpgradeMode → List Listing → Next
 next_atomic s mode ls =
     if list_any (λ l. is_erlang l.name) ls then refused s Sticky
     else if not (are_apart ls) then refused s Duplicated

@@ -50,7 +50,7 @@ impl SpawnArguments {
 
 /// How an upgrade list treats old code of its modules.
 #[derive(Clone, Copy, Debug, PartialEq, Eq)]
-pub enum Mode {
+pub enum UpgradeMode {
     /// The list is refused where a module has old code.
     Strict,
     /// Old code is removed; the list is refused where a process lingers in it.
@@ -103,7 +103,7 @@ pub enum Event<I> {
     LoadStrict(I),
     /// The modules of images are loaded together, in their order: all of them, or none.
     AtomicLoad {
-        mode: Mode,
+        mode: UpgradeMode,
         images: Images<I>,
     },
     /// A module's current code becomes old.

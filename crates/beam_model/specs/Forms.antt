@@ -1,8 +1,8 @@
 -- A text of forms, each ended by a full stop: its comments, its forms, and the elements of what stands in brackets, all
 -- of them texts (Erlang Reference Manual, Modules; the compiler's .S files).
 use Rattle.std.specs.Prelude.{ℕ, zero, suc, ◌+◌, Bool, true, false, List, [], ◌∷◌, ◌++◌, length, take, drop, ◌==◌, ◌&&◌, ◌||◌, Option, Some, None, if◌then◌else◌}
-use Rattle.beam_model.specs.declared.inside.Inside.{Inside}
-use Rattle.beam_model.specs.declared.inside.Inside.TheVariants as inside
+use Rattle.beam_model.specs.declared.lex_state.LexState.{LexState}
+use Rattle.beam_model.specs.declared.lex_state.LexState.TheVariants as inside
 use Rattle.beam_model.specs.TextReading.{after_blanks}
 
 infixl 10 ◌>>=◌
@@ -14,22 +14,22 @@ None >>= f = None
 -- ---- quotes and comments
 
 -- what the byte after this one stands in
-abbrev pub inside_after : Inside → ℕ → Inside
+abbrev pub inside_after : LexState → ℕ → LexState
 inside_after inside.Nothing c = if c == 37 then inside.Comment else if c == 34 || c == 39 then inside.Quotes c else inside.Nothing
 inside_after (inside.Quotes quote) c = if c == quote then inside.Nothing else if c == 92 then inside.Escape quote else inside.Quotes quote
 inside_after (inside.Escape quote) c = inside.Quotes quote
 inside_after inside.Comment c = if c == 10 then inside.Nothing else inside.Comment
 
-abbrev pub is_comment : Inside → Bool
+abbrev pub is_comment : LexState → Bool
 is_comment inside.Comment = true
 is_comment _ = false
 
-abbrev pub is_outside : Inside → Bool
+abbrev pub is_outside : LexState → Bool
 is_outside inside.Nothing = true
 is_outside _ = false
 
 -- blanks in the place of comments, up to their line ends
-unfoldable pub uncommented_from : Inside → List ℕ → List ℕ
+unfoldable pub uncommented_from : LexState → List ℕ → List ℕ
 uncommented_from stands [] = []
 uncommented_from stands (c ∷ cs) = (if is_comment (inside_after stands c) then 32 else c) ∷ uncommented_from (inside_after stands c) cs
 
@@ -47,7 +47,7 @@ closed c (o ∷ outer) = if c == o then Some outer else None
 
 -- The brackets that are open after a byte, each by its closing bracket, the innermost first; none where the byte closes a bracket
 -- that isn't the innermost open one.
-abbrev pub open_after : Inside → ℕ → List ℕ → Option (List ℕ)
+abbrev pub open_after : LexState → ℕ → List ℕ → Option (List ℕ)
 open_after inside.Nothing c brackets =
     if c == 40 then Some (41 ∷ brackets)
     else if c == 91 then Some (93 ∷ brackets)
@@ -57,11 +57,11 @@ open_after inside.Nothing c brackets =
 open_after _ c brackets = Some brackets
 
 -- whether a mark, or a bracket that closes none of the text's own, stands outside of quotes and brackets
-abbrev pub is_stop : ℕ → Inside → List ℕ → ℕ → Bool
+abbrev pub is_stop : ℕ → LexState → List ℕ → ℕ → Bool
 is_stop mark stands brackets c = is_outside stands && (length brackets == 0 && (c == mark || is_closing c))
 
 -- n more than the number of bytes before the first stop
-unfoldable pub stop_from : ℕ → Inside → List ℕ → ℕ → List ℕ → Option ℕ
+unfoldable pub stop_from : ℕ → LexState → List ℕ → ℕ → List ℕ → Option ℕ
 stop_from mark stands brackets n [] = None
 stop_from mark stands brackets n (c ∷ cs) =
     if is_stop mark stands brackets c then Some n

@@ -44,12 +44,12 @@ parsed_parts name parts = parts
 
 -- a tuple with a name in front, whose parts are loose
 abbrev pub is_partial_tuple : (List ℕ → Bool) → Option (List ℕ × List (List ℕ)) → Bool
-is_partial_tuple loose None = false
-is_partial_tuple loose (Some h) = if same_text h.0 (codes "literal") then list_all is_term h.1 else list_all loose (parsed_parts h.0 h.1)
+is_partial_tuple is_part None = false
+is_partial_tuple is_part (Some h) = if same_text h.0 (codes "literal") then list_all is_term h.1 else list_all is_part (parsed_parts h.0 h.1)
 
 abbrev pub is_partial_list : (List ℕ → Bool) → Option (List (List ℕ)) → Bool
-is_partial_list loose None = false
-is_partial_list loose (Some parts) = list_all loose parts
+is_partial_list is_part None = false
+is_partial_list is_part (Some parts) = list_all is_part parts
 
 -- whether a text is that of a term, but for the free parts in its first n levels of brackets
 unfoldable pub is_partial_term : ℕ → List ℕ → Bool

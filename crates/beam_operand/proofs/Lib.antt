@@ -4,9 +4,9 @@ pub mod Reading
 pub mod Writing
 pub mod Fronts
 pub mod Fields
-pub mod Again
+pub mod RoundTrip
 pub mod Shortest
 pub mod Small
-pub mod Spelled
-pub mod Told
-pub mod Same
+pub mod ReadingComplete
+pub mod ReadingSound
+pub mod SpellingLaws

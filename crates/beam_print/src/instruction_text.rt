@@ -7,8 +7,8 @@ ghost use Rattle.beam_model.specs.Text.{atom_text};
 
 use crate::blocks::write_block;
 use crate::operand_text::{print_call, print_operand, print_operands, write_members};
+use crate::print_error::PrintError;
 use crate::shape::shape_of;
-use crate::write_error::WriteError;
 use beam_erltext::{TextError, print_atom};
 use beam_genop::name;
 use beam_model::function::Import;
@@ -172,7 +172,7 @@ fn write_listed<W: Write>(
     members: &[Argument],
     waiting: &mut Vec<u8>,
     out: &mut W,
-) -> Result<(), WriteError>
+) -> Result<(), PrintError>
     ensures written { OnOk result (IsWrittenUpTo (W.contents out.old) (W.contents out.new)
         (waiting.old.items ++ plain_text (atom_text name.now) (operands.now ++ Operand.List members.now ∷ [])) waiting.new.items) }
     ensures begun { OnErr result (IsBegun (W.contents out.old) (W.contents out.new)
@@ -191,7 +191,7 @@ pub fn write_instruction<W: Write>(
     instruction: &Instruction,
     waiting: &mut Vec<u8>,
     out: &mut W,
-) -> Result<(), WriteError>
+) -> Result<(), PrintError>
     ensures written { OnOk result (IsWrittenUpTo (W.contents out.old) (W.contents out.new)
         (waiting.old.items ++ instruction_text instruction.now) waiting.new.items) }
     ensures begun { OnErr result (IsBegun (W.contents out.old) (W.contents out.new)

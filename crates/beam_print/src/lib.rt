@@ -6,8 +6,8 @@ mod instruction_text;
 mod listing_text;
 mod operand_text;
 pub mod print;
+mod print_error;
 pub mod shape;
 pub mod write;
-mod write_error;
 
-pub use write_error::WriteError;
+pub use print_error::PrintError;

@@ -9,7 +9,7 @@ ghost use Rattle.beam_print.specs.Begun.{IsBegun, IsWrittenUpTo};
 use crate::blocks::write_block;
 use crate::instruction_text::write_instruction;
 use crate::operand_text::{print_number, print_tagged};
-use crate::write_error::WriteError;
+use crate::print_error::PrintError;
 use beam_erltext::{TextError, print_atom};
 use beam_model::function::Export;
 use beam_model::instruction::{Argument, Instruction, Operand};
@@ -38,7 +38,7 @@ fn number_in(operand: &Operand) -> Option<u32>
     }
 }
 
-fn behind_lines(instructions: &[Instruction]) -> &[Instruction]
+fn after_leading_lines(instructions: &[Instruction]) -> &[Instruction]
     ensures { result.now ≡ after_leading_lines instructions.now }
 {
     let mut rest = instructions;
@@ -51,7 +51,7 @@ fn behind_lines(instructions: &[Instruction]) -> &[Instruction]
     rest
 }
 
-fn entry_in(instructions: &[Instruction]) -> u32
+fn front_label_or_zero(instructions: &[Instruction]) -> u32
     ensures { result ≡ front_label_or_zero instructions.now }
 {
     match instructions {
@@ -91,7 +91,7 @@ fn print_head(instructions: &[Instruction], out: &mut Vec<u8>) -> Result<(), Tex
 {
     match instructions {
         [first, rest @ ..] if matches!(first.opcode, Opcode::FuncInfo) => {
-            print_informed(first.operands.as_slice(), entry_in(rest), out)
+            print_informed(first.operands.as_slice(), front_label_or_zero(rest), out)
         }
         _ => Ok(()),
     }
@@ -105,7 +105,7 @@ fn print_before(
     ensures { OnOk result (out.new.items ≡ out.old.items ++ before_text first.now rest.now) }
 {
     match first.label() {
-        Some(_) => print_head(behind_lines(rest), out),
+        Some(_) => print_head(after_leading_lines(rest), out),
         None => Ok(()),
     }
 }
@@ -118,7 +118,7 @@ fn write_line<W: Write>(
     rest: &[Instruction],
     waiting: &mut Vec<u8>,
     out: &mut W,
-) -> Result<(), WriteError>
+) -> Result<(), PrintError>
     ensures written { OnOk result (IsWrittenUpTo (W.contents out.old) (W.contents out.new)
         (waiting.old.items ++ (before_text first.now rest.now ++ instruction_text first.now ++ stop)) waiting.new.items) }
     ensures begun { OnErr result (IsBegun (W.contents out.old) (W.contents out.new)
@@ -134,7 +134,7 @@ fn write_instructions<W: Write>(
     instructions: &[Instruction],
     waiting: &mut Vec<u8>,
     out: &mut W,
-) -> Result<(), WriteError>
+) -> Result<(), PrintError>
     ensures written { OnOk result (IsWrittenUpTo (W.contents out.old) (W.contents out.new)
         (waiting.old.items ++ instructions_text instructions.now) waiting.new.items) }
     ensures begun { OnErr result (IsBegun (W.contents out.old) (W.contents out.new)
@@ -165,7 +165,7 @@ fn write_export<W: Write>(
     export: &Export,
     waiting: &mut Vec<u8>,
     out: &mut W,
-) -> Result<(), WriteError>
+) -> Result<(), PrintError>
     ensures written { OnOk result (IsWrittenUpTo (W.contents out.old) (W.contents out.new)
         (waiting.old.items ++ (separator.now ++ export_text export.now)) waiting.new.items) }
     ensures begun { OnErr result (IsBegun (W.contents out.old) (W.contents out.new)
@@ -180,7 +180,7 @@ fn write_exports<W: Write>(
     exports: &[Export],
     waiting: &mut Vec<u8>,
     out: &mut W,
-) -> Result<(), WriteError>
+) -> Result<(), PrintError>
     ensures written { OnOk result (IsWrittenUpTo (W.contents out.old) (W.contents out.new)
         (waiting.old.items ++ exports_text [] exports.now) waiting.new.items) }
     ensures begun { OnErr result (IsBegun (W.contents out.old) (W.contents out.new)
@@ -207,7 +207,7 @@ fn write_exports_line<W: Write>(
     exports: &[Export],
     waiting: &mut Vec<u8>,
     out: &mut W,
-) -> Result<(), WriteError>
+) -> Result<(), PrintError>
     ensures written { OnOk result (IsWrittenUpTo (W.contents out.old) (W.contents out.new)
         (waiting.old.items ++ exports_line exports.now) waiting.new.items) }
     ensures begun { OnErr result (IsBegun (W.contents out.old) (W.contents out.new)
@@ -234,7 +234,7 @@ pub fn write_forms<W: Write>(
     listing: &Listing,
     waiting: &mut Vec<u8>,
     out: &mut W,
-) -> Result<(), WriteError>
+) -> Result<(), PrintError>
     ensures written { OnOk result (IsWrittenUpTo (W.contents out.old) (W.contents out.new)
         (waiting.old.items ++ listing_text listing.now) waiting.new.items) }
     ensures begun { OnErr result (IsBegun (W.contents out.old) (W.contents out.new)

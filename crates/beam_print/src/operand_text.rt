@@ -6,7 +6,7 @@ ghost use Rattle.beam_print.specs.Begun.{IsBegun, IsWrittenUpTo};
 ghost use Rattle.beam_model.specs.ListingText.{argument_text, arguments_text, call_text, import_text, list_text, operand_text, operands_text, tagged, term_text};
 
 use crate::blocks::write_block;
-use crate::write_error::WriteError;
+use crate::print_error::PrintError;
 use beam_erltext::{TextError, print_atom, print_erl};
 use beam_model::function::Import;
 use beam_model::instruction::{Argument, Operand};
@@ -86,7 +86,7 @@ fn write_member<W: Write>(
     member: &Argument,
     waiting: &mut Vec<u8>,
     out: &mut W,
-) -> Result<(), WriteError>
+) -> Result<(), PrintError>
     ensures written { OnOk result (IsWrittenUpTo (W.contents out.old) (W.contents out.new)
         (waiting.old.items ++ (separator.now ++ argument_text member.now)) waiting.new.items) }
     ensures begun { OnErr result (IsBegun (W.contents out.old) (W.contents out.new)
@@ -101,7 +101,7 @@ pub fn write_members<W: Write>(
     members: &[Argument],
     waiting: &mut Vec<u8>,
     out: &mut W,
-) -> Result<(), WriteError>
+) -> Result<(), PrintError>
     ensures written { OnOk result (IsWrittenUpTo (W.contents out.old) (W.contents out.new)
         (waiting.old.items ++ arguments_text [] members.now) waiting.new.items) }
     ensures begun { OnErr result (IsBegun (W.contents out.old) (W.contents out.new)

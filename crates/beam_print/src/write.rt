@@ -7,7 +7,7 @@ ghost use Rattle.beam_print.specs.Begun.{IsBegun};
 
 pub use crate::blocks::write_text;
 use crate::listing_text::write_forms;
-use crate::write_error::WriteError;
+use crate::print_error::PrintError;
 use beam_model::listing::Listing;
 use std::alloc::Global;
 use std::io::Write;
@@ -21,7 +21,7 @@ pub fn write_listing<W: Write>(
     alloc: Global,
     listing: &Listing,
     out: &mut W,
-) -> Result<(), WriteError>
+) -> Result<(), PrintError>
     ensures written { OnOk result (Appends (W.contents out.old) (W.contents out.new) (listing_text listing.now)) }
     ensures begun { OnErr result (IsBegun (W.contents out.old) (W.contents out.new) (listing_text listing.now)) }
 {

@@ -10,4 +10,4 @@ pub mod Puts
 pub mod References
 pub mod Several
 pub mod Tags
-pub mod Undone
+pub mod UndoneSteps

@@ -6,8 +6,8 @@ use Rattle.beam_machine.specs.declared.process.Status.{Status}
 use Rattle.beam_machine.specs.declared.process.Status.TheVariants.{Ended}
 use Rattle.beam_machine.specs.Process.{Process}
 use Rattle.beam_model.specs.Mailbox.{empty_mailbox}
-use Rattle.beam_proc.specs.declared.entry.Kept.{Kept}
-use Rattle.beam_proc.specs.declared.entry.Kept.TheVariants as kept
+use Rattle.beam_proc.specs.declared.entry.EntryState.{EntryState}
+use Rattle.beam_proc.specs.declared.entry.EntryState.TheVariants as state
 
 -- a process that has only its pid and its status
 abbrev pub bare : ℕ → Status → Process
@@ -25,9 +25,9 @@ bare pid status = record {
   monitors = [];
 }
 
-abbrev pub process_in : Kept → Process
-process_in (kept.Living p) = p.value
-process_in (kept.Ended pid reason value) = bare pid (Ended reason value)
+abbrev pub process_in : EntryState → Process
+process_in (state.Living p) = p.value
+process_in (state.Ended pid reason value) = bare pid (Ended reason value)
 
 -- the reason and the value of an end
 abbrev pub end_of : Status → Option (TermValue × TermValue)

@@ -5,7 +5,7 @@ pub mod Entry
 pub mod Frames
 pub mod Known
 pub mod Pairs
-pub mod Prepared
+pub mod Continuation
 pub mod References
-pub mod Told
+pub mod Downs
 pub mod Undoing

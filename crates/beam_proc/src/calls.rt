@@ -132,7 +132,7 @@ impl Process {
     }
 
     /// Puts the value of a called native into x0 and goes on or returns, or raises its exception.
-    pub fn answer(
+    pub fn return_value(
         &mut self,
         after: After,
         value: Result<Term, Exception>,

@@ -21,21 +21,21 @@ use std::alloc::{AllocError, Global};
 
 /// The values of x0, x1 and x2 for an exception: its class, its value and its raw trace.
 #[derive(Drop)]
-struct Told {
+struct ExceptionTerms {
     class: Term,
     value: Term,
     trace: Term,
 }
 
-impl Told {
+impl ExceptionTerms {
     /// The values for this exception.
-    fn of(alloc: Global, exception: &Exception) -> Result<Told, AllocError>
+    fn of(alloc: Global, exception: &Exception) -> Result<ExceptionTerms, AllocError>
         ensures class { IfOk result (λ t. t.class ≡ class_term (class_of exception.now)) }
         ensures value { IfOk result (λ t. t.value ≡ value_of exception.now) }
         ensures trace { IfOk result (λ t. t.trace ≡ trace_of (class_of exception.now)) }
     {
         let class = class_of(exception);
-        Ok(Told {
+        Ok(ExceptionTerms {
             class: class_term(alloc, class)?,
             value: value_of(alloc, exception)?,
             trace: trace_of(alloc, class)?,
@@ -46,15 +46,19 @@ impl Told {
 impl Process {
     /// Puts `[]` into a register, and then the values of an exception into x0, x1 and x2. False where there is no such register; then,
     /// and where memory is refused, nothing changes.
-    fn put_told(&mut self, dest: Register, told: Told) -> Result<bool, AllocError>
-        ensures { Puts self.old (option_map (λ q. put_x (put_x (put_x q 0 told.class) 1 told.value) 2 told.trace) (put self.old dest nil_term))
+    fn put_exception_terms(
+        &mut self,
+        dest: Register,
+        terms: ExceptionTerms,
+    ) -> Result<bool, AllocError>
+        ensures { Puts self.old (option_map (λ q. put_x (put_x (put_x q 0 terms.class) 1 terms.value) 2 terms.trace) (put self.old dest nil_term))
             result self.new }
     {
-        let Told {
+        let ExceptionTerms {
             class,
             value,
             trace,
-        } = told;
+        } = terms;
         if !self.has(dest) {
             return Ok(false);
         }
@@ -116,8 +120,8 @@ impl Process {
         let Some(exception) = &self.pending else {
             return self.store(next, dest, Term::nil());
         };
-        let told = caught(self.alloc, exception)?;
-        if self.put_two(dest, Term::nil(), Register::X(0), told)? {
+        let terms = caught(self.alloc, exception)?;
+        if self.put_two(dest, Term::nil(), Register::X(0), terms)? {
             self.pending = None;
             Ok(self.go_on(next))
         } else {
@@ -141,8 +145,8 @@ impl Process {
         let Some(exception) = &self.pending else {
             return self.illegal();
         };
-        let told = Told::of(self.alloc, exception)?;
-        if self.put_told(dest, told)? {
+        let terms = ExceptionTerms::of(self.alloc, exception)?;
+        if self.put_exception_terms(dest, terms)? {
             self.pending = None;
             Ok(self.go_on(next))
         } else {

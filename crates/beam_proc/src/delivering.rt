@@ -196,7 +196,7 @@ impl Process {
     }
 
     /// Takes in the signals in transit, none of which ends the process. Where memory is refused nothing changes.
-    #[tactic(auto, using(crate::proofs::Deliveries::plain, crate::proofs::Deliveries::kept))]
+    #[tactic(auto, using(crate::proofs::Deliveries::without_downs, crate::proofs::Deliveries::monitors_stay))]
     pub(crate) fn take_in(&mut self) -> Result<(), AllocError>
         requires { is_ended self.old.status ≡ false }
         ensures ok { OnOk result (self.new ≡ received_all (record self.old { transit = [] }) None self.old.transit) }

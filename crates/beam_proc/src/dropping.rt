@@ -120,7 +120,7 @@ impl Process {
     }
 
     /// Drops `count` y registers, puts the value of a called native into x0 and returns, or raises its exception.
-    pub fn drop_and_answer(
+    pub fn drop_and_return_value(
         &mut self,
         count: u32,
         value: Result<Term, Exception>,

@@ -7,7 +7,7 @@ ghost use Rattle.beam_machine.specs.Change.{lingers};
 ghost use Rattle.beam_machine.specs.Process.{is_running, is_waiting, is_ended};
 ghost use Rattle.beam_machine.specs.State.{monitors_process};
 ghost use Rattle.beam_proc.specs.Entry.{bare, end_of};
-ghost use Rattle.beam_proc.specs.Told.{told};
+ghost use Rattle.beam_proc.specs.Downs.{downs_to};
 
 use crate::private::Sent;
 use crate::process::Process;
@@ -20,17 +20,17 @@ use std::mem;
 
 /// An entry of the process table. Contracts see the process. An ended process holds only the memory of its reason and its value.
 pub struct ProcessEntry {
-    pub(crate) kept: Kept,
+    pub(crate) state: EntryState,
 }
 
 impl Drop for ProcessEntry {
     fn drop(self) {
-        let ProcessEntry { kept: _kept } = self;
+        let ProcessEntry { state: _state } = self;
     }
 }
 
 #[derive(Drop)]
-pub(crate) enum Kept {
+pub(crate) enum EntryState {
     Living(Box<Process>),
     Ended { pid: u32, reason: Term, value: Term },
 }
@@ -45,7 +45,7 @@ impl Model for ProcessEntry {
 
     ghost coded = { Prim.hlevel (codes, term_code) };
 
-    ghost view = { λ e. process_in e.kept };
+    ghost view = { λ e. process_in e.state };
 }
 
 impl Process {
@@ -92,7 +92,7 @@ impl ProcessEntry {
         ensures { IfOk result (λ entry. entry ≡ process) }
     {
         Ok(ProcessEntry {
-            kept: Kept::Living(Box::new(alloc, process)?),
+            state: EntryState::Living(Box::new(alloc, process)?),
         })
     }
 
@@ -100,11 +100,11 @@ impl ProcessEntry {
     fn settle(&mut self)
         ensures { self.new ≡ self.old }
     {
-        if let Kept::Living(process) = &mut self.kept
+        if let EntryState::Living(process) = &mut self.state
             && let Some((reason, value)) = process.take_end()
         {
             let pid = process.pid();
-            self.kept = Kept::Ended { pid, reason, value };
+            self.state = EntryState::Ended { pid, reason, value };
         }
     }
 
@@ -114,9 +114,9 @@ impl ProcessEntry {
         requires callable { FnOnceTakesAtMut F.FnOnce change self.old }
         ensures { FnOnceReturnsAtMut F.FnOnce change self.old result self.new }
     {
-        let result = match &mut self.kept {
-            Kept::Living(process) => change(process),
-            Kept::Ended { .. } => unreachable!(),
+        let result = match &mut self.state {
+            EntryState::Living(process) => change(process),
+            EntryState::Ended { .. } => unreachable!(),
         };
         self.settle();
         result
@@ -126,8 +126,8 @@ impl ProcessEntry {
     pub fn living(&self) -> Option<&Process>
         ensures { option_copied result ≡ (if is_ended self.now.status then None else Some self.now) }
     {
-        match &self.kept {
-            Kept::Living(process) if !process.is_ended() => Some(process),
+        match &self.state {
+            EntryState::Living(process) if !process.is_ended() => Some(process),
             _ => None,
         }
     }
@@ -136,12 +136,12 @@ impl ProcessEntry {
     pub fn end(&self) -> Option<(&Term, &Term)>
         ensures { option_map (λ end. (end.0.now, end.1.now)) result ≡ end_of self.now.status }
     {
-        match &self.kept {
-            Kept::Living(process) => match process.status() {
+        match &self.state {
+            EntryState::Living(process) => match process.status() {
                 Status::Ended { reason, value } => Some((reason, value)),
                 Status::Running | Status::Waiting => None,
             },
-            Kept::Ended { reason, value, .. } => Some((reason, value)),
+            EntryState::Ended { reason, value, .. } => Some((reason, value)),
         }
     }
 
@@ -149,9 +149,9 @@ impl ProcessEntry {
     pub fn pid(&self) -> u32
         ensures { result ≡ self.now.pid }
     {
-        match &self.kept {
-            Kept::Living(process) => process.pid(),
-            Kept::Ended { pid, .. } => *pid,
+        match &self.state {
+            EntryState::Living(process) => process.pid(),
+            EntryState::Ended { pid, .. } => *pid,
         }
     }
 
@@ -159,9 +159,9 @@ impl ProcessEntry {
     pub fn name(&self) -> Option<&Atom>
         ensures { option_copied result ≡ self.now.name }
     {
-        match &self.kept {
-            Kept::Living(process) => process.name(),
-            Kept::Ended { .. } => None,
+        match &self.state {
+            EntryState::Living(process) => process.name(),
+            EntryState::Ended { .. } => None,
         }
     }
 
@@ -169,9 +169,9 @@ impl ProcessEntry {
     pub fn is_running(&self) -> bool
         ensures { result ≡ is_running self.now.status }
     {
-        match &self.kept {
-            Kept::Living(process) => process.is_running(),
-            Kept::Ended { .. } => false,
+        match &self.state {
+            EntryState::Living(process) => process.is_running(),
+            EntryState::Ended { .. } => false,
         }
     }
 
@@ -179,9 +179,9 @@ impl ProcessEntry {
     pub fn is_waiting(&self) -> bool
         ensures { result ≡ is_waiting self.now.status }
     {
-        match &self.kept {
-            Kept::Living(process) => process.is_waiting(),
-            Kept::Ended { .. } => false,
+        match &self.state {
+            EntryState::Living(process) => process.is_waiting(),
+            EntryState::Ended { .. } => false,
         }
     }
 
@@ -189,9 +189,9 @@ impl ProcessEntry {
     pub fn is_ended(&self) -> bool
         ensures { result ≡ is_ended self.now.status }
     {
-        match &self.kept {
-            Kept::Living(process) => process.is_ended(),
-            Kept::Ended { .. } => true,
+        match &self.state {
+            EntryState::Living(process) => process.is_ended(),
+            EntryState::Ended { .. } => true,
         }
     }
 
@@ -199,9 +199,9 @@ impl ProcessEntry {
     pub fn deadline(&self) -> Option<Deadline>
         ensures { result ≡ self.now.deadline }
     {
-        match &self.kept {
-            Kept::Living(process) => process.deadline(),
-            Kept::Ended { .. } => None,
+        match &self.state {
+            EntryState::Living(process) => process.deadline(),
+            EntryState::Ended { .. } => None,
         }
     }
 
@@ -209,9 +209,9 @@ impl ProcessEntry {
     pub fn has_transit(&self) -> bool
         ensures { result ≡ not (length self.now.transit == 0) }
     {
-        match &self.kept {
-            Kept::Living(process) => process.has_transit(),
-            Kept::Ended { .. } => false,
+        match &self.state {
+            EntryState::Living(process) => process.has_transit(),
+            EntryState::Ended { .. } => false,
         }
     }
 
@@ -219,9 +219,9 @@ impl ProcessEntry {
     pub fn lingers(&self, number: u32) -> bool
         ensures { result ≡ lingers number self.now }
     {
-        match &self.kept {
-            Kept::Living(process) => process.lingers(number),
-            Kept::Ended { .. } => false,
+        match &self.state {
+            EntryState::Living(process) => process.lingers(number),
+            EntryState::Ended { .. } => false,
         }
     }
 
@@ -229,31 +229,31 @@ impl ProcessEntry {
     pub fn lingers_in_any(&self, numbers: &IndexSet<u32>) -> bool
         ensures { result ≡ list_any (λ n. lingers n self.now) numbers.now.keys }
     {
-        match &self.kept {
-            Kept::Living(process) => process.lingers_in_any(numbers),
-            Kept::Ended { .. } => false,
+        match &self.state {
+            EntryState::Living(process) => process.lingers_in_any(numbers),
+            EntryState::Ended { .. } => false,
         }
     }
 
     /// Whether it monitors the process of a number. It takes no memory.
-    pub fn watches(&self, number: u32) -> bool
+    pub fn monitors_process(&self, number: u32) -> bool
         ensures { result ≡ list_any (monitors_process number) self.now.monitors }
     {
-        match &self.kept {
-            Kept::Living(process) => process.watches(number),
-            Kept::Ended { .. } => false,
+        match &self.state {
+            EntryState::Living(process) => process.monitors_process(number),
+            EntryState::Ended { .. } => false,
         }
     }
 
     /// Adds a DOWN for each of its monitors of the process of a number, which ends, in the order of the references. Memory is refused only
     /// where it has such a monitor.
     pub fn downs(&self, number: u32, reason: &Term, sent: &mut Vec<Sent>) -> Result<(), AllocError>
-        ensures ok { OnOk result (sent.new.items ≡ sent.old.items ++ told number reason.now self.now) }
+        ensures ok { OnOk result (sent.new.items ≡ sent.old.items ++ downs_to number reason.now self.now) }
         ensures quiet { list_any (monitors_process number) self.now.monitors ≡ false → OnErr result ⊥ }
     {
-        match &self.kept {
-            Kept::Living(process) => process.downs(number, reason, sent),
-            Kept::Ended { .. } => Ok(()),
+        match &self.state {
+            EntryState::Living(process) => process.downs(number, reason, sent),
+            EntryState::Ended { .. } => Ok(()),
         }
     }
 }

@@ -4,7 +4,6 @@
 //! end, and changes nothing either.
 #![tactic(auto)]
 
-pub mod answering;
 mod applying;
 mod calls;
 mod catching;
@@ -13,7 +12,6 @@ mod delivering;
 mod dropping;
 mod ending;
 pub mod entry;
-mod given;
 mod going;
 pub mod known;
 mod lingering;
@@ -27,7 +25,9 @@ mod raise;
 pub mod raised;
 mod reading;
 mod registers;
+pub mod returning;
 mod signals;
 mod stack;
+mod taking_over;
 mod terms;
 pub mod undoing;

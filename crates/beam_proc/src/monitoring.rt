@@ -5,9 +5,9 @@ ghost use Rattle.beam_term.specs.TermValue.{reference_term};
 ghost use Rattle.beam_machine.specs.declared.process.Signal.TheVariants.{Down};
 ghost use Rattle.beam_machine.specs.Row.{demonitored, flushed_if};
 ghost use Rattle.beam_machine.specs.State.{monitors_process};
-ghost use Rattle.beam_watches.specs.Kept.{AreBelow};
+ghost use Rattle.beam_watches.specs.MonitorEntries.{AreBelow};
 ghost use Rattle.beam_proc.specs.References.{number_of_words, reference_number};
-ghost use Rattle.beam_proc.specs.Told.{told};
+ghost use Rattle.beam_proc.specs.Downs.{downs_to};
 
 use crate::private::Sent;
 use crate::process::Process;
@@ -90,16 +90,16 @@ impl Process {
     }
 
     /// Whether it monitors the process of a number. It takes no memory.
-    pub fn watches(&self, number: u32) -> bool
+    pub fn monitors_process(&self, number: u32) -> bool
         ensures { result ≡ list_any (monitors_process number) self.now.monitors }
     {
-        self.monitors.watches(number)
+        self.monitors.monitors_process(number)
     }
 
     /// Adds a DOWN for each of its monitors of the process of a number, which ends, in the order of the references. Memory is refused only
     /// where it has such a monitor.
     pub fn downs(&self, number: u32, reason: &Term, sent: &mut Vec<Sent>) -> Result<(), AllocError>
-        ensures ok { OnOk result (sent.new.items ≡ sent.old.items ++ told number reason.now self.now) }
+        ensures ok { OnOk result (sent.new.items ≡ sent.old.items ++ downs_to number reason.now self.now) }
         ensures quiet { list_any (monitors_process number) self.now.monitors ≡ false → OnErr result ⊥ }
     {
         for (reference, pid) in self.monitors.iter() {

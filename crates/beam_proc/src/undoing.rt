@@ -47,7 +47,7 @@ fn restore_first(x: &mut Vec<Term>, held: Option<Term>)
 
 impl Process {
     /// Puts a value into x0, and goes on. Where memory is refused nothing changes.
-    #[tactic(auto, using(crate::proofs::Undone::first_back))]
+    #[tactic(auto, using(crate::proofs::UndoneSteps::first_back))]
     pub fn step_with(&mut self, next: Place, value: Term) -> Result<Stepped, AllocError>
         requires { self.old.status ≡ Status.Running }
         ensures ok { IfOk result (λ s. (self.new ≡ goes_on (put_x self.old 0 value) next) × (stepped_back self.new s ≡ self.old)) }

@@ -1,8 +1,8 @@
-pub mod Backs
-pub mod Hiring
-pub mod Homes
+pub mod ReturningStealers
+pub mod AddingStealers
+pub mod Draining
 pub mod Moves
 pub mod Named
-pub mod Robbing
-pub mod Serving
+pub mod Stealing
+pub mod AllStealersAdded
 pub mod Sums

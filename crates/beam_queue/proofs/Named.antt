@@ -4,7 +4,7 @@ use Rattle.std.proofs.lemmas.List.{map-append, length-map, length_push}
 use Rattle.std.proofs.lemmas.List.FromFn.{length-range_with_len, map-range_with_len_more}
 use Rattle.std.specs.List.{range_with_len}
 use Rattle.std.specs.Prelude.{slice_get}
-use Rattle.beam_queue.specs.Lanes.{Lane, new_lane}
+use Rattle.beam_queue.specs.RunQueues.{RunQueue, new_run_queue}
 
 at_end : {X : Type 0} (xs rest : List X) (x : X) → slice_get (xs ++ x ∷ rest) (length xs) ≡ Some x
 at_end [] rest x = refl
@@ -16,13 +16,13 @@ named_at f xs ys vs x all n is names at =
     ∙ (ap (λ k. slice_get (map f xs ++ (f x ∷ map f ys)) k) (at ∙ sym (length-map xs f)) ∙ at_end (map f xs) (map f ys) (f x))
 
 -- one lane more
-pub one_lane : {X : Type 0} (lanes new : List Lane) (before : List X) (x : X) (lane : Lane) (n : ℕ) → lanes ≡ map new_lane (range_with_len 0 (length before)) → n ≡ length before
-    → lane ≡ new_lane n → new ≡ lanes ++ lane ∷ [] → new ≡ map new_lane (range_with_len 0 (length (before ++ x ∷ [])))
-one_lane lanes new before x lane n old at is grown =
-    let more : map new_lane (range_with_len 0 (length before + 1)) ≡ map new_lane (range_with_len 0 (length before)) ++ new_lane (length before) ∷ [] =
-    map-range_with_len_more new_lane 0 (length before) (length before) (omega arith) in
-    grown ∙ (ap (λ (ls : List Lane). ls ++ lane ∷ []) old ∙ (ap (λ (l : Lane). map new_lane (range_with_len 0 (length before)) ++ l ∷ []) (is ∙ ap new_lane at)
-    ∙ (sym more ∙ ap (λ k. map new_lane (range_with_len 0 k)) (sym (length_push before x)))))
+pub one_run_queue : {X : Type 0} (run_queues new : List RunQueue) (before : List X) (x : X) (run_queue : RunQueue) (n : ℕ) → run_queues ≡ map new_run_queue (range_with_len 0 (length before)) → n ≡ length before
+    → run_queue ≡ new_run_queue n → new ≡ run_queues ++ run_queue ∷ [] → new ≡ map new_run_queue (range_with_len 0 (length (before ++ x ∷ [])))
+one_run_queue run_queues new before x run_queue n old at is grown =
+    let more : map new_run_queue (range_with_len 0 (length before + 1)) ≡ map new_run_queue (range_with_len 0 (length before)) ++ new_run_queue (length before) ∷ [] =
+    map-range_with_len_more new_run_queue 0 (length before) (length before) (omega arith) in
+    grown ∙ (ap (λ (ls : List RunQueue). ls ++ run_queue ∷ []) old ∙ (ap (λ (l : RunQueue). map new_run_queue (range_with_len 0 (length before)) ++ l ∷ []) (is ∙ ap new_run_queue at)
+    ∙ (sym more ∙ ap (λ k. map new_run_queue (range_with_len 0 k)) (sym (length_push before x)))))
 
-pub so_many : {X : Type 0} (lanes : List Lane) (before : List X) → lanes ≡ map new_lane (range_with_len 0 (length before)) → length lanes ≡ length before
-so_many lanes before is = ap length is ∙ (length-map (range_with_len 0 (length before)) new_lane ∙ length-range_with_len 0 (length before))
+pub equal_lengths : {X : Type 0} (run_queues : List RunQueue) (before : List X) → run_queues ≡ map new_run_queue (range_with_len 0 (length before)) → length run_queues ≡ length before
+equal_lengths run_queues before is = ap length is ∙ (length-map (range_with_len 0 (length before)) new_run_queue ∙ length-range_with_len 0 (length before))

@@ -1,5 +1,5 @@
 pub mod Closing
 pub mod Counting
-pub mod Lanes
+pub mod RunQueues
 pub mod Making
 pub mod Rule

@@ -1,13 +1,13 @@
 //! The queues are closed.
 ghost use Rattle.std.specs.Prelude.{◌≡◌, ◌+◌, ◌<◌, ◌↔◌, ℕ, true, length, get_or, IfOk, IfSome, IfNone, IsErrOf};
-ghost use Rattle.beam_queue.specs.Closing.{held, lent, AreHome, Gives, Keeps};
+ghost use Rattle.beam_queue.specs.Closing.{stealer_count, lent, HaveNoStealers, RemovesStealer, KeepsCounts};
 ghost use Rattle.beam_queue.specs.Counting.{total, times};
-ghost use Rattle.beam_queue.specs.Lanes.{announced_by, taken_by, lent_of, AllBack};
+ghost use Rattle.beam_queue.specs.RunQueues.{enqueued_by, taken_by, lent_of, HaveAllStealers};
 ghost use Rattle.beam_queue.specs.declared.closing.NotClosed.TheVariants.{Lent};
 
-use crate::lane::Lane;
-use crate::name::Queues;
-use crate::thief::Thief;
+use crate::brand::QueueBrand;
+use crate::run_queue::RunQueue;
+use crate::stealer::Stealer;
 use std::alloc::{AllocError, Global};
 use thiserror::Error;
 
@@ -17,7 +17,7 @@ pub enum NotClosed {
     /// Memory was refused.
     #[error("NoMemory")]
     NoMemory,
-    /// A thief isn't among the lanes, or its queue isn't.
+    /// A stealer isn't among the run queues, or its queue isn't.
     #[error("Lent")]
     Lent,
 }
@@ -33,66 +33,69 @@ impl From<AllocError> for NotClosed {
     }
 }
 
-/// Closes the queues: gives each thief back to its queue, for any order of the lanes, and answers the pids that are left in them.
-pub fn close<Q: Queues>(alloc: Global, lanes: Vec<Lane<Q>>) -> Result<Vec<u32>, NotClosed>
+/// Closes the queues: gives each stealer back to its queue, for any order of the run queues, and answers the pids that are left in them.
+pub fn close<Q: QueueBrand>(
+    alloc: Global,
+    run_queues: Vec<RunQueue<Q>>,
+) -> Result<Vec<u32>, NotClosed>
     ensures balanced { IfOk result (λ left. (pid : ℕ)
-        → total (taken_by pid) lanes.items + times pid left.items ≡ total (announced_by pid) lanes.items) }
-    ensures lent { IsErrOf result Lent ↔ ¬ AllBack lanes.items }
+        → total (taken_by pid) run_queues.items + times pid left.items ≡ total (enqueued_by pid) run_queues.items) }
+    ensures lent { IsErrOf result Lent ↔ ¬ HaveAllStealers run_queues.items }
 {
-    let mut lanes = lanes;
-    if !gather(&mut lanes) {
+    let mut run_queues = run_queues;
+    if !return_stealers(&mut run_queues) {
         return Err(NotClosed::Lent);
     }
-    Ok(drain_all(alloc, lanes)?)
+    Ok(drain_all(alloc, run_queues)?)
 }
 
-/// Gives each thief back to its queue. False if a queue has none lent, or isn't there, or is left with one lent.
-fn gather<Q: Queues>(lanes: &mut Vec<Lane<Q>>) -> bool
-    ensures back { result ≡ true ↔ AllBack lanes.old.items }
-    ensures home { result ≡ true → AreHome lanes.new.items }
-    ensures kept { result ≡ true → Keeps lanes.old.items lanes.new.items }
+/// Gives each stealer back to its queue. False if a queue has none lent, or isn't there, or is left with one lent.
+fn return_stealers<Q: QueueBrand>(run_queues: &mut Vec<RunQueue<Q>>) -> bool
+    ensures back { result ≡ true ↔ HaveAllStealers run_queues.old.items }
+    ensures no_stealers { result ≡ true → HaveNoStealers run_queues.new.items }
+    ensures kept { result ≡ true → KeepsCounts run_queues.old.items run_queues.new.items }
 {
-    while let Some(thief) = take_thief(lanes) {
-        let Some(at) = lender(lanes, thief.of()) else {
+    while let Some(stealer) = take_stealer(run_queues) {
+        let Some(at) = lender(run_queues, stealer.of()) else {
             return false;
         };
-        lanes[at].take_back(thief);
+        run_queues[at].take_back(stealer);
     }
-    none_lent(lanes)
+    none_lent(run_queues)
 }
 
-/// A thief of some lane.
-fn take_thief<Q: Queues>(lanes: &mut Vec<Lane<Q>>) -> Option<Thief<Q>>
-    ensures some { IfSome result (λ t. Gives t lanes.old.items lanes.new.items) }
-    ensures none { IfNone result ((lanes.new.items ≡ lanes.old.items) × (total held lanes.new.items ≡ 0)) }
+/// A stealer of some run queue.
+fn take_stealer<Q: QueueBrand>(run_queues: &mut Vec<RunQueue<Q>>) -> Option<Stealer<Q>>
+    ensures some { IfSome result (λ t. RemovesStealer t run_queues.old.items run_queues.new.items) }
+    ensures none { IfNone result ((run_queues.new.items ≡ run_queues.old.items) × (total stealer_count run_queues.new.items ≡ 0)) }
 {
-    for at in 0..lanes.len() {
-        if let Some(thief) = lanes[at].give_thief() {
-            return Some(thief);
+    for at in 0..run_queues.len() {
+        if let Some(stealer) = run_queues[at].remove_stealer() {
+            return Some(stealer);
         }
     }
     None
 }
 
-/// Where the lane stands whose queue has a number, if it has thieves lent.
-fn lender<Q: Queues>(lanes: &[Lane<Q>], number: usize) -> Option<usize>
-    ensures some { IfSome result (λ i. (i < length lanes.now) × ((d : _) → 0 < lent_of number (get_or lanes.now i d))) }
-    ensures none { IfNone result (total (lent_of number) lanes.now ≡ 0) }
+/// Where the run queue stands whose queue has a number, if it has stealers lent.
+fn lender<Q: QueueBrand>(run_queues: &[RunQueue<Q>], number: usize) -> Option<usize>
+    ensures some { IfSome result (λ i. (i < length run_queues.now) × ((d : _) → 0 < lent_of number (get_or run_queues.now i d))) }
+    ensures none { IfNone result (total (lent_of number) run_queues.now ≡ 0) }
 {
-    for at in 0..lanes.len() {
-        if lanes[at].lent_as(number) > 0 {
+    for at in 0..run_queues.len() {
+        if run_queues[at].lent_by(number) > 0 {
             return Some(at);
         }
     }
     None
 }
 
-/// Whether no thief is lent.
-fn none_lent<Q: Queues>(lanes: &[Lane<Q>]) -> bool
-    ensures { result ≡ true ↔ (total lent lanes.now ≡ 0) }
+/// Whether no stealer is lent.
+fn none_lent<Q: QueueBrand>(run_queues: &[RunQueue<Q>]) -> bool
+    ensures { result ≡ true ↔ (total lent run_queues.now ≡ 0) }
 {
-    for at in 0..lanes.len() {
-        if lanes[at].lent() > 0 {
+    for at in 0..run_queues.len() {
+        if run_queues[at].lent() > 0 {
             return false;
         }
     }
@@ -100,14 +103,17 @@ fn none_lent<Q: Queues>(lanes: &[Lane<Q>]) -> bool
 }
 
 /// The pids that are left in all the queues.
-fn drain_all<Q: Queues>(alloc: Global, lanes: Vec<Lane<Q>>) -> Result<Vec<u32>, AllocError>
-    requires home { AreHome lanes.items }
-    ensures { IfOk result (λ left. (pid : ℕ) → total (taken_by pid) lanes.items + times pid left.items ≡ total (announced_by pid) lanes.items) }
+fn drain_all<Q: QueueBrand>(
+    alloc: Global,
+    run_queues: Vec<RunQueue<Q>>,
+) -> Result<Vec<u32>, AllocError>
+    requires no_stealers { HaveNoStealers run_queues.items }
+    ensures { IfOk result (λ left. (pid : ℕ) → total (taken_by pid) run_queues.items + times pid left.items ≡ total (enqueued_by pid) run_queues.items) }
 {
-    let mut lanes = lanes;
+    let mut run_queues = run_queues;
     let mut left = Vec::new(alloc);
-    while let Some(lane) = lanes.pop() {
-        left = lane.drain(left)?;
+    while let Some(run_queue) = run_queues.pop() {
+        left = run_queue.drain(left)?;
     }
     Ok(left)
 }

@@ -3,22 +3,22 @@ ghost use Rattle.std.specs.Prelude.{◌≡◌, ◌+◌, ◌-◌, ◌<◌, ℕ, [
 ghost use Rattle.crossbeam_deque.specs.Handles.{view, IsPassOf, worker_deque, stealer_deque, worker_view, worker_flavor};
 ghost use Rattle.crossbeam_deque.specs.Steals.{MatchSteal};
 ghost use Rattle.beam_queue.specs.Counting.{times};
-ghost use Rattle.beam_queue.specs.Rule.{hand, IsFresh, IsSame};
+ghost use Rattle.beam_queue.specs.Rule.{contribution, IsFresh, IsSame};
 
-use crate::hand::Hand;
-use crate::rule::{Cut, Drains, Fair, Puts, Takes};
+use crate::contribution::Contribution;
+use crate::rule::{BalanceProtocol, Drains, Puts, StealerPart, Takes};
 use crossbeam_deque::{Pass, Steal, Stealer, Worker};
 use std::alloc::{AllocError, Global};
 
-pub type Deque = Worker<u32, Global, Hand, Fair>;
+pub type Deque = Worker<u32, Global, Contribution, BalanceProtocol>;
 
-pub type Taker = Stealer<u32, Global, Hand, Fair>;
+pub type DequeStealer = Stealer<u32, Global, Contribution, BalanceProtocol>;
 
-pub type Ticket = Pass<u32, Hand>;
+pub type DequePass = Pass<u32, Contribution>;
 
 /// An empty deque with 256 slots.
 #[tactic(auto, using(crate::proofs::Moves::begins))]
-pub fn open(alloc: Global) -> Result<Deque, AllocError>
+pub fn empty_deque(alloc: Global) -> Result<Deque, AllocError>
     ensures { IfOk result (λ d. IsFresh d) }
 {
     Deque::fifo_as(alloc, 256)
@@ -29,7 +29,7 @@ pub fn put(deque: &mut Deque, pid: u32) -> Result<(), u32>
     requires { 0 < (worker_view deque.old).parts }
     ensures same { IsSame deque.old deque.new }
     ensures put { IfOk result (λ _. worker_view deque.new
-        ≡ hand (worker_view deque.old).parts ((worker_view deque.old).put ++ pid ∷ []) (worker_view deque.old).taken) }
+        ≡ contribution (worker_view deque.old).parts ((worker_view deque.old).put ++ pid ∷ []) (worker_view deque.old).taken) }
     ensures refused { IfErr result (λ x. (x ≡ pid) × (worker_view deque.new ≡ worker_view deque.old)) }
 {
     deque.push_as::<Puts>(pid)
@@ -40,39 +40,39 @@ pub fn take(deque: &mut Deque) -> Option<u32>
     requires { (0 < (worker_view deque.old).parts) × (worker_flavor deque.old ≡ 0) }
     ensures same { IsSame deque.old deque.new }
     ensures taken { MatchOption result (worker_view deque.new ≡ worker_view deque.old) (λ x. worker_view deque.new
-        ≡ hand (worker_view deque.old).parts (worker_view deque.old).put ((worker_view deque.old).taken ++ x ∷ [])) }
+        ≡ contribution (worker_view deque.old).parts (worker_view deque.old).put ((worker_view deque.old).taken ++ x ∷ [])) }
 {
     deque.pop_as::<Takes>()
 }
 
-/// Takes the pid at the front, by a thief.
-pub fn steal(taker: &Taker, ticket: &mut Ticket) -> Steal<u32>
-    requires { IsPassOf (stealer_deque taker.now) ticket.old × (0 < (view ticket.old).parts) }
-    ensures same { IsPassOf (stealer_deque taker.now) ticket.new }
-    ensures taken { MatchSteal result (view ticket.new ≡ view ticket.old) (view ticket.new ≡ view ticket.old) (λ x. view ticket.new
-        ≡ hand (view ticket.old).parts (view ticket.old).put ((view ticket.old).taken ++ x ∷ [])) }
+/// Takes the pid at the front, by a stealer.
+pub fn steal(deque_stealer: &DequeStealer, pass: &mut DequePass) -> Steal<u32>
+    requires { IsPassOf (stealer_deque deque_stealer.now) pass.old × (0 < (view pass.old).parts) }
+    ensures same { IsPassOf (stealer_deque deque_stealer.now) pass.new }
+    ensures taken { MatchSteal result (view pass.new ≡ view pass.old) (view pass.new ≡ view pass.old) (λ x. view pass.new
+        ≡ contribution (view pass.old).parts (view pass.old).put ((view pass.old).taken ++ x ∷ [])) }
 {
-    taker.steal_as::<Takes>(ticket)
+    deque_stealer.steal_as::<Takes>(pass)
 }
 
-/// A part for a thief.
-pub fn cut(deque: &mut Deque) -> Ticket
+/// A part for a stealer.
+pub fn split_pass(deque: &mut Deque) -> DequePass
     requires { 1 < (worker_view deque.old).parts }
     ensures same { IsSame deque.old deque.new × IsPassOf (worker_deque deque.old) result }
-    ensures views { (worker_view deque.new ≡ hand ((worker_view deque.old).parts - 1) (worker_view deque.old).put (worker_view deque.old).taken)
-        × (view result ≡ hand 1 [] []) }
+    ensures views { (worker_view deque.new ≡ contribution ((worker_view deque.old).parts - 1) (worker_view deque.old).put (worker_view deque.old).taken)
+        × (view result ≡ contribution 1 [] []) }
 {
-    deque.another::<Cut>()
+    deque.another::<StealerPart>()
 }
 
 /// A thief's part comes back.
-pub fn join(deque: &mut Deque, ticket: Ticket)
-    requires { IsPassOf (worker_deque deque.old) ticket × (0 < (worker_view deque.old).parts) }
+pub fn join_pass(deque: &mut Deque, pass: DequePass)
+    requires { IsPassOf (worker_deque deque.old) pass × (0 < (worker_view deque.old).parts) }
     ensures same { IsSame deque.old deque.new }
-    ensures view { worker_view deque.new ≡ hand ((worker_view deque.old).parts + (view ticket).parts)
-        ((worker_view deque.old).put ++ (view ticket).put) ((worker_view deque.old).taken ++ (view ticket).taken) }
+    ensures view { worker_view deque.new ≡ contribution ((worker_view deque.old).parts + (view pass).parts)
+        ((worker_view deque.old).put ++ (view pass).put) ((worker_view deque.old).taken ++ (view pass).taken) }
 {
-    deque.absorb::<Cut>(ticket)
+    deque.absorb::<StealerPart>(pass)
 }
 
 /// Takes all pids that are left in a deque that has every part again, and appends them to `left`.

@@ -1,18 +1,18 @@
-//! Run queues, one for each thread, from which every scheduler's thread steals: the pids that were announced are those that were taken
+//! Run queues, one for each thread, from which every scheduler's thread steals: the pids that were enqueued are those that were taken
 //! and those that are left, each as often.
 #![tactic(auto)]
 
+mod brand;
 mod closing;
+mod contribution;
 mod deque;
-mod hand;
-mod lane;
 mod making;
-mod name;
-mod queue;
+mod own_queue;
 mod rule;
-mod thief;
+mod run_queue;
+mod stealer;
 
+pub use brand::QueueBrand;
 pub use closing::{NotClosed, close};
-pub use lane::Lane;
-pub use making::{Blank, NotMade};
-pub use name::Queues;
+pub use making::{NotMade, UnbrandedQueues};
+pub use run_queue::RunQueue;

@@ -1,59 +1,59 @@
 //! The rule of a queue: the pids that were put are those that were taken and those that are left.
 ghost use Rattle.std.specs.Prelude.{◌≡◌, ◌+◌, ◌-◌, ℕ, [], ◌++◌};
 ghost use Rattle.beam_queue.specs.Counting.{total};
-ghost use Rattle.beam_queue.specs.Rule.{hand};
+ghost use Rattle.beam_queue.specs.Rule.{contribution};
 
-use crate::hand::Hand;
+use crate::contribution::Contribution;
 use crossbeam_deque::protocol::{Join, Outcome, Protocol, Split};
 
 /// The pids that were put are those that were taken and those that are left.
-pub struct Fair;
+pub struct BalanceProtocol;
 
-impl Protocol<u32, Hand> for Fair {
+impl Protocol<u32, Contribution> for BalanceProtocol {
     ghost use Rattle.std.specs.Prelude.{[]};
-    ghost use Rattle.beam_queue.specs.Rule.{hand, Balanced};
+    ghost use Rattle.beam_queue.specs.Rule.{contribution, Balanced};
 
     ghost holds = { Balanced };
 
-    ghost first = { hand 1024 [] [] };
+    ghost first = { contribution 1024 [] [] };
 
-    ghost guest = { hand 0 [] [] };
+    ghost guest = { contribution 0 [] [] };
 }
 
-/// One part is cut off for a thief, and put to the rest again.
-pub struct Cut;
+/// One part is cut off for a stealer, and put to the rest again.
+pub struct StealerPart;
 
-impl Split<Hand> for Cut {
-    ghost left = { λ v. hand (v.parts - 1) v.put v.taken };
+impl Split<Contribution> for StealerPart {
+    ghost left = { λ v. contribution (v.parts - 1) v.put v.taken };
 
-    ghost right = { λ v. hand 1 [] [] };
+    ghost right = { λ v. contribution 1 [] [] };
 }
 
-impl Join<Hand> for Cut {
-    ghost both = { λ v w. hand (v.parts + w.parts) (v.put ++ w.put) (v.taken ++ w.taken) };
+impl Join<Contribution> for StealerPart {
+    ghost both = { λ v w. contribution (v.parts + w.parts) (v.put ++ w.put) (v.taken ++ w.taken) };
 
-    ghost spent = { hand 0 [] [] };
+    ghost spent = { contribution 0 [] [] };
 }
 
 /// A hand puts.
 pub struct Puts;
 
-impl Outcome<u32, Hand> for Puts {
-    ghost then = { λ v xs w. w ≡ hand v.parts (v.put ++ xs) v.taken };
+impl Outcome<u32, Contribution> for Puts {
+    ghost then = { λ v xs w. w ≡ contribution v.parts (v.put ++ xs) v.taken };
 }
 
 /// A hand takes.
 pub struct Takes;
 
-impl Outcome<u32, Hand> for Takes {
-    ghost then = { λ v xs w. w ≡ hand v.parts v.put (v.taken ++ xs) };
+impl Outcome<u32, Contribution> for Takes {
+    ghost then = { λ v xs w. w ≡ contribution v.parts v.put (v.taken ++ xs) };
 }
 
 /// The hand with every part takes: if the queue is empty, all pids that were put were taken.
 pub struct Drains;
 
-impl Outcome<u32, Hand> for Drains {
-    ghost then = { λ v xs w. w ≡ hand v.parts v.put (v.taken ++ xs) };
+impl Outcome<u32, Contribution> for Drains {
+    ghost then = { λ v xs w. w ≡ contribution v.parts v.put (v.taken ++ xs) };
 
     ghost empty = { λ v. (h : ℕ → ℕ) → total h v.put ≡ total h v.taken };
 }

@@ -8,8 +8,8 @@ use lib.ListN.{get_elem?}
 use Rattle.atomic_table.proofs.Lists.{at_set, set_again, set_else}
 use Rattle.beam_machine.specs.Journal.{Entry}
 use Rattle.beam_laws.specs.Origin.{Origin}
-use Rattle.beam_receipts.specs.Receipts.{Known, nothing_known, Share, Checkout, is_number, is_of, of_seat, AreOfGiven}
-use Rattle.beam_receipts.specs.Rule.{Claim, keeper, holder, bearer, nobody, IsShare, IsCheckout, Fits, Kept, with_seat, with_entry, with_origin, new_share, new_checkout, longer, taken_in, alone, given_back, alone_with, given_back_with, Compares}
+use Rattle.beam_receipts.specs.Receipts.{History, empty_history, SeatHistory, Checkout, is_number, is_of, of_seat, AreOfGiven}
+use Rattle.beam_receipts.specs.Rule.{Claim, keeper_claim, seat_claim, ticket_claim, no_claim, IsSeatHistory, IsCheckout, Fits, ClaimsAgree, with_seat, with_entry, with_origin, new_seat_claim, new_ticket_claim, with_seat_entry, taken_in, alone, given_back, alone_with, given_back_with, Compares}
 
 -- ---- lists and options
 
@@ -39,18 +39,18 @@ if_some (Some a) P Q f h = f a h
 
 -- ---- which pass has the share of a seat
 
-abbrev placed : (ℕ → ℕ) → Option Share → ℕ → ℕ → ℕ
+abbrev placed : (ℕ → ℕ) → Option SeatHistory → ℕ → ℕ → ℕ
 placed owner None at m = owner m
 placed owner (Some s) at m = cond (eqb m s.number) at (owner m)
 
-placed_here : (owner : ℕ → ℕ) (s : Share) (at : ℕ) → placed owner (Some s) at s.number ≡ at
+placed_here : (owner : ℕ → ℕ) (s : SeatHistory) (at : ℕ) → placed owner (Some s) at s.number ≡ at
 placed_here owner s at = ap (λ b. cond b at (owner s.number)) (eq-eqb s.number s.number refl)
 
-placed_else : (owner : ℕ → ℕ) (s : Share) (at m : ℕ) → m ≢ s.number → placed owner (Some s) at m ≡ owner m
+placed_else : (owner : ℕ → ℕ) (s : SeatHistory) (at m : ℕ) → m ≢ s.number → placed owner (Some s) at m ≡ owner m
 placed_else owner s at m apart = ap (λ b. cond b at (owner m)) (ne_eqb m s.number apart)
 
 -- a seat's share is where it was, if this pass didn't have it
-elsewhere : (owner : ℕ → ℕ) (o : Option Share) (by at j m : ℕ) → IfSome o (λ s. by ≡ owner s.number) → j ≢ by → j ≡ owner m → j ≡ placed owner o at m
+elsewhere : (owner : ℕ → ℕ) (o : Option SeatHistory) (by at j m : ℕ) → IfSome o (λ s. by ≡ owner s.number) → j ≢ by → j ≡ owner m → j ≡ placed owner o at m
 elsewhere owner None by at j m had apart e = e
 elsewhere owner (Some s) by at j m had apart e = e ∙ sym (placed_else owner s at m (λ same. apart (e ∙ ap owner same ∙ sym had)))
 
@@ -83,24 +83,24 @@ given_later : (given : ℕ) (entries : List Entry) → AreOfGiven given entries 
 given_later given entries below = λ k d lt. if_some (slice_index_or entries k d).seat (λ n. n < given) (λ n. n < given + 1) (λ n less. omega arith) (below k d lt)
 
 -- an entry of the seat whose share a pass had, or of no seat, isn't one of another pass's share
-not_theirs : (owner : ℕ → ℕ) (o : Option Share) (seat : Option ℕ) (by j n : ℕ) → option_map (λ s. s.number) o ≡ seat → IfSome o (λ s. by ≡ owner s.number) → j ≢ by → j ≡ owner n → is_number n seat ≡ false
+not_theirs : (owner : ℕ → ℕ) (o : Option SeatHistory) (seat : Option ℕ) (by j n : ℕ) → option_map (λ s. s.number) o ≡ seat → IfSome o (λ s. by ≡ owner s.number) → j ≢ by → j ≡ owner n → is_number n seat ≡ false
 not_theirs owner None seat by j n is had apart e = ap (is_number n) (sym is)
 not_theirs owner (Some s) seat by j n is had apart e = is_other n s.number seat (sym is) (λ same. apart (e ∙ ap owner same ∙ sym had))
 
 -- ---- the rule after a step
 
 -- the claim of another pass holds after a step of the keeper's pass
-others : (all now : Known) (knower : ℕ) (owner next : ℕ → ℕ) (by j : ℕ) (c : Claim) → by ≡ knower → j ≢ by
-    → ((s : Share) → (j ≡ owner s.number) × IsShare all s → (j ≡ next s.number) × IsShare now s)
+others : (all now : History) (knower : ℕ) (owner next : ℕ → ℕ) (by j : ℕ) (c : Claim) → by ≡ knower → j ≢ by
+    → ((s : SeatHistory) → (j ≡ owner s.number) × IsSeatHistory all s → (j ≡ next s.number) × IsSeatHistory now s)
     → ((t : Checkout) → IsCheckout all t → IsCheckout now t)
     → Fits all knower owner j c → Fits now knower next j c
-others all now knower owner next by j c knows apart shares outs fits = (
-  if_some c.known (λ k. (j ≡ knower) × (k ≡ all)) (λ k. (j ≡ knower) × (k ≡ now)) (λ k h. absurd (apart (h.0 ∙ sym knows))) fits.0,
-  if_some c.share (λ s. (j ≡ owner s.number) × IsShare all s) (λ s. (j ≡ next s.number) × IsShare now s) shares fits.1,
-  if_some c.checkout (IsCheckout all) (IsCheckout now) outs fits.2,
+others all now knower owner next by j c knows apart shares checkouts fits = (
+  if_some c.history (λ k. (j ≡ knower) × (k ≡ all)) (λ k. (j ≡ knower) × (k ≡ now)) (λ k h. absurd (apart (h.0 ∙ sym knows))) fits.0,
+  if_some c.seat_history (λ s. (j ≡ owner s.number) × IsSeatHistory all s) (λ s. (j ≡ next s.number) × IsSeatHistory now s) shares fits.1,
+  if_some c.checkout (IsCheckout all) (IsCheckout now) checkouts fits.2,
 )
 
-fits_set : (now : Known) (knower : ℕ) (next : ℕ → ℕ) (claims : List Claim) (by : ℕ) (w : Claim)
+fits_set : (now : History) (knower : ℕ) (next : ℕ → ℕ) (claims : List Claim) (by : ℕ) (w : Claim)
     → ((j : ℕ) (c : Claim) → j ≢ by → get_elem? claims j ≡ some c → Fits now knower next j c)
     → Fits now knower next by w
     → (j : ℕ) (c : Claim) → get_elem? (set claims by w) j ≡ some c → Fits now knower next j c
@@ -110,7 +110,7 @@ fits_set now knower next claims by w rest mine j c e =
     (λ (x : (j ≢ by) × (get_elem? claims j ≡ some c)). rest j c x.0 x.1)
     (at_set claims by j w c e)
 
-fits_cut : (now : Known) (knower : ℕ) (next : ℕ → ℕ) (claims : List Claim) (by : ℕ) (left right : Claim)
+fits_cut : (now : History) (knower : ℕ) (next : ℕ → ℕ) (claims : List Claim) (by : ℕ) (left right : Claim)
     → ((j : ℕ) (c : Claim) → j ≢ by → get_elem? claims j ≡ some c → Fits now knower next j c)
     → Fits now knower next by left → Fits now knower next (length claims) right
     → (j : ℕ) (c : Claim) → get_elem? (set claims by left ++ right ∷ []) j ≡ some c → Fits now knower next j c
@@ -124,126 +124,126 @@ fits_cut now knower next claims by left right rest mine new j c e =
 
 -- a pass's claim is cut in two, and a new pass has the second
 abbrev pub Cuts : ℕ → Claim → Claim → Claim → Type 0
-Cuts by v left right = (claims : List Claim) → Kept claims → get_elem? claims by ≡ some v → Kept (set claims by left ++ right ∷ [])
+Cuts by v left right = (claims : List Claim) → ClaimsAgree claims → get_elem? claims by ≡ some v → ClaimsAgree (set claims by left ++ right ∷ [])
 
 -- a pass takes in another's claim, and the other is spent
 abbrev pub Glues : ℕ → Claim → ℕ → Claim → Claim → Claim → Type 0
 Glues by v other w both spent =
-    (claims : List Claim) → Kept claims → get_elem? claims by ≡ some v → ¬ (other ≡ by) → get_elem? (set claims by both) other ≡ some w → Kept (set (set claims by both) other spent)
+    (claims : List Claim) → ClaimsAgree claims → get_elem? claims by ≡ some v → ¬ (other ≡ by) → get_elem? (set claims by both) other ≡ some w → ClaimsAgree (set (set claims by both) other spent)
 
-pub begins : Kept (keeper nothing_known ∷ [])
-begins = (nothing_known, 0, (λ _. 0), All-nil (λ (e : Entry). IfSome e.seat (λ n. n < 0)), one)
+pub begins : ClaimsAgree (keeper_claim empty_history ∷ [])
+begins = (empty_history, 0, (λ _. 0), All-nil (λ (e : Entry). IfSome e.seat (λ n. n < 0)), one)
   where
-    one : (by : ℕ) (c : Claim) → get_elem? (keeper nothing_known ∷ []) by ≡ some c → Fits nothing_known 0 (λ _. 0) by c
-    one zero c e = subst (Fits nothing_known 0 (λ _. 0) 0) (some-injective _ _ e) ((refl, refl), tt, tt)
+    one : (by : ℕ) (c : Claim) → get_elem? (keeper_claim empty_history ∷ []) by ≡ some c → Fits empty_history 0 (λ _. 0) by c
+    one zero c e = subst (Fits empty_history 0 (λ _. 0) 0) (some-injective _ _ e) ((refl, refl), tt, tt)
     one (suc by) c e = absurd (some-ne-none c (sym e))
 
 -- the keeper's pass, with the share or the checkout that it has taken in
-abbrev pub full : Known → Option Share → Option Checkout → Claim
-full k share checkout = record { known = Some k; share = share; checkout = checkout }
+abbrev pub full : History → Option SeatHistory → Option Checkout → Claim
+full k seat_history checkout = record { history = Some k; seat_history = seat_history; checkout = checkout }
 
-gives_seat : (by : ℕ) (k : Known) → Cuts by (keeper k) (keeper (with_seat k)) (new_share (keeper k))
+gives_seat : (by : ℕ) (k : History) → Cuts by (keeper_claim k) (keeper_claim (with_seat k)) (new_seat_claim (keeper_claim k))
 gives_seat by k claims h at =
     let all = h.0 in
     let knower = h.1 in
     let owner = h.2 in
-    let mine = (h.4 by (keeper k) at).0 in
-    let s : Share = record { number = k.given; kept = [] } in
+    let mine = (h.4 by (keeper_claim k) at).0 in
+    let s : SeatHistory = record { number = k.given; kept = [] } in
     let next = placed owner (Some s) (length claims) in (
       with_seat all,
       knower,
       next,
       given_later all.given all.journal h.3,
-      fits_cut (with_seat all) knower next claims by (keeper (with_seat k)) (holder s)
+      fits_cut (with_seat all) knower next claims by (keeper_claim (with_seat k)) (seat_claim s)
           (λ j c apart e. others all (with_seat all) knower owner next by j c mine.0 apart
-          (λ t f. (f.0 ∙ sym (placed_else owner s (length claims) t.number (λ same. let less : t.number < all.given = f.1.0 in let is : t.number ≡ k.given = same in let known : k.given ≡ all.given = ap (λ x. x.given) mine.1 in omega arith)), ((let less : t.number < all.given = f.1.0 in omega arith), f.1.1)))
+          (λ t f. (f.0 ∙ sym (placed_else owner s (length claims) t.number (λ same. let less : t.number < all.given = f.1.0 in let is : t.number ≡ k.given = same in let history : k.given ≡ all.given = ap (λ x. x.given) mine.1 in omega arith)), ((let less : t.number < all.given = f.1.0 in omega arith), f.1.1)))
           (λ t f. f)
           (h.4 j c e))
           ((mine.0, ap with_seat mine.1), tt, tt)
-          (tt, (sym (placed_here owner s (length claims)), ((let known : k.given ≡ all.given = ap (λ x. x.given) mine.1 in omega arith), sym (ap (λ (x : Known). of_seat x.given all.journal) mine.1 ∙ unused all.given all.journal h.3))), tt),
+          (tt, (sym (placed_here owner s (length claims)), ((let history : k.given ≡ all.given = ap (λ x. x.given) mine.1 in omega arith), sym (ap (λ (x : History). of_seat x.given all.journal) mine.1 ∙ unused all.given all.journal h.3))), tt),
     )
 
-checks_out : (by : ℕ) (k : Known) (o : Origin) → Cuts by (keeper k) (keeper (with_origin o k)) (new_checkout o (keeper k))
+checks_out : (by : ℕ) (k : History) (o : Origin) → Cuts by (keeper_claim k) (keeper_claim (with_origin o k)) (new_ticket_claim o (keeper_claim k))
 checks_out by k o claims h at =
     let all = h.0 in
     let knower = h.1 in
     let owner = h.2 in
-    let mine = (h.4 by (keeper k) at).0 in
-    let t : Checkout = record { serial = length k.outs; origin = o } in (
+    let mine = (h.4 by (keeper_claim k) at).0 in
+    let t : Checkout = record { serial = length k.checkouts; origin = o } in (
       with_origin o all,
       knower,
       owner,
       h.3,
-      fits_cut (with_origin o all) knower owner claims by (keeper (with_origin o k)) (bearer t)
+      fits_cut (with_origin o all) knower owner claims by (keeper_claim (with_origin o k)) (ticket_claim t)
           (λ j c apart e. others all (with_origin o all) knower owner owner by j c mine.0 apart
           (λ s f. f)
-          (λ u f. slice_get_front all.outs (o ∷ []) u.serial u.origin f)
+          (λ u f. slice_get_front all.checkouts (o ∷ []) u.serial u.origin f)
           (h.4 j c e))
           ((mine.0, ap (with_origin o) mine.1), tt, tt)
-          (tt, tt, subst (λ (x : Known). slice_get (x.outs ++ o ∷ []) (length k.outs) ≡ Some o) mine.1 (slice_get_end k.outs o)),
+          (tt, tt, subst (λ (x : History). slice_get (x.checkouts ++ o ∷ []) (length k.checkouts) ≡ Some o) mine.1 (slice_get_end k.checkouts o)),
     )
 
 -- the claim of a full pass about a share, without the share's place
-had : (all : Known) (owner : ℕ → ℕ) (by : ℕ) (o : Option Share) → IfSome o (λ s. (by ≡ owner s.number) × IsShare all s) → IfSome o (λ s. by ≡ owner s.number)
-had all owner by o f = if_some o (λ s. (by ≡ owner s.number) × IsShare all s) (λ s. by ≡ owner s.number) (λ s h. h.0) f
+had : (all : History) (owner : ℕ → ℕ) (by : ℕ) (o : Option SeatHistory) → IfSome o (λ s. (by ≡ owner s.number) × IsSeatHistory all s) → IfSome o (λ s. by ≡ owner s.number)
+had all owner by o f = if_some o (λ s. (by ≡ owner s.number) × IsSeatHistory all s) (λ s. by ≡ owner s.number) (λ s h. h.0) f
 
 -- the pass that now has the share
-has : (all : Known) (owner : ℕ → ℕ) (by at : ℕ) (o : Option Share) → IfSome o (λ s. (by ≡ owner s.number) × IsShare all s) → IfSome o (λ s. (at ≡ placed owner o at s.number) × IsShare all s)
+has : (all : History) (owner : ℕ → ℕ) (by at : ℕ) (o : Option SeatHistory) → IfSome o (λ s. (by ≡ owner s.number) × IsSeatHistory all s) → IfSome o (λ s. (at ≡ placed owner o at s.number) × IsSeatHistory all s)
 has all owner by at None f = tt
 has all owner by at (Some s) f = (sym (placed_here owner s at), f.1)
 
-takes_in : (by : ℕ) (k : Known) (other : ℕ) (w : Claim) → Glues by (keeper k) other w (taken_in (keeper k) w) nobody
+takes_in : (by : ℕ) (k : History) (other : ℕ) (w : Claim) → Glues by (keeper_claim k) other w (taken_in (keeper_claim k) w) no_claim
 takes_in by k other w claims h at apart there =
     let all = h.0 in
     let knower = h.1 in
     let owner = h.2 in
-    let mine = (h.4 by (keeper k) at).0 in
-    let both = taken_in (keeper k) w in
+    let mine = (h.4 by (keeper_claim k) at).0 in
+    let both = taken_in (keeper_claim k) w in
     let stood : get_elem? claims other ≡ some w = sym (set_else claims by other both apart) ∙ there in
     let theirs = h.4 other w stood in
-    let next = placed owner w.share by in
+    let next = placed owner w.seat_history by in
     let untouched : (j : ℕ) (c : Claim) → j ≢ other → get_elem? (set claims by both) j ≡ some c → Fits all knower next j c =
     λ j c off e. ⊎_elim
-    (λ (x : (j ≡ by) × (both ≡ c)). subst (λ (y : ℕ × Claim). Fits all knower next y.0 y.1) (λ i. (sym x.0 i, x.1 i)) (mine, has all owner other by w.share theirs.1, theirs.2))
+    (λ (x : (j ≡ by) × (both ≡ c)). subst (λ (y : ℕ × Claim). Fits all knower next y.0 y.1) (λ i. (sym x.0 i, x.1 i)) (mine, has all owner other by w.seat_history theirs.1, theirs.2))
     (λ (x : (j ≢ by) × (get_elem? claims j ≡ some c)). others all all knower owner next by j c mine.0 x.0
-    (λ s f. (elsewhere owner w.share other by j s.number (had all owner other w.share theirs.1) off f.0, f.1))
+    (λ s f. (elsewhere owner w.seat_history other by j s.number (had all owner other w.seat_history theirs.1) off f.0, f.1))
     (λ t f. f)
     (h.4 j c x.1))
     (at_set claims by j both c e) in
-    (all, knower, next, h.3, fits_set all knower next (set claims by both) other nobody untouched (tt, tt, tt))
+    (all, knower, next, h.3, fits_set all knower next (set claims by both) other no_claim untouched (tt, tt, tt))
 
-gives_back : (by : ℕ) (k : Known) (share : Option Share) (checkout : Option Checkout) → Cuts by (full k share checkout) (alone (full k share checkout)) (given_back (full k share checkout))
-gives_back by k share checkout claims h at =
+gives_back : (by : ℕ) (k : History) (seat_history : Option SeatHistory) (checkout : Option Checkout) → Cuts by (full k seat_history checkout) (alone (full k seat_history checkout)) (given_back (full k seat_history checkout))
+gives_back by k seat_history checkout claims h at =
     let all = h.0 in
     let knower = h.1 in
     let owner = h.2 in
-    let was = h.4 by (full k share checkout) at in
-    let next = placed owner share (length claims) in (
+    let was = h.4 by (full k seat_history checkout) at in
+    let next = placed owner seat_history (length claims) in (
       all,
       knower,
       next,
       h.3,
-      fits_cut all knower next claims by (alone (full k share checkout)) (given_back (full k share checkout))
+      fits_cut all knower next claims by (alone (full k seat_history checkout)) (given_back (full k seat_history checkout))
           (λ j c apart e. others all all knower owner next by j c was.0.0 apart
-          (λ s f. (elsewhere owner share by (length claims) j s.number (had all owner by share was.1) apart f.0, f.1))
+          (λ s f. (elsewhere owner seat_history by (length claims) j s.number (had all owner by seat_history was.1) apart f.0, f.1))
           (λ t f. f)
           (h.4 j c e))
           (was.0, tt, tt)
-          (tt, has all owner by (length claims) share was.1, was.2),
+          (tt, has all owner by (length claims) seat_history was.1, was.2),
     )
 
 -- the pass that has the share with the entry
-has_more : (all : Known) (owner : ℕ → ℕ) (by at : ℕ) (e : Entry) (o : Option Share) → option_map (λ s. s.number) o ≡ e.seat → IfSome o (λ s. (by ≡ owner s.number) × IsShare all s)
-    → IfSome (option_map (longer e) o) (λ s. (at ≡ placed owner o at s.number) × IsShare (with_entry e all) s)
+has_more : (all : History) (owner : ℕ → ℕ) (by at : ℕ) (e : Entry) (o : Option SeatHistory) → option_map (λ s. s.number) o ≡ e.seat → IfSome o (λ s. (by ≡ owner s.number) × IsSeatHistory all s)
+    → IfSome (option_map (with_seat_entry e) o) (λ s. (at ≡ placed owner o at s.number) × IsSeatHistory (with_entry e all) s)
 has_more all owner by at e None is f = tt
 has_more all owner by at e (Some s) is f = (sym (placed_here owner s at), (f.1.0, ap (λ l. l ++ e ∷ []) f.1.1 ∙ sym (of_seat_more s.number all.journal e (is_this s.number e.seat (sym is)))))
 
 -- an entry of the seat whose share a pass had is of one that was given
-given_more : (all : Known) (owner : ℕ → ℕ) (by : ℕ) (e : Entry) (o : Option Share) → option_map (λ s. s.number) o ≡ e.seat → IfSome o (λ s. (by ≡ owner s.number) × IsShare all s)
+given_more : (all : History) (owner : ℕ → ℕ) (by : ℕ) (e : Entry) (o : Option SeatHistory) → option_map (λ s. s.number) o ≡ e.seat → IfSome o (λ s. (by ≡ owner s.number) × IsSeatHistory all s)
     → AreOfGiven all.given all.journal → AreOfGiven all.given (all.journal ++ e ∷ [])
 given_more all owner by e o is f was = All-append (λ (x : Entry). IfSome x.seat (λ n. n < all.given)) all.journal (e ∷ []) was only
   where
-    number_of : (p : Option Share) → IfSome p (λ s. (by ≡ owner s.number) × IsShare all s) → IfSome (option_map (λ s. s.number) p) (λ n. n < all.given)
+    number_of : (p : Option SeatHistory) → IfSome p (λ s. (by ≡ owner s.number) × IsSeatHistory all s) → IfSome (option_map (λ s. s.number) p) (λ n. n < all.given)
     number_of None g = tt
     number_of (Some s) g = g.1.0
 
@@ -251,69 +251,69 @@ given_more all owner by e o is f was = All-append (λ (x : Entry). IfSome x.seat
     only zero d lt = subst (λ s. IfSome s (λ n. n < all.given)) is (number_of o f)
     only (suc k) d lt = absurd (omega arith)
 
-enters : (by : ℕ) (k : Known) (share : Option Share) (e : Entry) → option_map (λ s. s.number) share ≡ e.seat
-    → Cuts by (full k share None) (alone_with e (full k share None)) (given_back_with e (full k share None))
-enters by k share e is claims h at =
+enters : (by : ℕ) (k : History) (seat_history : Option SeatHistory) (e : Entry) → option_map (λ s. s.number) seat_history ≡ e.seat
+    → Cuts by (full k seat_history None) (alone_with e (full k seat_history None)) (given_back_with e (full k seat_history None))
+enters by k seat_history e is claims h at =
     let all = h.0 in
     let knower = h.1 in
     let owner = h.2 in
-    let was = h.4 by (full k share None) at in
-    let next = placed owner share (length claims) in (
+    let was = h.4 by (full k seat_history None) at in
+    let next = placed owner seat_history (length claims) in (
       with_entry e all,
       knower,
       next,
-      given_more all owner by e share is was.1 h.3,
-      fits_cut (with_entry e all) knower next claims by (alone_with e (full k share None)) (given_back_with e (full k share None))
+      given_more all owner by e seat_history is was.1 h.3,
+      fits_cut (with_entry e all) knower next claims by (alone_with e (full k seat_history None)) (given_back_with e (full k seat_history None))
           (λ j c apart there. others all (with_entry e all) knower owner next by j c was.0.0 apart
           (λ s f. (
-            elsewhere owner share by (length claims) j s.number (had all owner by share was.1) apart f.0,
-            (f.1.0, f.1.1 ∙ sym (of_seat_same s.number all.journal e (not_theirs owner share e.seat by j s.number is (had all owner by share was.1) apart f.0))),
+            elsewhere owner seat_history by (length claims) j s.number (had all owner by seat_history was.1) apart f.0,
+            (f.1.0, f.1.1 ∙ sym (of_seat_same s.number all.journal e (not_theirs owner seat_history e.seat by j s.number is (had all owner by seat_history was.1) apart f.0))),
           ))
           (λ t f. f)
           (h.4 j c there))
           ((was.0.0, ap (with_entry e) was.0.1), tt, tt)
-          (tt, has_more all owner by (length claims) e share is was.1, tt),
+          (tt, has_more all owner by (length claims) e seat_history is was.1, tt),
     )
 
-compares : (claims : List Claim) (by : ℕ) (k : Known) (share : Option Share) (checkout : Option Checkout) → Kept claims → get_elem? claims by ≡ some (full k share checkout) → Compares (full k share checkout)
-compares claims by k share checkout h at =
+compares : (claims : List Claim) (by : ℕ) (k : History) (seat_history : Option SeatHistory) (checkout : Option Checkout) → ClaimsAgree claims → get_elem? claims by ≡ some (full k seat_history checkout) → Compares (full k seat_history checkout)
+compares claims by k seat_history checkout h at =
     let all = h.0 in
     let owner = h.2 in
-    let was = h.4 by (full k share checkout) at in
-    subst (λ (x : Known). AreOfGiven x.given x.journal × IfSome share (IsShare x) × IfSome checkout (IsCheckout x)) (sym was.0.1) (h.3, if_some share (λ s. (by ≡ owner s.number) × IsShare all s) (IsShare all) (λ s f. f.1) was.1, was.2)
+    let was = h.4 by (full k seat_history checkout) at in
+    subst (λ (x : History). AreOfGiven x.given x.journal × IfSome seat_history (IsSeatHistory x) × IfSome checkout (IsCheckout x)) (sym was.0.1) (h.3, if_some seat_history (λ s. (by ≡ owner s.number) × IsSeatHistory all s) (IsSeatHistory all) (λ s f. f.1) was.1, was.2)
 
 -- ---- the steps, at a claim that is known
 
-pub gives_seat_as : (by : ℕ) (v : Claim) (k : Known) → v ≡ keeper k → Cuts by v (record v { known = option_map with_seat v.known }) (new_share v)
-gives_seat_as by v k is = subst (λ (u : Claim). Cuts by u (record u { known = option_map with_seat u.known }) (new_share u)) (sym is) (gives_seat by k)
+pub gives_seat_as : (by : ℕ) (v : Claim) (k : History) → v ≡ keeper_claim k → Cuts by v (record v { history = option_map with_seat v.history }) (new_seat_claim v)
+gives_seat_as by v k is = subst (λ (u : Claim). Cuts by u (record u { history = option_map with_seat u.history }) (new_seat_claim u)) (sym is) (gives_seat by k)
 
-pub checks_out_as : (by : ℕ) (v : Claim) (k : Known) (o : Origin) → v ≡ keeper k → Cuts by v (record v { known = option_map (with_origin o) v.known }) (new_checkout o v)
-checks_out_as by v k o is = subst (λ (u : Claim). Cuts by u (record u { known = option_map (with_origin o) u.known }) (new_checkout o u)) (sym is) (checks_out by k o)
+pub checks_out_as : (by : ℕ) (v : Claim) (k : History) (o : Origin) → v ≡ keeper_claim k → Cuts by v (record v { history = option_map (with_origin o) v.history }) (new_ticket_claim o v)
+checks_out_as by v k o is = subst (λ (u : Claim). Cuts by u (record u { history = option_map (with_origin o) u.history }) (new_ticket_claim o u)) (sym is) (checks_out by k o)
 
-pub takes_in_as : (by : ℕ) (v : Claim) (k : Known) (other : ℕ) (w : Claim) → v ≡ keeper k → Glues by v other w (taken_in v w) nobody
-takes_in_as by v k other w is = subst (λ (u : Claim). Glues by u other w (taken_in u w) nobody) (sym is) (takes_in by k other w)
+pub takes_in_as : (by : ℕ) (v : Claim) (k : History) (other : ℕ) (w : Claim) → v ≡ keeper_claim k → Glues by v other w (taken_in v w) no_claim
+takes_in_as by v k other w is = subst (λ (u : Claim). Glues by u other w (taken_in u w) no_claim) (sym is) (takes_in by k other w)
 
-pub gives_back_as : (by : ℕ) (v : Claim) (k : Known) (share : Option Share) (checkout : Option Checkout) → v ≡ full k share checkout → Cuts by v (alone v) (given_back v)
-gives_back_as by v k share checkout is = subst (λ (u : Claim). Cuts by u (alone u) (given_back u)) (sym is) (gives_back by k share checkout)
+pub gives_back_as : (by : ℕ) (v : Claim) (k : History) (seat_history : Option SeatHistory) (checkout : Option Checkout) → v ≡ full k seat_history checkout → Cuts by v (alone v) (given_back v)
+gives_back_as by v k seat_history checkout is = subst (λ (u : Claim). Cuts by u (alone u) (given_back u)) (sym is) (gives_back by k seat_history checkout)
 
-pub enters_as : (by : ℕ) (v : Claim) (k : Known) (share : Option Share) (e : Entry) → v ≡ full k share None → option_map (λ s. s.number) share ≡ e.seat → Cuts by v (alone_with e v) (given_back_with e v)
-enters_as by v k share e is own = subst (λ (u : Claim). Cuts by u (alone_with e u) (given_back_with e u)) (sym is) (enters by k share e own)
+pub enters_as : (by : ℕ) (v : Claim) (k : History) (seat_history : Option SeatHistory) (e : Entry) → v ≡ full k seat_history None → option_map (λ s. s.number) seat_history ≡ e.seat → Cuts by v (alone_with e v) (given_back_with e v)
+enters_as by v k seat_history e is own = subst (λ (u : Claim). Cuts by u (alone_with e u) (given_back_with e u)) (sym is) (enters by k seat_history e own)
 
 -- a look leaves the claim as it is, and compares it
-pub compares_as : (claims : List Claim) (by : ℕ) (v : Claim) (k : Known) (share : Option Share) (checkout : Option Checkout) → v ≡ full k share checkout → Kept claims → get_elem? claims by ≡ some v → Kept (set claims by v) × Compares v
-compares_as claims by v k share checkout is h at = (
-  subst Kept (sym (set_again claims by v at)) h,
-  subst Compares (sym is) (compares claims by k share checkout h (subst (λ (u : Claim). get_elem? claims by ≡ some u) is at)),
+pub compares_as : (claims : List Claim) (by : ℕ) (v : Claim) (k : History) (seat_history : Option SeatHistory) (checkout : Option Checkout) → v ≡ full k seat_history checkout → ClaimsAgree claims → get_elem? claims by ≡ some v → ClaimsAgree (set claims by v) × Compares v
+compares_as claims by v k seat_history checkout is h at = (
+  subst ClaimsAgree (sym (set_again claims by v at)) h,
+  subst Compares (sym is) (compares claims by k seat_history checkout h (subst (λ (u : Claim). get_elem? claims by ≡ some u) is at)),
 )
 
 -- ---- a claim that was taken in
 
 abbrev pub first : List Claim → Claim
-first [] = nobody
+first [] = no_claim
 first (c ∷ rest) = c
 
-pub with_share : (v w x : Claim) (k : Known) (s : Share) → x ≡ taken_in v w → v ≡ keeper k → w ≡ holder s → x ≡ full k (Some s) None
-with_share v w x k s e knows has = e ∙ (λ i. taken_in (knows i) (has i))
+pub with_seat_history : (v w x : Claim) (k : History) (s : SeatHistory) → x ≡ taken_in v w → v ≡ keeper_claim k → w ≡ seat_claim s → x ≡ full k (Some s) None
+with_seat_history v w x k s e knows has = e ∙ (λ i. taken_in (knows i) (has i))
 
-pub with_checkout : (v w x : Claim) (k : Known) (t : Checkout) → x ≡ taken_in v w → v ≡ keeper k → w ≡ bearer t → x ≡ full k None (Some t)
+pub with_checkout : (v w x : Claim) (k : History) (t : Checkout) → x ≡ taken_in v w → v ≡ keeper_claim k → w ≡ ticket_claim t → x ≡ full k None (Some t)
 with_checkout v w x k t e knows has = e ∙ (λ i. taken_in (knows i) (has i))

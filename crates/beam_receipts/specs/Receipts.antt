@@ -9,16 +9,16 @@ use Rattle.beam_machine.specs.Process.{started}
 use Rattle.beam_laws.specs.Origin.{Origin}
 
 -- all entries of the journal, how many seats were given, and all checkouts
-pub record Known : Type 0 where
+pub record History : Type 0 where
   pub journal : List Entry
   pub given : ℕ
-  pub outs : List Origin
+  pub checkouts : List Origin
 
-abbrev pub nothing_known : Known
-nothing_known = record { journal = []; given = 0; outs = [] }
+abbrev pub empty_history : History
+empty_history = record { journal = []; given = 0; checkouts = [] }
 
 -- a seat's number, and its entries
-pub record Share : Type 0 where
+pub record SeatHistory : Type 0 where
   pub number : ℕ
   pub kept : List Entry
 

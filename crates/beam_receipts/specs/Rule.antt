@@ -4,105 +4,105 @@ use mathlib.Core.Option.{some}
 use lib.ListN.{get_elem?}
 use Rattle.beam_machine.specs.Journal.{Entry}
 use Rattle.beam_laws.specs.Origin.{Origin}
-use Rattle.beam_receipts.specs.Receipts.{Known, nothing_known, Share, Checkout, no_checkout, of_seat, AreOfGiven}
+use Rattle.beam_receipts.specs.Receipts.{History, empty_history, SeatHistory, Checkout, no_checkout, of_seat, AreOfGiven}
 
 -- the claim of a pass: the keeper's knows all, a seat's its share, a ticket's its checkout
 pub record Claim : Type 0 where
-  pub known : Option Known
-  pub share : Option Share
+  pub history : Option History
+  pub seat_history : Option SeatHistory
   pub checkout : Option Checkout
 
-abbrev pub keeper : Known → Claim
-keeper k = record { known = Some k; share = None; checkout = None }
+abbrev pub keeper_claim : History → Claim
+keeper_claim k = record { history = Some k; seat_history = None; checkout = None }
 
-abbrev pub holder : Share → Claim
-holder s = record { known = None; share = Some s; checkout = None }
+abbrev pub seat_claim : SeatHistory → Claim
+seat_claim s = record { history = None; seat_history = Some s; checkout = None }
 
-abbrev pub bearer : Checkout → Claim
-bearer t = record { known = None; share = None; checkout = Some t }
+abbrev pub ticket_claim : Checkout → Claim
+ticket_claim t = record { history = None; seat_history = None; checkout = Some t }
 
-abbrev pub nobody : Claim
-nobody = record { known = None; share = None; checkout = None }
+abbrev pub no_claim : Claim
+no_claim = record { history = None; seat_history = None; checkout = None }
 
 -- ---- the rule
 
 -- the share is of a seat that was given, and has all entries of that seat
-abbrev pub IsShare : Known → Share → Type 0
-IsShare all s = (s.number < all.given) × (s.kept ≡ of_seat s.number all.journal)
+abbrev pub IsSeatHistory : History → SeatHistory → Type 0
+IsSeatHistory all s = (s.number < all.given) × (s.kept ≡ of_seat s.number all.journal)
 
-abbrev pub IsCheckout : Known → Checkout → Type 0
-IsCheckout all t = slice_get all.outs t.serial ≡ Some t.origin
+abbrev pub IsCheckout : History → Checkout → Type 0
+IsCheckout all t = slice_get all.checkouts t.serial ≡ Some t.origin
 
 -- the claim of the pass of this number holds; one pass alone knows all, and one alone has each seat's share
-abbrev pub Fits : Known → ℕ → (ℕ → ℕ) → ℕ → Claim → Type 0
+abbrev pub Fits : History → ℕ → (ℕ → ℕ) → ℕ → Claim → Type 0
 Fits all knower owner by c =
-    IfSome c.known (λ k. (by ≡ knower) × (k ≡ all))
-    × IfSome c.share (λ s. (by ≡ owner s.number) × IsShare all s)
+    IfSome c.history (λ k. (by ≡ knower) × (k ≡ all))
+    × IfSome c.seat_history (λ s. (by ≡ owner s.number) × IsSeatHistory all s)
     × IfSome c.checkout (IsCheckout all)
 
-abbrev pub Kept : List Claim → Type 0
-Kept claims =
-    (all : Known) × (knower : ℕ) × (owner : ℕ → ℕ) × AreOfGiven all.given all.journal
+abbrev pub ClaimsAgree : List Claim → Type 0
+ClaimsAgree claims =
+    (all : History) × (knower : ℕ) × (owner : ℕ → ℕ) × AreOfGiven all.given all.journal
     × ((by : ℕ) (c : Claim) → get_elem? claims by ≡ some c → Fits all knower owner by c)
 
 -- ---- steps
 
-abbrev pub all_of : Claim → Known
-all_of c = unwrap_or c.known nothing_known
+abbrev pub history_of : Claim → History
+history_of c = unwrap_or c.history empty_history
 
 -- one more seat was given
-abbrev pub with_seat : Known → Known
+abbrev pub with_seat : History → History
 with_seat k = record k { given = k.given + 1 }
 
-abbrev pub with_entry : Entry → Known → Known
+abbrev pub with_entry : Entry → History → History
 with_entry e k = record k { journal = k.journal ++ e ∷ [] }
 
-abbrev pub with_origin : Origin → Known → Known
-with_origin o k = record k { outs = k.outs ++ o ∷ [] }
+abbrev pub with_origin : Origin → History → History
+with_origin o k = record k { checkouts = k.checkouts ++ o ∷ [] }
 
 -- a seat's pass, from the keeper's
-abbrev pub new_share : Claim → Claim
-new_share c = holder (record { number = (all_of c).given; kept = [] })
+abbrev pub new_seat_claim : Claim → Claim
+new_seat_claim c = seat_claim (record { number = (history_of c).given; kept = [] })
 
 -- a ticket's pass, from the keeper's
-abbrev pub new_checkout : Origin → Claim → Claim
-new_checkout o c = bearer (record { serial = length (all_of c).outs; origin = o })
+abbrev pub new_ticket_claim : Origin → Claim → Claim
+new_ticket_claim o c = ticket_claim (record { serial = length (history_of c).checkouts; origin = o })
 
-abbrev pub longer : Entry → Share → Share
-longer e s = record s { kept = s.kept ++ e ∷ [] }
+abbrev pub with_seat_entry : Entry → SeatHistory → SeatHistory
+with_seat_entry e s = record s { kept = s.kept ++ e ∷ [] }
 
 -- the keeper's pass with a seat's or a ticket's claim taken in
 abbrev pub taken_in : Claim → Claim → Claim
-taken_in k c = record c { known = k.known }
+taken_in k c = record c { history = k.history }
 
 -- the keeper's pass without the claim that it had taken in
 abbrev pub alone : Claim → Claim
-alone c = record { known = c.known; share = None; checkout = None }
+alone c = record { history = c.history; seat_history = None; checkout = None }
 
 -- the claim that the keeper's pass had taken in
 abbrev pub given_back : Claim → Claim
-given_back c = record c { known = None }
+given_back c = record c { history = None }
 
 -- the keeper's pass without the share that it had taken in, after an entry of that seat
 abbrev pub alone_with : Entry → Claim → Claim
-alone_with e c = record { known = option_map (with_entry e) c.known; share = None; checkout = None }
+alone_with e c = record { history = option_map (with_entry e) c.history; seat_history = None; checkout = None }
 
 abbrev pub given_back_with : Entry → Claim → Claim
-given_back_with e c = record { known = None; share = option_map (longer e) c.share; checkout = None }
+given_back_with e c = record { history = None; seat_history = option_map (with_seat_entry e) c.seat_history; checkout = None }
 
 -- the keeper's knowledge is lawful, and the claim that its pass took in agrees with it
 abbrev pub Compares : Claim → Type 0
-Compares c = IfSome c.known (λ k. AreOfGiven k.given k.journal × IfSome c.share (IsShare k) × IfSome c.checkout (IsCheckout k))
+Compares c = IfSome c.history (λ k. AreOfGiven k.given k.journal × IfSome c.seat_history (IsSeatHistory k) × IfSome c.checkout (IsCheckout k))
 
 -- ---- what a receipt shows
 
-abbrev pub kept_in : Option Share → List Entry
+abbrev pub kept_in : Option SeatHistory → List Entry
 kept_in None = []
 kept_in (Some s) = s.kept
 
 abbrev pub kept_by : List Claim → List Entry
 kept_by [] = []
-kept_by (c ∷ rest) = kept_in c.share
+kept_by (c ∷ rest) = kept_in c.seat_history
 
 abbrev pub checkout_of : Claim → Checkout
 checkout_of c = unwrap_or c.checkout no_checkout

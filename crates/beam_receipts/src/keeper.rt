@@ -1,8 +1,8 @@
 //! The keeper of a node: its knowledge of the journal, the seats and the checkouts.
 ghost use Rattle.std.specs.Prelude.{◌≡◌, ◌+◌, ◌-◌, ◌<◌, ◌^◌, [], ◌∷◌, ◌++◌, length, min, slice_get, Some, None};
-ghost use Rattle.beam_receipts.specs.Receipts.{nothing_known, of_seat, AreOfGiven};
+ghost use Rattle.beam_receipts.specs.Receipts.{empty_history, of_seat, AreOfGiven};
 
-use crate::room::{CheckedOut, Entered, Room};
+use crate::brand::{GhostEntry, GhostOrigin, NodeBrand};
 use crate::rule::{ChecksOut, Compared, Enters, GivesSeat, Pass, Passes, Shown};
 use crate::seat::SeatReceipt;
 use crate::ticket::TicketReceipt;
@@ -12,21 +12,21 @@ use std::marker::{Model, PhantomData};
 use std::mem;
 
 /// A keeper that has no name yet. Contracts see which table it has.
-pub struct Blank {
+pub struct UnbrandedKeeper {
     passes: Passes,
     pass: Pass,
 }
 
-impl Drop for Blank {
+impl Drop for UnbrandedKeeper {
     fn drop(self) {
-        let Blank {
+        let UnbrandedKeeper {
             passes: _passes,
             pass: _pass,
         } = self;
     }
 }
 
-impl Model for Blank {
+impl Model for UnbrandedKeeper {
     ghost use Rattle.std.specs.Prelude.{◌≡◌, ◌<◌};
     ghost use Rattle.atomic_table.specs.Seated.{TableId, table_id_coded};
 
@@ -34,80 +34,80 @@ impl Model for Blank {
 
     ghost coded = { table_id_coded };
 
-    ghost use Rattle.beam_receipts.specs.Receipts.{nothing_known};
-    ghost use Rattle.beam_receipts.specs.Rule.{keeper};
+    ghost use Rattle.beam_receipts.specs.Receipts.{empty_history};
+    ghost use Rattle.beam_receipts.specs.Rule.{keeper_claim};
 
     ghost view = { λ b. b.passes.shared.table_id };
 
     ghost invariant = { λ b. (b.pass.table_id ≡ b.passes.shared.table_id) × (0 < b.passes.shared.table_id.words)
-        × (b.pass.me.0 ≡ keeper nothing_known) };
+        × (b.pass.me.0 ≡ keeper_claim empty_history) };
 }
 
-impl Blank {
+impl UnbrandedKeeper {
     /// A new table and its first pass. Where memory is refused there is none.
-    pub fn new(alloc: Global) -> Result<Blank, AllocError> {
+    pub fn new(alloc: Global) -> Result<UnbrandedKeeper, AllocError> {
         let (passes, pass) = Passes::of_words(alloc, &[0], &())?;
-        Ok(Blank { passes, pass })
+        Ok(UnbrandedKeeper { passes, pass })
     }
 
     /// The keeper, which knows that nothing was entered, given or checked out.
-    pub fn named<B: Room>(self) -> Keeper<B>
+    pub fn branded<B: NodeBrand>(self) -> Keeper<B>
         requires { self ≡ B.table }
-        ensures { result ≡ nothing_known }
+        ensures { result ≡ empty_history }
     {
-        let Blank { passes, pass } = self;
+        let UnbrandedKeeper { passes, pass } = self;
         Keeper {
             passes,
             pass,
             given: 0,
             checkouts: 0,
-            room: PhantomData,
+            brand: PhantomData,
         }
     }
 }
 
 /// The value that knows all: the journal's entries, how many seats were given, and all checkouts. Entries and origins are for proofs
 /// alone; it stores how many seats and checkouts there were.
-pub struct Keeper<B: Room> {
+pub struct Keeper<B: NodeBrand> {
     passes: Passes,
     pass: Pass,
     given: u32,
     // stays at 2^64 - 1
     checkouts: u64,
-    room: PhantomData<B>,
+    brand: PhantomData<B>,
 }
 
-impl<B: Room> Drop for Keeper<B> {
+impl<B: NodeBrand> Drop for Keeper<B> {
     fn drop(self) {
         let Keeper {
             passes: _passes,
             pass: _pass,
             given: _given,
             checkouts: _checkouts,
-            room: _room,
+            brand: _brand,
         } = self;
     }
 }
 
-impl<B: Room> Model for Keeper<B> {
+impl<B: NodeBrand> Model for Keeper<B> {
     ghost use Rattle.std.specs.Prelude.{◌≡◌, ◌-◌, ◌<◌, ◌^◌, min, length};
     ghost use Rattle.std.specs.Coded.{codes};
     ghost use Rattle.beam_term.specs.Coding.{term_code};
-    ghost use Rattle.beam_receipts.specs.Receipts.{Known};
-    ghost use Rattle.beam_receipts.specs.Rule.{keeper, all_of};
+    ghost use Rattle.beam_receipts.specs.Receipts.{History};
+    ghost use Rattle.beam_receipts.specs.Rule.{keeper_claim, history_of};
 
-    ghost Value = { Known };
+    ghost Value = { History };
 
     ghost coded = { Prim.hlevel (codes, term_code) };
 
-    ghost view = { λ k. all_of k.pass.me.0 };
+    ghost view = { λ k. history_of k.pass.me.0 };
 
     ghost invariant = { λ k. (k.passes.shared.table_id ≡ B.table) × (k.pass.table_id ≡ B.table) × (0 < B.table.words)
-        × (k.pass.me.0 ≡ keeper (all_of k.pass.me.0)) × (k.given ≡ (all_of k.pass.me.0).given)
-        × (k.checkouts ≡ min (length (all_of k.pass.me.0).outs) (2 ^ 64 - 1)) };
+        × (k.pass.me.0 ≡ keeper_claim (history_of k.pass.me.0)) × (k.given ≡ (history_of k.pass.me.0).given)
+        × (k.checkouts ≡ min (length (history_of k.pass.me.0).checkouts) (2 ^ 64 - 1)) };
 }
 
-impl<B: Room> Keeper<B> {
+impl<B: NodeBrand> Keeper<B> {
     /// How many seats were given.
     pub fn given(&self) -> u32
         ensures { result ≡ self.now.given }
@@ -117,7 +117,7 @@ impl<B: Room> Keeper<B> {
 
     /// How many checkouts there were; it stays at 2^64 - 1.
     pub fn checkouts(&self) -> u64
-        ensures { result ≡ min (length self.now.outs) (2 ^ 64 - 1) }
+        ensures { result ≡ min (length self.now.checkouts) (2 ^ 64 - 1) }
     {
         self.checkouts
     }
@@ -135,12 +135,12 @@ impl<B: Room> Keeper<B> {
         SeatReceipt {
             pass: pass.into_badge(),
             number,
-            room: PhantomData,
+            brand: PhantomData,
         }
     }
 
     /// Enters an entry of a seat.
-    pub fn enter<E: Entered>(&mut self, seat: &mut SeatReceipt<B>)
+    pub fn enter_for_seat<E: GhostEntry>(&mut self, seat: &mut SeatReceipt<B>)
         requires own { E.entry.seat ≡ Some seat.old.number }
         ensures keeper { self.new ≡ record self.old { journal = self.old.journal ++ E.entry ∷ [] } }
         ensures seat { seat.new ≡ record seat.old { kept = seat.old.kept ++ E.entry ∷ [] } }
@@ -155,7 +155,7 @@ impl<B: Room> Keeper<B> {
     }
 
     /// Enters an entry that is of no seat.
-    pub fn enter_alone<E: Entered>(&mut self)
+    pub fn enter_without_seat<E: GhostEntry>(&mut self)
         requires alone { E.entry.seat ≡ None }
         ensures { self.new ≡ record self.old { journal = self.old.journal ++ E.entry ∷ [] } }
     {
@@ -164,9 +164,9 @@ impl<B: Room> Keeper<B> {
     }
 
     /// Gives the ticket of a checkout, of the next number.
-    pub fn check_out<O: CheckedOut>(&mut self) -> TicketReceipt<B>
-        ensures ticket { result ≡ record { serial = length self.old.outs; origin = O.origin } }
-        ensures keeper { self.new ≡ record self.old { outs = self.old.outs ++ O.origin ∷ [] } }
+    pub fn check_out<O: GhostOrigin>(&mut self) -> TicketReceipt<B>
+        ensures ticket { result ≡ record { serial = length self.old.checkouts; origin = O.origin } }
+        ensures keeper { self.new ≡ record self.old { checkouts = self.old.checkouts ++ O.origin ∷ [] } }
     {
         let passes = &self.passes;
         let pass = passes.shared.split_seat::<ChecksOut<O>>(&mut self.pass);
@@ -175,12 +175,12 @@ impl<B: Room> Keeper<B> {
         TicketReceipt {
             pass,
             serial,
-            room: PhantomData,
+            brand: PhantomData,
         }
     }
 
     /// Makes it known that each entry of a seat is of one that was given. Nothing changes.
-    pub fn compare(&mut self)
+    pub fn check_seats(&mut self)
         ensures keeper { self.new ≡ self.old }
         ensures seats { AreOfGiven self.old.given self.old.journal }
     {
@@ -189,7 +189,7 @@ impl<B: Room> Keeper<B> {
     }
 
     /// Makes it known that a seat was given, and has exactly the journal's entries of its number. Nothing changes.
-    pub fn known(&mut self, seat: &mut SeatReceipt<B>)
+    pub fn check_seat(&mut self, seat: &mut SeatReceipt<B>)
         ensures keeper { self.new ≡ self.old }
         ensures seat { seat.new ≡ seat.old }
         ensures kept { seat.old.kept ≡ of_seat seat.old.number self.old.journal }
@@ -206,9 +206,9 @@ impl<B: Room> Keeper<B> {
     }
 
     /// Makes it known that the checkout of a ticket's number had its origin. The ticket is used up, and the keeper stays as it was.
-    pub fn found(&mut self, ticket: TicketReceipt<B>)
+    pub fn redeem(&mut self, ticket: TicketReceipt<B>)
         ensures keeper { self.new ≡ self.old }
-        ensures found { slice_get self.old.outs ticket.serial ≡ Some ticket.origin }
+        ensures redeem { slice_get self.old.checkouts ticket.serial ≡ Some ticket.origin }
     {
         let passes = &self.passes;
         let TicketReceipt { pass, .. } = ticket;

@@ -1,6 +1,6 @@
 //! The node's table. It has one word, which is never changed, and passes, each with a claim about the node.
 
-use crate::room::{CheckedOut, Entered};
+use crate::brand::{GhostEntry, GhostOrigin};
 use atomic_table::{Join, Play, Seat, Split, Table, TableRule};
 use std::alloc::Global;
 use std::marker::{Model, PhantomData};
@@ -12,24 +12,24 @@ pub struct Claim {}
 impl Model for Claim {
     ghost use Rattle.std.specs.Coded.{codes};
     ghost use Rattle.beam_term.specs.Coding.{term_code};
-    ghost use Rattle.beam_receipts.specs.Rule.{Claim as TheClaim, nobody};
+    ghost use Rattle.beam_receipts.specs.Rule.{Claim as TheClaim, no_claim};
 
     ghost Value = { TheClaim };
 
     ghost coded = { Prim.hlevel (codes, term_code) };
 
-    ghost view = { λ _. nobody };
+    ghost view = { λ _. no_claim };
 }
 
 pub struct Rule;
 
 impl TableRule<u8, Claim, ()> for Rule {
-    ghost use Rattle.beam_receipts.specs.Receipts.{nothing_known};
-    ghost use Rattle.beam_receipts.specs.Rule.{Kept, keeper};
+    ghost use Rattle.beam_receipts.specs.Receipts.{empty_history};
+    ghost use Rattle.beam_receipts.specs.Rule.{ClaimsAgree, keeper_claim};
 
-    ghost holds = { λ _ s. Kept s.views };
+    ghost holds = { λ _ s. ClaimsAgree s.views };
 
-    ghost first = { λ _. keeper nothing_known };
+    ghost first = { λ _. keeper_claim empty_history };
 }
 
 pub(crate) type Passes = Table<u8, Claim, (), Rule, Global>;
@@ -41,11 +41,11 @@ pub(crate) struct GivesSeat;
 
 impl Split<Claim> for GivesSeat {
     ghost use Rattle.std.specs.Prelude.{option_map};
-    ghost use Rattle.beam_receipts.specs.Rule.{new_share, with_seat};
+    ghost use Rattle.beam_receipts.specs.Rule.{new_seat_claim, with_seat};
 
-    ghost left = { λ c. record c { known = option_map with_seat c.known } };
+    ghost left = { λ c. record c { history = option_map with_seat c.history } };
 
-    ghost right = { new_share };
+    ghost right = { new_seat_claim };
 }
 
 /// The keeper's pass gives a ticket.
@@ -53,13 +53,13 @@ pub(crate) struct ChecksOut<O> {
     out: PhantomData<O>,
 }
 
-impl<O: CheckedOut> Split<Claim> for ChecksOut<O> {
+impl<O: GhostOrigin> Split<Claim> for ChecksOut<O> {
     ghost use Rattle.std.specs.Prelude.{option_map};
-    ghost use Rattle.beam_receipts.specs.Rule.{new_checkout, with_origin};
+    ghost use Rattle.beam_receipts.specs.Rule.{new_ticket_claim, with_origin};
 
-    ghost left = { λ c. record c { known = option_map (with_origin O.origin) c.known } };
+    ghost left = { λ c. record c { history = option_map (with_origin O.origin) c.history } };
 
-    ghost right = { new_checkout O.origin };
+    ghost right = { new_ticket_claim O.origin };
 }
 
 /// The keeper's pass enters an entry, and gives back the seat's share with it, if it had taken one in.
@@ -67,7 +67,7 @@ pub(crate) struct Enters<E> {
     entry: PhantomData<E>,
 }
 
-impl<E: Entered> Split<Claim> for Enters<E> {
+impl<E: GhostEntry> Split<Claim> for Enters<E> {
     ghost use Rattle.beam_receipts.specs.Rule.{alone_with, given_back_with};
 
     ghost left = { alone_with E.entry };
@@ -79,11 +79,11 @@ impl<E: Entered> Split<Claim> for Enters<E> {
 pub(crate) struct Shown;
 
 impl Join<Claim> for Shown {
-    ghost use Rattle.beam_receipts.specs.Rule.{taken_in, nobody};
+    ghost use Rattle.beam_receipts.specs.Rule.{taken_in, no_claim};
 
     ghost both = { taken_in };
 
-    ghost spent = { nobody };
+    ghost spent = { no_claim };
 }
 
 impl Split<Claim> for Shown {

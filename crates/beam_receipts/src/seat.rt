@@ -1,46 +1,46 @@
 //! The receipt of a seat.
 ghost use Rattle.std.specs.Prelude.{◌≡◌};
 
-use crate::room::Room;
+use crate::brand::NodeBrand;
 use crate::rule::Claim;
 use atomic_table::Badge;
 use std::marker::{Model, PhantomData};
 
 /// A seat's token: its number, and the claim that its entries are exactly the journal's entries of that number. Contracts see the number
 /// and the entries; it stores the number.
-pub struct SeatReceipt<B: Room> {
+pub struct SeatReceipt<B: NodeBrand> {
     pub(crate) pass: Badge<Claim>,
     pub(crate) number: u32,
-    pub(crate) room: PhantomData<B>,
+    pub(crate) brand: PhantomData<B>,
 }
 
-impl<B: Room> Drop for SeatReceipt<B> {
+impl<B: NodeBrand> Drop for SeatReceipt<B> {
     fn drop(self) {
         let SeatReceipt {
             pass: _pass,
             number: _number,
-            room: _room,
+            brand: _brand,
         } = self;
     }
 }
 
-impl<B: Room> Model for SeatReceipt<B> {
+impl<B: NodeBrand> Model for SeatReceipt<B> {
     ghost use Rattle.std.specs.Prelude.{◌≡◌, [], ◌∷◌};
     ghost use Rattle.std.specs.Coded.{codes};
     ghost use Rattle.beam_term.specs.Coding.{term_code};
-    ghost use Rattle.beam_receipts.specs.Receipts.{Share};
-    ghost use Rattle.beam_receipts.specs.Rule.{holder, kept_by};
+    ghost use Rattle.beam_receipts.specs.Receipts.{SeatHistory};
+    ghost use Rattle.beam_receipts.specs.Rule.{seat_claim, kept_by};
 
-    ghost Value = { Share };
+    ghost Value = { SeatHistory };
 
     ghost coded = { Prim.hlevel (codes, term_code) };
 
     ghost view = { λ s. record { number = s.number; kept = kept_by s.pass.views } };
 
-    ghost invariant = { λ s. (s.pass.table_id ≡ B.table) × (s.pass.views ≡ holder (record { number = s.number; kept = kept_by s.pass.views }) ∷ []) };
+    ghost invariant = { λ s. (s.pass.table_id ≡ B.table) × (s.pass.views ≡ seat_claim (record { number = s.number; kept = kept_by s.pass.views }) ∷ []) };
 }
 
-impl<B: Room> SeatReceipt<B> {
+impl<B: NodeBrand> SeatReceipt<B> {
     /// The seat's number.
     pub fn number(&self) -> u32
         ensures { result ≡ self.now.number }

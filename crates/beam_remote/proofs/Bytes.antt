@@ -2,7 +2,7 @@
 use Rattle.std.proofs.Common.{◌≡◌, ℕ, ◌+◌, ◌∙◌, ◌-◌, List, [], ◌∷◌, ◌++◌, Option, Some, None, refl, ap, subst, sym, length, take, drop, append_assoc, append-nil, arith}
 use Rattle.std.proofs.lemmas.List.{take-append-drop, length-drop}
 use Rattle.std.proofs.Math.Seq.{take-add, take-append_seam, take-length}
-use Rattle.beam_remote.specs.Told.{more}
+use Rattle.beam_remote.specs.DeviceHistory.{appended}
 
 -- as many elements as are left after the first n are all that are left
 all_left : (xs : List ℕ) (n : ℕ) → take (length xs - n) (drop n xs) ≡ drop n xs
@@ -15,17 +15,17 @@ gave given at n piece is = take-add at n given ∙ ap (λ (p : List ℕ). take a
 pub front : (piece rest : List ℕ) (n : ℕ) → length piece ≡ n → take n (piece ++ rest) ≡ piece
 front piece rest n is = subst (λ k. take k (piece ++ rest) ≡ piece) is (take-append_seam piece rest)
 
-pub more_more : {X : Type 0} (known : Option (List X)) (xs ys : List X) → more (more known xs) ys ≡ more known (xs ++ ys)
+pub more_more : {X : Type 0} (known : Option (List X)) (xs ys : List X) → appended (appended known xs) ys ≡ appended known (xs ++ ys)
 more_more None xs ys = refl
 more_more (Some zs) xs ys = ap Some (append_assoc zs xs ys)
 
-pub more_none : {X : Type 0} (known : Option (List X)) → known ≡ more known []
+pub more_none : {X : Type 0} (known : Option (List X)) → known ≡ appended known []
 more_none None = refl
 more_none (Some zs) = ap Some (sym (append-nil zs))
 
 -- the bytes so far with one more piece
-pub joined : {X : Type 0} (known then now : Option (List X)) (xs ys : List X) → then ≡ more known xs → now ≡ more then ys → now ≡ more known (xs ++ ys)
-joined {X} known then now xs ys first second = second ∙ ap (λ (w : Option (List X)). more w ys) first ∙ more_more known xs ys
+pub joined : {X : Type 0} (known then now : Option (List X)) (xs ys : List X) → then ≡ appended known xs → now ≡ appended then ys → now ≡ appended known (xs ++ ys)
+joined {X} known then now xs ys first second = second ∙ ap (λ (w : Option (List X)). appended w ys) first ∙ more_more known xs ys
 
 -- a piece is moved from the rest to the bytes that are begun
 pub split_on : (begun rest bytes : List ℕ) (n : ℕ) → begun ++ rest ≡ bytes → (begun ++ take n rest) ++ take (length rest - n) (drop n rest) ≡ bytes

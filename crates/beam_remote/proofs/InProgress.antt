@@ -8,11 +8,11 @@ use Rattle.beam_machine.specs.declared.command.Response.{Response}
 use Rattle.beam_machine.specs.declared.debug.DebugEvent.{DebugEvent}
 use Rattle.beam_machine.specs.Frames.{Command, frame_in, no_frame, one_frame, bad_frame, Stream, empty_stream, stream_end, at_fault, stream_of, reply_body, longest_frame}
 use Rattle.beam_model.specs.Listing.{Listing}
-use Rattle.beam_remote.specs.declared.error.Why.{Why}
-use Rattle.beam_remote.specs.declared.error.Why.TheVariants.{ReadFailed, WriteFailed, CutFrame, BadFrame, NoMemory}
+use Rattle.beam_remote.specs.declared.error.SessionFailure.{SessionFailure}
+use Rattle.beam_remote.specs.declared.error.SessionFailure.TheVariants.{ReadFailed, WriteFailed, CutFrame, BadFrame, NoMemory}
 use Rattle.beam_remote.specs.Found.{IsNeeded, StopsReading, StopsTelling, TellsFault}
 use Rattle.beam_remote.specs.Serving.{AllAnswered, Answered, AreFrames, Serves, IsServed, IsStopped, StopsFor, EndsAt, reply_frame, reply_frames}
-use Rattle.beam_remote.specs.Told.{EachRead, Moment, more}
+use Rattle.beam_remote.specs.DeviceHistory.{EachRead, Moment, appended}
 use Rattle.beam_remote.proofs.Bytes.{joined, more_none}
 use Rattle.beam_remote.proofs.Frames.{frame_found, more_after, stream_after, stream_fault, stream_none}
 use Rattle.beam_remote.proofs.Moments.{more_since, none_since, same_since}
@@ -24,9 +24,9 @@ abbrev pub Reads : List ℕ → List Command → List ℕ → Type 0
 Reads bytes [] rest = rest ≡ bytes
 Reads bytes (c ∷ cs) rest = (next : List ℕ) × (frame_in bytes ≡ one_frame c next) × Reads next cs rest
 
-reads_more : (bytes : List ℕ) (cs : List Command) (rest more : List ℕ) → Reads bytes cs rest → Reads (bytes ++ more) cs (rest ++ more)
-reads_more bytes [] rest more is = ap (λ (b : List ℕ). b ++ more) is
-reads_more bytes (c ∷ cs) rest more (next, first, others) = (next ++ more, more_after bytes more c next first, reads_more next cs rest more others)
+reads_more : (bytes : List ℕ) (cs : List Command) (rest appended : List ℕ) → Reads bytes cs rest → Reads (bytes ++ appended) cs (rest ++ appended)
+reads_more bytes [] rest appended is = ap (λ (b : List ℕ). b ++ appended) is
+reads_more bytes (c ∷ cs) rest appended (next, first, others) = (next ++ appended, more_after bytes appended c next first, reads_more next cs rest appended others)
 
 reads_one : (bytes : List ℕ) (cs : List Command) (rest : List ℕ) (c : Command) (after : List ℕ) → Reads bytes cs rest → frame_in rest ≡ one_frame c after → Reads bytes (cs ++ c ∷ []) after
 reads_one bytes [] rest c after is first = (after, subst (λ (b : List ℕ). frame_in b ≡ one_frame c after) is first, refl)
@@ -83,7 +83,7 @@ fault_ends read cs pending done taken count f is =
 
 -- in place of a reply that is too long a fault is written
 stops_too_long : (stream : Stream) (done : ℕ) (r : Response) → longest_frame < length (reply_body r)
-    → (why : Why) (begun : List ℕ) → TellsFault TooLong why begun → StopsFor why stream done (r ∷ []) begun
+    → (why : SessionFailure) (begun : List ℕ) → TellsFault TooLong why begun → StopsFor why stream done (r ∷ []) begun
 stops_too_long stream done r long (BadFrame n) begun (number, told) = (TooLong, (long, refl), number, told)
 stops_too_long stream done r long WriteFailed begun (left, splits) = (left, inr (TooLong, (long, refl), splits))
 stops_too_long stream done r long NoMemory begun is = is
@@ -92,7 +92,7 @@ stops_too_long stream done r long CutFrame begun is = absurd is
 
 -- a session that stops between two commands
 stops_for : (read : List ℕ) (cs : List Command) (pending : List ℕ) (done : ℕ) → Reads read cs pending → done ≡ length cs
-    → (why : Why) (begun : List ℕ) → StopsReading pending why begun → StopsFor why (stream_of read) done [] begun
+    → (why : SessionFailure) (begun : List ℕ) → StopsReading pending why begun → StopsFor why (stream_of read) done [] begun
 stops_for read cs pending done taken count ReadFailed begun (is, empty) =
     (refl, empty, count ∙ ap length (sym (all_taken read cs pending taken (ap (λ (x : Stream). x.commands) (stream_none pending is)))))
 stops_for read cs pending done taken count CutFrame begun (is, cut, empty) =
@@ -109,12 +109,12 @@ stops_for read cs pending done taken count WriteFailed begun (f, is, cut) =
 stops_for read cs pending done taken count NoMemory begun is = is
 
 -- a session that stops at a reply
-stops_for_reply : (stream : Stream) (done : ℕ) (r : Response) (why : Why) (begun : List ℕ) → StopsTelling r why begun → StopsFor why stream done (r ∷ []) begun
+stops_for_reply : (stream : Stream) (done : ℕ) (r : Response) (why : SessionFailure) (begun : List ℕ) → StopsTelling r why begun → StopsFor why stream done (r ∷ []) begun
 stops_for_reply stream done r why begun (inl (is, cut)) =
-    subst (λ (w : Why). StopsFor w stream done (r ∷ []) begun) (sym is) (cut.0, inl (r, refl, cut.1))
+    subst (λ (w : SessionFailure). StopsFor w stream done (r ∷ []) begun) (sym is) (cut.0, inl (r, refl, cut.1))
 stops_for_reply stream done r why begun (inr (inl (long, told))) = stops_too_long stream done r long why begun told
 stops_for_reply stream done r why begun (inr (inr (is, empty))) =
-    subst (λ (w : Why). StopsFor w stream done (r ∷ []) begun) (sym is) empty
+    subst (λ (w : SessionFailure). StopsFor w stream done (r ∷ []) begun) (sym is) empty
 
 -- ---- a session
 
@@ -137,10 +137,10 @@ module _ {S : Type 0} (answers : S → DebugEvent Listing → Response → S →
     pub read : List ℕ
     pub commands : List Command
     pub responses : List Response
-    pub is_read : input' ≡ more input read
+    pub is_read : input' ≡ appended input read
     pub taken : Reads read commands pending
     pub answered : Serves answers s commands responses t
-    pub is_written : output' ≡ more output (reply_frames responses)
+    pub is_written : output' ≡ appended output (reply_frames responses)
     pub count : done ≡ length commands
 
   pub opens : (s : S) (input output : Option (List ℕ)) (pending : List ℕ) → pending ≡ [] → Session s input output s input output pending 0
@@ -158,7 +158,7 @@ module _ {S : Type 0} (answers : S → DebugEvent Listing → Response → S →
   -- more bytes were read, and nothing was written
   pub reads_on : (s : S) (input output : Option (List ℕ)) (t : S) (input' output' : Option (List ℕ)) (pending : List ℕ) (done : ℕ)
       → Session s input output t input' output' pending done
-      → (input'' : Option (List ℕ)) (bytes : List ℕ) → input'' ≡ more input' bytes → Session s input output t input'' output' (pending ++ bytes) done
+      → (input'' : Option (List ℕ)) (bytes : List ℕ) → input'' ≡ appended input' bytes → Session s input output t input'' output' (pending ++ bytes) done
   reads_on s input output t input' output' pending done was input'' bytes is = record {
     read = was.read ++ bytes;
     commands = was.commands;
@@ -174,7 +174,7 @@ module _ {S : Type 0} (answers : S → DebugEvent Listing → Response → S →
   pub tells_one : (s : S) (input output : Option (List ℕ)) (t : S) (input' output' : Option (List ℕ)) (pending : List ℕ) (done : ℕ)
       → Session s input output t input' output' pending done
       → (c : Command) (rest : List ℕ) (r : Response) (u : S) (output'' : Option (List ℕ))
-      → frame_in pending ≡ one_frame c rest → Answered answers t c r u → output'' ≡ more output' (reply_frame r)
+      → frame_in pending ≡ one_frame c rest → Answered answers t c r u → output'' ≡ appended output' (reply_frame r)
       → Session s input output u input' output'' rest (done + 1)
   tells_one s input output t input' output' pending done was c rest r u output'' found is written = record {
     read = was.read;
@@ -184,7 +184,7 @@ module _ {S : Type 0} (answers : S → DebugEvent Listing → Response → S →
     taken = reads_one was.read was.commands pending c rest was.taken found;
     answered = serves_one s was.commands was.responses t c r u was.answered is;
     is_written = joined output output' output'' (reply_frames was.responses) (reply_frame r) was.is_written written
-        ∙ ap (more output) (sym (frames_one was.responses r));
+        ∙ ap (appended output) (sym (frames_one was.responses r));
     count = ap (λ (n : ℕ). n + 1) was.count ∙ sym (length_one was.commands c);
   }
 
@@ -224,7 +224,7 @@ module _ {S : Type 0} (answers : S → DebugEvent Listing → Response → S →
 
   pub ends : (s : S) (input output : Option (List ℕ)) (t : S) (input' output' : Option (List ℕ)) (pending : List ℕ) (done : ℕ)
       → Session s input output t input' output' pending done → pending ≡ []
-      → (read written : List ℕ) × (input' ≡ more input read) × (output' ≡ more output written)
+      → (read written : List ℕ) × (input' ≡ appended input read) × (output' ≡ appended output written)
       × IsServed answers s read written (record { done = done; told = done }) t
   ends s input output t input' output' pending done was empty =
       let none_found : frame_in pending ≡ no_frame = ap frame_in empty ∙ none_in in
@@ -250,8 +250,8 @@ module _ {S : Type 0} (answers : S → DebugEvent Listing → Response → S →
   -- the session stopped between two commands
   pub stops : (s : S) (input output : Option (List ℕ)) (t : S) (input' output' : Option (List ℕ)) (pending : List ℕ) (done : ℕ)
       → Session s input output t input' output' pending done
-      → (why : Why) (output'' : Option (List ℕ)) (begun : List ℕ) → output'' ≡ more output' begun → StopsReading pending why begun
-      → (read written : List ℕ) × (input' ≡ more input read) × (output'' ≡ more output written)
+      → (why : SessionFailure) (output'' : Option (List ℕ)) (begun : List ℕ) → output'' ≡ appended output' begun → StopsReading pending why begun
+      → (read written : List ℕ) × (input' ≡ appended input read) × (output'' ≡ appended output written)
       × IsStopped answers s read written (record { why = why; done = done; told = done }) t
   stops s input output t input' output' pending done was why output'' begun wrote reason =
       let first : take done (stream_of was.read).commands ≡ was.commands = first_are was.read was.commands pending done was.taken was.count in (
@@ -278,8 +278,8 @@ module _ {S : Type 0} (answers : S → DebugEvent Listing → Response → S →
   pub stops_telling : (s : S) (input output : Option (List ℕ)) (t : S) (input' output' : Option (List ℕ)) (pending : List ℕ) (done : ℕ)
       → Session s input output t input' output' pending done
       → (c : Command) (rest : List ℕ) (r : Response) (u : S) → frame_in pending ≡ one_frame c rest → Answered answers t c r u
-      → (why : Why) (output'' : Option (List ℕ)) (begun : List ℕ) → output'' ≡ more output' begun → StopsTelling r why begun
-      → (read written : List ℕ) × (input' ≡ more input read) × (output'' ≡ more output written)
+      → (why : SessionFailure) (output'' : Option (List ℕ)) (begun : List ℕ) → output'' ≡ appended output' begun → StopsTelling r why begun
+      → (read written : List ℕ) × (input' ≡ appended input read) × (output'' ≡ appended output written)
       × IsStopped answers s read written (record { why = why; done = done + 1; told = done }) u
   stops_telling s input output t input' output' pending done was c rest r u found is why output'' begun wrote reason =
       let taken : Reads was.read (was.commands ++ c ∷ []) rest = reads_one was.read was.commands pending c rest was.taken found in
@@ -311,37 +311,37 @@ module _ {S : Type 0} (answers : S → DebugEvent Listing → Response → S →
   -- a command was found and answered, and its reply written
   pub goes_on : (s : S) (input output : Option (List ℕ)) (t : S) (input₁ output₁ : Option (List ℕ)) (pending : List ℕ) (done : ℕ)
       → Session s input output t input₁ output₁ pending done
-      → (input₂ output₂ : Option (List ℕ)) (read begun : List ℕ) → input₂ ≡ more input₁ read → output₂ ≡ more output₁ begun
+      → (input₂ output₂ : Option (List ℕ)) (read begun : List ℕ) → input₂ ≡ appended input₁ read → output₂ ≡ appended output₁ begun
       → (c : Command) (rest : List ℕ) → (frame_in (pending ++ read) ≡ one_frame c rest) × (begun ≡ [])
       → (r : Response) (u : S) → Answered answers t c r u
-      → (input₃ output₃ : Option (List ℕ)) → input₃ ≡ input₂ → output₃ ≡ more output₂ (reply_frame r)
+      → (input₃ output₃ : Option (List ℕ)) → input₃ ≡ input₂ → output₃ ≡ appended output₂ (reply_frame r)
       → Session s input output u input₃ output₃ rest (done + 1)
   goes_on s input output t input₁ output₁ pending done was input₂ output₂ read begun is_read is_written c rest found r u is input₃ output₃ same wrote =
       let on = reads_on s input output t input₁ output₁ pending done was input₂ read is_read in
-      let quiet : output₂ ≡ output₁ = is_written ∙ ap (more output₁) found.1 ∙ sym (more_none output₁) in
-      let written : output₃ ≡ more output₁ (reply_frame r) = wrote ∙ ap (λ (w : Option (List ℕ)). more w (reply_frame r)) quiet in
+      let quiet : output₂ ≡ output₁ = is_written ∙ ap (appended output₁) found.1 ∙ sym (more_none output₁) in
+      let written : output₃ ≡ appended output₁ (reply_frame r) = wrote ∙ ap (λ (w : Option (List ℕ)). appended w (reply_frame r)) quiet in
       subst (λ (w : Option (List ℕ)). Session s input output u w output₃ rest (done + 1)) (sym same)
       (tells_one s input output t input₂ output₁ (pending ++ read) done on c rest r u output₃ found.0 is written)
 
   -- the input ended
   pub ends_with : (s : S) (input output : Option (List ℕ)) (t : S) (input₁ output₁ : Option (List ℕ)) (pending : List ℕ) (done : ℕ)
       → Session s input output t input₁ output₁ pending done
-      → (input₂ output₂ : Option (List ℕ)) (read begun : List ℕ) → input₂ ≡ more input₁ read → output₂ ≡ more output₁ begun
+      → (input₂ output₂ : Option (List ℕ)) (read begun : List ℕ) → input₂ ≡ appended input₁ read → output₂ ≡ appended output₁ begun
       → (pending ++ read ≡ []) × (begun ≡ [])
-      → (read written : List ℕ) × (input₂ ≡ more input read) × (output₂ ≡ more output written)
+      → (read written : List ℕ) × (input₂ ≡ appended input read) × (output₂ ≡ appended output written)
       × IsServed answers s read written (record { done = done; told = done }) t
   ends_with s input output t input₁ output₁ pending done was input₂ output₂ read begun is_read is_written found =
       let on = reads_on s input output t input₁ output₁ pending done was input₂ read is_read in
-      let quiet : output₂ ≡ output₁ = is_written ∙ ap (more output₁) found.1 ∙ sym (more_none output₁) in
+      let quiet : output₂ ≡ output₁ = is_written ∙ ap (appended output₁) found.1 ∙ sym (more_none output₁) in
       let over = ends s input output t input₂ output₁ (pending ++ read) done on found.0 in
       (over.0, over.1, over.2, quiet ∙ over.3, over.4)
 
   -- no further command was found
   pub stops_with : (s : S) (input output : Option (List ℕ)) (t : S) (input₁ output₁ : Option (List ℕ)) (pending : List ℕ) (done : ℕ)
       → Session s input output t input₁ output₁ pending done
-      → (input₂ output₂ : Option (List ℕ)) (read begun : List ℕ) → input₂ ≡ more input₁ read → output₂ ≡ more output₁ begun
-      → (why : Why) → StopsReading (pending ++ read) why begun
-      → (read written : List ℕ) × (input₂ ≡ more input read) × (output₂ ≡ more output written)
+      → (input₂ output₂ : Option (List ℕ)) (read begun : List ℕ) → input₂ ≡ appended input₁ read → output₂ ≡ appended output₁ begun
+      → (why : SessionFailure) → StopsReading (pending ++ read) why begun
+      → (read written : List ℕ) × (input₂ ≡ appended input read) × (output₂ ≡ appended output written)
       × IsStopped answers s read written (record { why = why; done = done; told = done }) t
   stops_with s input output t input₁ output₁ pending done was input₂ output₂ read begun is_read is_written why reason =
       stops s input output t input₂ output₁ (pending ++ read) done
@@ -350,24 +350,24 @@ module _ {S : Type 0} (answers : S → DebugEvent Listing → Response → S →
   -- a command was found and answered, but its reply wasn't written
   pub stops_telling_with : (s : S) (input output : Option (List ℕ)) (t : S) (input₁ output₁ : Option (List ℕ)) (pending : List ℕ) (done : ℕ)
       → Session s input output t input₁ output₁ pending done
-      → (input₂ output₂ : Option (List ℕ)) (read begun : List ℕ) → input₂ ≡ more input₁ read → output₂ ≡ more output₁ begun
+      → (input₂ output₂ : Option (List ℕ)) (read begun : List ℕ) → input₂ ≡ appended input₁ read → output₂ ≡ appended output₁ begun
       → (c : Command) (rest : List ℕ) → (frame_in (pending ++ read) ≡ one_frame c rest) × (begun ≡ [])
       → (r : Response) (u : S) → Answered answers t c r u
       → (input₃ output₃ : Option (List ℕ)) → input₃ ≡ input₂
-      → (why : Why) (told : List ℕ) → output₃ ≡ more output₂ told → StopsTelling r why told
-      → (read written : List ℕ) × (input₃ ≡ more input read) × (output₃ ≡ more output written)
+      → (why : SessionFailure) (told : List ℕ) → output₃ ≡ appended output₂ told → StopsTelling r why told
+      → (read written : List ℕ) × (input₃ ≡ appended input read) × (output₃ ≡ appended output written)
       × IsStopped answers s read written (record { why = why; done = done + 1; told = done }) u
   stops_telling_with s input output t input₁ output₁ pending done was input₂ output₂ read begun is_read is_written c rest found r u is input₃ output₃ same why told wrote reason =
       let on = reads_on s input output t input₁ output₁ pending done was input₂ read is_read in
-      let quiet : output₂ ≡ output₁ = is_written ∙ ap (more output₁) found.1 ∙ sym (more_none output₁) in
+      let quiet : output₂ ≡ output₁ = is_written ∙ ap (appended output₁) found.1 ∙ sym (more_none output₁) in
       let over = stops_telling s input output t input₂ output₁ (pending ++ read) done on c rest r u found.0 is why output₃ told
-      (wrote ∙ ap (λ (w : Option (List ℕ)). more w told) quiet) reason in
+      (wrote ∙ ap (λ (w : Option (List ℕ)). appended w told) quiet) reason in
       (over.0, over.1, same ∙ over.2, over.3, over.4)
 
   -- the commands can't be counted further
   pub gives_out : (s : S) (input output : Option (List ℕ)) (t : S) (input₁ output₁ : Option (List ℕ)) (pending : List ℕ) (done : ℕ)
       → Session s input output t input₁ output₁ pending done → (all : ℕ) → done ≡ all
-      → (read written : List ℕ) × (input₁ ≡ more input read) × (output₁ ≡ more output written)
+      → (read written : List ℕ) × (input₁ ≡ appended input read) × (output₁ ≡ appended output written)
       × IsStopped answers s read written (record { why = NoMemory; done = all; told = all }) t
   gives_out s input output t input₁ output₁ pending done was all is =
       let at_end : Session s input output t input₁ output₁ pending all = subst (λ (k : ℕ). Session s input output t input₁ output₁ pending k) is was in

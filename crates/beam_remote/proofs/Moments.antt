@@ -7,7 +7,7 @@ use Rattle.beam_machine.specs.Frames.{frame_in, no_frame}
 use Rattle.beam_remote.specs.declared.memory.Counts.{Counts}
 use Rattle.beam_remote.specs.Found.{IsNeeded}
 use Rattle.beam_remote.specs.Tape.{AreTaken, Tape, moment_of, moments_of, with_read}
-use Rattle.beam_remote.specs.Told.{EachRead, Moment, more, one_read}
+use Rattle.beam_remote.specs.DeviceHistory.{EachRead, Moment, appended, one_read}
 use Rattle.beam_remote.proofs.Bytes.{joined, more_none}
 
 module _ (P : Moment → Type 0) where
@@ -31,7 +31,7 @@ module _ (P : Moment → Type 0) where
 -- one more read began, at a moment at which the bytes had no whole frame
 pub read_needed : (bytes pending read : List ℕ) (input output input' output' : Option (List ℕ)) (old mid new : Option (List Moment))
     → EachRead (IsNeeded bytes input output) old mid → new ≡ one_read mid input' output'
-    → input' ≡ more input read → pending ≡ bytes ++ read → frame_in pending ≡ no_frame → output' ≡ output → EachRead (IsNeeded bytes input output) old new
+    → input' ≡ appended input read → pending ≡ bytes ++ read → frame_in pending ≡ no_frame → output' ≡ output → EachRead (IsNeeded bytes input output) old new
 read_needed bytes pending read input output input' output' old mid new was one is_read is_pending none_left is_written =
     one_since (IsNeeded bytes input output) old mid new input' output' was one (record {
       read = read;
@@ -55,13 +55,13 @@ pub more_taken : (n m : ℕ) (cs : List Counts) → AreTaken n cs → n ≤ m �
 more_taken n m [] all within = tt
 more_taken n m (c ∷ cs) (first, others) within = (omega (arith, first, within), more_taken n m cs others within)
 
-same_moments : (t : Tape) (more : List ℕ) (cs : List Counts) → AreTaken (length t.taken) cs
-    → map (moment_of (record t { taken = t.taken ++ more })) cs ≡ map (moment_of t) cs
-same_moments t more [] all = refl
-same_moments t more (c ∷ cs) (first, others) =
+same_moments : (t : Tape) (appended : List ℕ) (cs : List Counts) → AreTaken (length t.taken) cs
+    → map (moment_of (record t { taken = t.taken ++ appended })) cs ≡ map (moment_of t) cs
+same_moments t appended [] all = refl
+same_moments t appended (c ∷ cs) (first, others) =
     ap₂ (λ (w : List ℕ) (ms : List Moment). let m : Moment = record { read = Some (take c.given t.given); written = Some w } in m ∷ ms)
-    (take-append-le c.taken t.taken more first) (same_moments t more cs others)
+    (take-append-le c.taken t.taken appended first) (same_moments t appended cs others)
 
 -- bytes that the device takes later don't change the moments of earlier reads
-pub taken_then : (t : Tape) (more : List ℕ) → AreTaken (length t.taken) t.reads → moments_of (record t { taken = t.taken ++ more }) ≡ moments_of t
-taken_then t more all = same_moments t more t.reads all
+pub taken_then : (t : Tape) (appended : List ℕ) → AreTaken (length t.taken) t.reads → moments_of (record t { taken = t.taken ++ appended }) ≡ moments_of t
+taken_then t appended all = same_moments t appended t.reads all

@@ -3,4 +3,4 @@ pub mod Loading
 pub mod Numbers
 pub mod Serving
 pub mod Tape
-pub mod Told
+pub mod DeviceHistory

@@ -9,7 +9,7 @@ use Rattle.beam_model.specs.Listing.{Listing}
 use Rattle.beam_remote.specs.declared.error.LoadError.{LoadError}
 use Rattle.beam_remote.specs.declared.error.LoadError.TheVariants.{ReadFailed, TooLong, Refused, Busy, JournalFull, BadFile, NoMemory}
 use Rattle.beam_remote.specs.Serving.{IsPrepared, IsBadFile}
-use Rattle.beam_remote.specs.Told.{one_more}
+use Rattle.beam_remote.specs.DeviceHistory.{saturating_increment}
 
 -- the most bytes of a file
 abbrev pub longest_file : ℕ
@@ -50,5 +50,5 @@ IfWhole (Err e) P = Unit {0}
 
 -- how many calls of the source had failed after a load
 abbrev pub failures_loading : {T : Type 0} → Result T LoadError → ℕ → ℕ
-failures_loading (Err ReadFailed) n = one_more n
+failures_loading (Err ReadFailed) n = saturating_increment n
 failures_loading result n = n

@@ -2,10 +2,10 @@
 use Rattle.std.specs.Prelude.{ℕ}
 use Rattle.beam_remote.specs.declared.error.LoadError.{LoadError}
 use Rattle.beam_remote.specs.declared.error.LoadError.TheVariants as load
-use Rattle.beam_remote.specs.declared.error.Why.{Why}
-use Rattle.beam_remote.specs.declared.error.Why.TheVariants.{ReadFailed, WriteFailed, CutFrame, BadFrame, NoMemory}
+use Rattle.beam_remote.specs.declared.error.SessionFailure.{SessionFailure}
+use Rattle.beam_remote.specs.declared.error.SessionFailure.TheVariants.{ReadFailed, WriteFailed, CutFrame, BadFrame, NoMemory}
 
-abbrev pub why_number : Why → ℕ
+abbrev pub why_number : SessionFailure → ℕ
 why_number ReadFailed = 1
 why_number WriteFailed = 2
 why_number CutFrame = 3

@@ -18,9 +18,9 @@ use Rattle.beam_model.specs.Heads.{IsWellFormed}
 use Rattle.beam_model.specs.Listing.{Listing}
 use Rattle.beam_remote.specs.declared.error.Served.{Served}
 use Rattle.beam_remote.specs.declared.error.ServeError.{ServeError}
-use Rattle.beam_remote.specs.declared.error.Why.{Why}
-use Rattle.beam_remote.specs.declared.error.Why.TheVariants.{ReadFailed, WriteFailed, CutFrame, BadFrame, NoMemory}
-use Rattle.beam_remote.specs.Told.{Moment, more}
+use Rattle.beam_remote.specs.declared.error.SessionFailure.{SessionFailure}
+use Rattle.beam_remote.specs.declared.error.SessionFailure.TheVariants.{ReadFailed, WriteFailed, CutFrame, BadFrame, NoMemory}
+use Rattle.beam_remote.specs.DeviceHistory.{Moment, appended}
 
 -- ---- the event of a command
 
@@ -108,7 +108,7 @@ pub record IsFrame (bytes : List ℕ) (c : Command) : Type 0 where
 -- bytes are the frames of these commands, one after another, and then the rest
 abbrev pub AreFrames : List ℕ → List Command → List ℕ → Type 0
 AreFrames bytes [] rest = bytes ≡ rest
-AreFrames bytes (c ∷ cs) rest = (frame more : List ℕ) × (bytes ≡ frame ++ more) × IsFrame frame c × AreFrames more cs rest
+AreFrames bytes (c ∷ cs) rest = (frame appended : List ℕ) × (bytes ≡ frame ++ appended) × IsFrame frame c × AreFrames appended cs rest
 
 -- ---- what is written
 
@@ -125,9 +125,9 @@ pub record AllAnswered {S : Type 0} (answers : S → DebugEvent Listing → Resp
   pub read : List ℕ
   pub responses : List Response
   pub last : S
-  pub is_read : m.read ≡ more input read
+  pub is_read : m.read ≡ appended input read
   pub answered : Serves answers s (stream_of read).commands responses last
-  pub is_written : m.written ≡ more output (reply_frames responses)
+  pub is_written : m.written ≡ appended output (reply_frames responses)
 
 -- ---- how a session ends
 
@@ -154,7 +154,7 @@ ComesNext stream done untold frame =
 
 -- why a session stopped after `done` commands, with no reply unwritten or one, and with these bytes written after the replies that were
 -- written whole
-abbrev pub StopsFor : Why → Stream → ℕ → List Response → List ℕ → Type 0
+abbrev pub StopsFor : SessionFailure → Stream → ℕ → List Response → List ℕ → Type 0
 StopsFor ReadFailed stream done untold begun = (untold ≡ []) × (begun ≡ []) × (done ≡ length stream.commands)
 StopsFor WriteFailed stream done untold begun = (left : List ℕ) × ComesNext stream done untold (begun ++ left)
 StopsFor CutFrame stream done untold begun = (untold ≡ []) × (begun ≡ []) × (stream.end ≡ inside_frame) × (done ≡ length stream.commands)

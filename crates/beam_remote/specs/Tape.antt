@@ -1,7 +1,7 @@
 -- A device over memory.
 use Rattle.std.specs.Prelude.{◌≤◌, ℕ, List, [], ◌∷◌, ◌++◌, length, map, take, Some}
 use Rattle.beam_remote.specs.declared.memory.Counts.{Counts}
-use Rattle.beam_remote.specs.Told.{Moment}
+use Rattle.beam_remote.specs.DeviceHistory.{Moment}
 
 pub record Tape : Type 0 where
   pub given : List ℕ  -- all bytes that the device has to give

@@ -16,7 +16,7 @@ pub struct Served {
 
 /// Why a session stopped.
 #[derive(Clone, Copy, Debug, PartialEq, Eq, Error)]
-pub enum Why {
+pub enum SessionFailure {
     /// A read failed.
     #[error("ReadFailed")]
     ReadFailed,
@@ -34,17 +34,17 @@ pub enum Why {
     NoMemory,
 }
 
-impl Why {
+impl SessionFailure {
     /// Its number: 1 ReadFailed, 2 WriteFailed, 3 CutFrame, 4 BadFrame, 5 NoMemory.
     pub fn number(&self) -> u8
         ensures { result ≡ why_number self.now }
     {
         match self {
-            Why::ReadFailed => 1,
-            Why::WriteFailed => 2,
-            Why::CutFrame => 3,
-            Why::BadFrame(_) => 4,
-            Why::NoMemory => 5,
+            SessionFailure::ReadFailed => 1,
+            SessionFailure::WriteFailed => 2,
+            SessionFailure::CutFrame => 3,
+            SessionFailure::BadFrame(_) => 4,
+            SessionFailure::NoMemory => 5,
         }
     }
 }
@@ -54,7 +54,7 @@ impl Why {
 #[error("{why}")]
 pub struct ServeError {
     /// Why it stopped.
-    pub why: Why,
+    pub why: SessionFailure,
     /// How many commands were answered, refused ones too.
     pub done: u64,
     /// How many replies were written whole.

@@ -6,16 +6,16 @@ mod desk;
 mod error;
 mod load;
 pub mod memory;
+mod next_command_error;
 mod port;
 mod reading;
 mod session;
 mod source;
-mod stop;
 mod tell;
 mod write;
 
 pub use desk::Desk;
-pub use error::{LoadError, ServeError, Served, Why};
+pub use error::{LoadError, ServeError, Served, SessionFailure};
 pub use load::load_path;
 pub use port::{DeviceFailed, Port};
 pub use session::serve;

@@ -1,7 +1,7 @@
 //! Files that are loaded.
 ghost use Rattle.std.specs.Prelude.{◌≡◌, ℕ, List, IfErr, IfOk, OnOk};
 ghost use Rattle.beam_remote.specs.Loading.{IfWhole, IsLoaded, IsNotLoaded, IsUnread, failures_loading};
-ghost use Rattle.beam_remote.specs.Told.{more};
+ghost use Rattle.beam_remote.specs.DeviceHistory.{appended};
 
 use crate::answer::prepare;
 use crate::desk::Desk;
@@ -17,9 +17,9 @@ const LONGEST_FILE: usize = 8_388_608;
 
 /// All bytes up to the end of the source, if they are at most 8,388,608.
 fn read_whole<F: Source>(alloc: Global, source: &mut F) -> Result<Vec<u8>, LoadError>
-    ensures whole { IfOk result (λ v. F.input source.new ≡ more (F.input source.old) v.items) }
+    ensures whole { IfOk result (λ v. F.input source.new ≡ appended (F.input source.old) v.items) }
     ensures end { OnOk result (F.at_end source.new) }
-    ensures unread { IfErr result (λ e. (bytes : List ℕ) × (F.input source.new ≡ more (F.input source.old) bytes) × IsUnread bytes e) }
+    ensures unread { IfErr result (λ e. (bytes : List ℕ) × (F.input source.new ≡ appended (F.input source.old) bytes) × IsUnread bytes e) }
     ensures failed { F.failed source.new ≡ failures_loading result (F.failed source.old) }
 {
     let mut bytes = Vec::new(alloc);
@@ -48,9 +48,9 @@ pub fn load_path<F: Source, D: Desk>(
     source: &mut F,
     desk: &mut D,
 ) -> Result<Response, LoadError>
-    ensures loaded { IfOk result (λ response. (file : List ℕ) × (F.input source.new ≡ more (F.input source.old) file)
+    ensures loaded { IfOk result (λ response. (file : List ℕ) × (F.input source.new ≡ appended (F.input source.old) file)
         × IsLoaded D.answers desk.old file response desk.new) }
-    ensures refused { IfErr result (λ e. (file : List ℕ) × (F.input source.new ≡ more (F.input source.old) file)
+    ensures refused { IfErr result (λ e. (file : List ℕ) × (F.input source.new ≡ appended (F.input source.old) file)
         × IsNotLoaded D.answers desk.old file e desk.new) }
     ensures end { IfWhole result (F.at_end source.new) }
     ensures failures { F.failed source.new ≡ failures_loading result (F.failed source.old) }

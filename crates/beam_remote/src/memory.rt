@@ -1,7 +1,7 @@
 //! A device over memory, for tests.
 ghost use Rattle.std.specs.Prelude.{◌≡◌, ◌<◌, ◌≤◌, ◌+◌, ◌∷◌, ◌++◌, ℕ, List, [], Some, OnOk, OnErr, length, min, take, vec_len};
 ghost use Rattle.beam_remote.specs.Tape.{AreTaken, Tape, given_so_far, moments_of, with_read};
-ghost use Rattle.beam_remote.specs.Told.{Moment, more, one_more};
+ghost use Rattle.beam_remote.specs.DeviceHistory.{Moment, appended, saturating_increment};
 
 use crate::port::{DeviceFailed, Port};
 use crate::source::Source;
@@ -85,7 +85,7 @@ impl Memory {
     }
 
     fn fail(&mut self) -> DeviceFailed
-        ensures { self.new ≡ record self.old { failures = one_more self.old.failures } }
+        ensures { self.new ≡ record self.old { failures = saturating_increment self.old.failures } }
     {
         self.failures = self.failures.saturating_add(1);
         DeviceFailed
@@ -95,7 +95,7 @@ impl Memory {
     fn begin_read(&mut self) -> Result<(), DeviceFailed>
         ensures begins { OnOk result (self.new ≡ with_read self.old) }
         ensures same { OnErr result (moments_of self.new ≡ moments_of self.old) }
-        ensures fails { OnErr result (self.new ≡ record self.old { failures = one_more self.old.failures }) }
+        ensures fails { OnErr result (self.new ≡ record self.old { failures = saturating_increment self.old.failures }) }
     {
         if due(&mut self.before_failed_read) {
             return Err(self.fail());
@@ -124,7 +124,7 @@ impl Memory {
     fn accept(&mut self, bytes: &[u8]) -> Result<(), DeviceFailed>
         ensures takes { OnOk result (self.new ≡ record self.old { taken = self.old.taken ++ bytes.now }) }
         ensures moments { moments_of self.new ≡ moments_of self.old }
-        ensures fails { OnErr result (self.new ≡ record self.old { failures = one_more self.old.failures }) }
+        ensures fails { OnErr result (self.new ≡ record self.old { failures = saturating_increment self.old.failures }) }
     {
         if due(&mut self.before_failed_write) {
             return Err(self.fail());

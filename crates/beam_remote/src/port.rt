@@ -1,6 +1,6 @@
 //! Devices that are read and written.
 ghost use Rattle.std.specs.Prelude.{◌≡◌, ◌<◌, ◌≤◌, ℕ, List, Option, IfOk, MatchResult, length, take};
-ghost use Rattle.beam_remote.specs.Told.{Moment, more, one_more, one_read};
+ghost use Rattle.beam_remote.specs.DeviceHistory.{Moment, appended, saturating_increment, one_read};
 
 use thiserror::Error;
 
@@ -30,19 +30,19 @@ pub trait Port {
     fn read(&mut self, buffer: &mut [u8]) -> Result<usize, DeviceFailed>
         ensures count { IfOk result (λ n. n ≤ length buffer.old) }
         ensures end { IfOk result (λ n. n ≡ 0 → 0 < length buffer.old → at_end self.new) }
-        ensures input { MatchResult result (λ n. input self.new ≡ more (input self.old) (take n buffer.new)) (λ _. input self.new ≡ input self.old) }
+        ensures input { MatchResult result (λ n. input self.new ≡ appended (input self.old) (take n buffer.new)) (λ _. input self.new ≡ input self.old) }
         ensures output { output self.new ≡ output self.old }
         ensures moments { MatchResult result (λ _. moments self.new ≡ one_read (moments self.old) (input self.old) (output self.old))
             (λ _. moments self.new ≡ moments self.old) }
-        ensures failed { MatchResult result (λ _. failed self.new ≡ failed self.old) (λ _. failed self.new ≡ one_more (failed self.old)) };
+        ensures failed { MatchResult result (λ _. failed self.new ≡ failed self.old) (λ _. failed self.new ≡ saturating_increment (failed self.old)) };
 
     /// Writes a beginning of `bytes`, and tells how many; at least one of several.
     fn write(&mut self, bytes: &[u8]) -> Result<usize, DeviceFailed>
         ensures count { IfOk result (λ n. (n ≤ length bytes.now) × (0 < length bytes.now → 0 < n)) }
-        ensures output { MatchResult result (λ n. output self.new ≡ more (output self.old) (take n bytes.now)) (λ _. output self.new ≡ output self.old) }
+        ensures output { MatchResult result (λ n. output self.new ≡ appended (output self.old) (take n bytes.now)) (λ _. output self.new ≡ output self.old) }
         ensures input { input self.new ≡ input self.old }
         ensures moments { moments self.new ≡ moments self.old }
-        ensures failed { MatchResult result (λ _. failed self.new ≡ failed self.old) (λ _. failed self.new ≡ one_more (failed self.old)) };
+        ensures failed { MatchResult result (λ _. failed self.new ≡ failed self.old) (λ _. failed self.new ≡ saturating_increment (failed self.old)) };
 
     /// How many calls failed so far, at most 2^64 - 1.
     fn failures(&self) -> u64

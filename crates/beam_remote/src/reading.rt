@@ -1,24 +1,24 @@
 //! Commands that are read from a device.
 ghost use Rattle.std.specs.Prelude.{◌≡◌, ◌++◌, ℕ, List, false, IfOk};
 ghost use Rattle.beam_frame.specs.declared.error.FrameError.TheVariants as frame;
-ghost use Rattle.beam_remote.specs.Found.{IfAtEnd, IsFound, IsNeeded, failures_reading, stop_of};
-ghost use Rattle.beam_remote.specs.Told.{EachRead, more};
+ghost use Rattle.beam_remote.specs.Found.{IfAtEnd, IsFound, IsNeeded, failures_reading, of_frame_error};
+ghost use Rattle.beam_remote.specs.DeviceHistory.{EachRead, appended};
 
+use crate::next_command_error::NextCommandError;
 use crate::port::Port;
-use crate::stop::Stop;
 use beam_frame::{FrameError, FrameReader};
 use beam_machine::command::{Command, FrameFault};
 
 /// Why a reader of frames gives no further command.
-fn stop_of(error: FrameError) -> Stop
+fn of_frame_error(error: FrameError) -> NextCommandError
     requires { error ≡ frame.Failed → ⊥ }
-    ensures { result ≡ stop_of error }
+    ensures { result ≡ of_frame_error error }
 {
     match error {
-        FrameError::TooLong => Stop::Fault(FrameFault::TooLong),
-        FrameError::BadKind => Stop::Fault(FrameFault::BadKind),
-        FrameError::BadCommand => Stop::Fault(FrameFault::BadCommand),
-        FrameError::NoMemory => Stop::NoMemory,
+        FrameError::TooLong => NextCommandError::Fault(FrameFault::TooLong),
+        FrameError::BadKind => NextCommandError::Fault(FrameFault::BadKind),
+        FrameError::BadCommand => NextCommandError::Fault(FrameFault::BadCommand),
+        FrameError::NoMemory => NextCommandError::NoMemory,
         FrameError::Failed => unreachable!(),
     }
 }
@@ -27,9 +27,9 @@ fn stop_of(error: FrameError) -> Stop
 pub(crate) fn next_command<P: Port>(
     port: &mut P,
     reader: &mut FrameReader,
-) -> Result<Option<Command>, Stop>
+) -> Result<Option<Command>, NextCommandError>
     requires { reader.old.failed ≡ false }
-    ensures found { (read : List ℕ) × (P.input port.new ≡ more (P.input port.old) read)
+    ensures found { (read : List ℕ) × (P.input port.new ≡ appended (P.input port.old) read)
         × IsFound (reader.old.pending ++ read) result reader.new.pending }
     ensures needed { EachRead (IsNeeded reader.old.pending (P.input port.old) (P.output port.old)) (P.moments port.old) (P.moments port.new) }
     ensures waits { IfOk result (λ _. reader.new.failed ≡ false) }
@@ -42,20 +42,20 @@ pub(crate) fn next_command<P: Port>(
         match reader.next() {
             Ok(Some(command)) => return Ok(Some(command)),
             Ok(None) => {}
-            Err(error) => return Err(stop_of(error)),
+            Err(error) => return Err(of_frame_error(error)),
         }
         let Ok(count) = port.read(&mut buffer) else {
-            return Err(Stop::ReadFailed);
+            return Err(NextCommandError::ReadFailed);
         };
         if count == 0 {
             return if reader.is_empty() {
                 Ok(None)
             } else {
-                Err(Stop::CutFrame)
+                Err(NextCommandError::CutFrame)
             };
         }
         let Ok(()) = reader.feed(&buffer[..count]) else {
-            return Err(Stop::NoMemory);
+            return Err(NextCommandError::NoMemory);
         };
     }
 }

@@ -2,14 +2,14 @@
 ghost use Rattle.std.specs.Prelude.{◌≡◌, ◌++◌, ℕ, List, false, IfErr, IfOk, OnOk};
 ghost use Rattle.beam_remote.specs.Found.{IfEnded, IsNeeded, IsReceived, failures_after, failures_receiving};
 ghost use Rattle.beam_remote.specs.Serving.{AllAnswered, IsServed, IsStopped};
-ghost use Rattle.beam_remote.specs.Told.{EachRead, more};
+ghost use Rattle.beam_remote.specs.DeviceHistory.{EachRead, appended};
 
 use crate::answer::answer;
 use crate::desk::Desk;
-use crate::error::{ServeError, Served, Why};
+use crate::error::{ServeError, Served, SessionFailure};
+use crate::next_command_error::NextCommandError;
 use crate::port::Port;
 use crate::reading::next_command;
-use crate::stop::Stop;
 use crate::tell::{tell, tell_fault};
 use beam_frame::FrameReader;
 use beam_machine::command::Command;
@@ -20,10 +20,10 @@ fn receive<P: Port>(
     alloc: Global,
     port: &mut P,
     reader: &mut FrameReader,
-) -> Result<Option<Command>, Why>
+) -> Result<Option<Command>, SessionFailure>
     requires { reader.old.failed ≡ false }
-    ensures received { (read begun : List ℕ) × (P.input port.new ≡ more (P.input port.old) read)
-        × (P.output port.new ≡ more (P.output port.old) begun)
+    ensures received { (read begun : List ℕ) × (P.input port.new ≡ appended (P.input port.old) read)
+        × (P.output port.new ≡ appended (P.output port.old) begun)
         × IsReceived (reader.old.pending ++ read) result reader.new.pending begun }
     ensures needed { EachRead (IsNeeded reader.old.pending (P.input port.old) (P.output port.old)) (P.moments port.old) (P.moments port.new) }
     ensures waits { IfOk result (λ _. reader.new.failed ≡ false) }
@@ -32,10 +32,10 @@ fn receive<P: Port>(
 {
     match next_command(port, reader) {
         Ok(command) => Ok(command),
-        Err(Stop::ReadFailed) => Err(Why::ReadFailed),
-        Err(Stop::CutFrame) => Err(Why::CutFrame),
-        Err(Stop::Fault(fault)) => Err(tell_fault(alloc, port, fault)),
-        Err(Stop::NoMemory) => Err(Why::NoMemory),
+        Err(NextCommandError::ReadFailed) => Err(SessionFailure::ReadFailed),
+        Err(NextCommandError::CutFrame) => Err(SessionFailure::CutFrame),
+        Err(NextCommandError::Fault(fault)) => Err(tell_fault(alloc, port, fault)),
+        Err(NextCommandError::NoMemory) => Err(SessionFailure::NoMemory),
     }
 }
 
@@ -57,17 +57,17 @@ pub fn serve<P: Port, D: Desk>(
     desk: &mut D,
 ) -> Result<Served, ServeError>
     ensures served { IfOk result (λ served. (read written : List ℕ)
-        × (P.input port.new ≡ more (P.input port.old) read)
-        × (P.output port.new ≡ more (P.output port.old) written)
+        × (P.input port.new ≡ appended (P.input port.old) read)
+        × (P.output port.new ≡ appended (P.output port.old) written)
         × IsServed D.answers desk.old read written served desk.new) }
     ensures end { OnOk result (P.at_end port.new) }
     ensures quiet { OnOk result (P.failed port.new ≡ P.failed port.old) }
 
     ensures stopped { IfErr result (λ e. (read written : List ℕ)
-        × (P.input port.new ≡ more (P.input port.old) read)
-        × (P.output port.new ≡ more (P.output port.old) written)
+        × (P.input port.new ≡ appended (P.input port.old) read)
+        × (P.output port.new ≡ appended (P.output port.old) written)
         × IsStopped D.answers desk.old read written e desk.new) }
-    ensures cut { IfErr result (λ e. e.why ≡ Why.CutFrame → P.at_end port.new) }
+    ensures cut { IfErr result (λ e. e.why ≡ SessionFailure.CutFrame → P.at_end port.new) }
     ensures failures { IfErr result (λ e. P.failed port.new ≡ failures_after e.why (P.failed port.old)) }
 
     ensures prompt { EachRead (AllAnswered D.answers desk.old (P.input port.old) (P.output port.old)) (P.moments port.old) (P.moments port.new) }
@@ -94,7 +94,7 @@ pub fn serve<P: Port, D: Desk>(
         }
     }
     Err(ServeError {
-        why: Why::NoMemory,
+        why: SessionFailure::NoMemory,
         done: u64::MAX,
         told: u64::MAX,
     })

@@ -1,6 +1,6 @@
 //! Devices that are read.
 ghost use Rattle.std.specs.Prelude.{◌≡◌, ◌<◌, ◌≤◌, ℕ, List, Option, IfOk, MatchResult, length, take};
-ghost use Rattle.beam_remote.specs.Told.{more, one_more};
+ghost use Rattle.beam_remote.specs.DeviceHistory.{appended, saturating_increment};
 
 use crate::port::DeviceFailed;
 
@@ -19,8 +19,8 @@ pub trait Source {
     fn read(&mut self, buffer: &mut [u8]) -> Result<usize, DeviceFailed>
         ensures count { IfOk result (λ n. n ≤ length buffer.old) }
         ensures end { IfOk result (λ n. n ≡ 0 → 0 < length buffer.old → at_end self.new) }
-        ensures input { MatchResult result (λ n. input self.new ≡ more (input self.old) (take n buffer.new)) (λ _. input self.new ≡ input self.old) }
-        ensures failed { MatchResult result (λ _. failed self.new ≡ failed self.old) (λ _. failed self.new ≡ one_more (failed self.old)) };
+        ensures input { MatchResult result (λ n. input self.new ≡ appended (input self.old) (take n buffer.new)) (λ _. input self.new ≡ input self.old) }
+        ensures failed { MatchResult result (λ _. failed self.new ≡ failed self.old) (λ _. failed self.new ≡ saturating_increment (failed self.old)) };
 
     /// How many calls failed so far, at most 2^64 - 1.
     fn failures(&self) -> u64

@@ -3,9 +3,9 @@ ghost use Rattle.std.specs.Prelude.{◌≡◌, ℕ, List, IfErr, OnOk};
 ghost use Rattle.beam_machine.specs.Frames.{number_of_fault};
 ghost use Rattle.beam_remote.specs.Found.{StopsTelling, TellsFault, failures_after, failures_telling};
 ghost use Rattle.beam_remote.specs.Serving.{reply_frame};
-ghost use Rattle.beam_remote.specs.Told.{more};
+ghost use Rattle.beam_remote.specs.DeviceHistory.{appended};
 
-use crate::error::Why;
+use crate::error::SessionFailure;
 use crate::port::Port;
 use crate::write::write_all;
 use beam_frame::{FrameError, encode_fault, encode_reply};
@@ -23,26 +23,30 @@ fn number_of(fault: FrameFault) -> u8
 }
 
 /// Writes the frame of a fault with which a session ends, and answers why the session ends.
-pub(crate) fn tell_fault<P: Port>(alloc: Global, port: &mut P, fault: FrameFault) -> Why
-    ensures told { (begun : List ℕ) × (P.output port.new ≡ more (P.output port.old) begun) × TellsFault fault result begun }
+pub(crate) fn tell_fault<P: Port>(alloc: Global, port: &mut P, fault: FrameFault) -> SessionFailure
+    ensures told { (begun : List ℕ) × (P.output port.new ≡ appended (P.output port.old) begun) × TellsFault fault result begun }
     ensures input { P.input port.new ≡ P.input port.old }
     ensures moments { P.moments port.new ≡ P.moments port.old }
     ensures failed { P.failed port.new ≡ failures_after result (P.failed port.old) }
 {
     let mut frame = Vec::new(alloc);
     let Ok(()) = encode_fault(fault, &mut frame) else {
-        return Why::NoMemory;
+        return SessionFailure::NoMemory;
     };
     let Ok(()) = write_all(port, &frame) else {
-        return Why::WriteFailed;
+        return SessionFailure::WriteFailed;
     };
-    Why::BadFrame(number_of(fault))
+    SessionFailure::BadFrame(number_of(fault))
 }
 
 /// Writes the frame of a reply. In place of a reply that is too long, it writes the frame of that fault, and the session ends.
-pub(crate) fn tell<P: Port>(alloc: Global, port: &mut P, response: &Response) -> Result<(), Why>
-    ensures whole { OnOk result (P.output port.new ≡ more (P.output port.old) (reply_frame response.now)) }
-    ensures stops { IfErr result (λ why. (begun : List ℕ) × (P.output port.new ≡ more (P.output port.old) begun)
+pub(crate) fn tell<P: Port>(
+    alloc: Global,
+    port: &mut P,
+    response: &Response,
+) -> Result<(), SessionFailure>
+    ensures whole { OnOk result (P.output port.new ≡ appended (P.output port.old) (reply_frame response.now)) }
+    ensures stops { IfErr result (λ why. (begun : List ℕ) × (P.output port.new ≡ appended (P.output port.old) begun)
         × StopsTelling response.now why begun) }
     ensures input { P.input port.new ≡ P.input port.old }
     ensures moments { P.moments port.new ≡ P.moments port.old }
@@ -52,11 +56,11 @@ pub(crate) fn tell<P: Port>(alloc: Global, port: &mut P, response: &Response) ->
     match encode_reply(response, &mut frame) {
         Ok(()) => {
             let Ok(()) = write_all(port, &frame) else {
-                return Err(Why::WriteFailed);
+                return Err(SessionFailure::WriteFailed);
             };
             Ok(())
         }
         Err(FrameError::TooLong) => Err(tell_fault(alloc, port, FrameFault::TooLong)),
-        Err(_) => Err(Why::NoMemory),
+        Err(_) => Err(SessionFailure::NoMemory),
     }
 }

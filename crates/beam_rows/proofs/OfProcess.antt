@@ -18,7 +18,7 @@ use Rattle.beam_machine.specs.declared.process.Tag.{Tag}
 use Rattle.beam_machine.specs.Process.{Process, ended, dropped, without_slots, with_slots, put_x}
 use Rattle.beam_machine.specs.Row.{Outcome, makes, tag_of, caught_at, unwound, illegal, returns_to, returns_from, answers, demonitored, flushed_if, changed_by, answers_true, arguments_of, after_dropping}
 use Rattle.beam_proc.specs.Does.{Does, Makes}
-use Rattle.beam_rows.specs.declared.of_process.Unwatched.{Unwatched}
+use Rattle.beam_rows.specs.declared.of_process.Demonitoring.{Demonitoring}
 use Rattle.beam_rows.proofs.Made.{made}
 use Rattle.beam_rows.specs.OfProcess.{without, leaves_without, called}
 
@@ -70,14 +70,14 @@ answers_less false t p Return v = returns_less false t (put_x p 0 v) p.frames
 -- ---- rows
 
 -- a native that takes a monitor away may answer first
-answers_without : (u : Unwatched) (p : Process) (after : After) (o : Option Process) → o ≡ Some (without u p)
+answers_without : (u : Demonitoring) (p : Process) (after : After) (o : Option Process) → o ≡ Some (without u p)
     → makes (answers_true p after o) ≡ leaves_without u (makes (answers p after (Ok (truth true))))
 answers_without u p after o h = ap (λ o. makes (answers_true p after o)) h ∙ ap makes (answers_less u.flush u.reference p after (truth true))
 
 abbrev says_true : Process → Outcome
 says_true q = makes (answers q Return (Ok (truth true)))
 
-pub drops_without : (u : Unwatched) (n : ℕ) (p : Process) (native : ProcessNative) (arity : ℕ)
+pub drops_without : (u : Demonitoring) (n : ℕ) (p : Process) (native : ProcessNative) (arity : ℕ)
     → ((q : Process) → changed_by q native (arguments_of p arity) ≡ Some (without u q)) → is_some (dropped n p p.frames) ≡ true
     → after_dropping p (dropped n p p.frames) (called native arity Return)
     ≡ leaves_without u (after_dropping p (dropped n p p.frames) says_true)
@@ -117,11 +117,11 @@ less_ended true t p reason value = refl
 less_ended false t p reason value = refl
 
 -- where the row ends the process, taking the monitor away changes nothing, since an ended process has none
-pub ends_without : (u : Unwatched) (old q : Process) (outcome : Outcome) (reason value : TermValue) → Makes old outcome (Ok (Ended reason value)) q
+pub ends_without : (u : Demonitoring) (old q : Process) (outcome : Outcome) (reason value : TermValue) → Makes old outcome (Ok (Ended reason value)) q
     → Makes old (leaves_without u outcome) (Ok (Ended reason value)) q
 ends_without u old q outcome reason value h = (ap (leaves_without u) h.0 ∙ ap makes (less_ended u.flush u.reference old reason value), h.1)
 
-pub answered_without : (u : Unwatched) (p q r : Process) (after : After) (o : Option Process) (v : TermValue) (t : Then)
+pub answered_without : (u : Demonitoring) (p q r : Process) (after : After) (o : Option Process) (v : TermValue) (t : Then)
     → o ≡ Some (without u p) → v ≡ truth true → Does p (answers p after (Ok v)) (Ok t) q
     → (Makes p (makes (answers p after (Ok v))) (Ok t) q → Makes p (leaves_without u (makes (answers p after (Ok v)))) (Ok t) r)
     → Makes p (makes (answers_true p after o)) (Ok t) r

@@ -1,9 +1,9 @@
 pub mod Asked
-pub mod Entered
+pub mod CachedCalls
 pub mod Finds
 pub mod OfProcess
 pub mod Private
 pub mod Quick
 pub mod Reads
 pub mod Spots
-pub mod Undone
+pub mod RowErrors

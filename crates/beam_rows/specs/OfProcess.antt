@@ -6,19 +6,19 @@ use Rattle.beam_machine.specs.declared.event.Then.{Then}
 use Rattle.beam_machine.specs.Process.{Process}
 use Rattle.beam_machine.specs.Row.{Outcome, makes, demonitored, flushed_if, changed_by, answers_true, arguments_of}
 use Rattle.beam_proc.specs.Does.{Makes}
-use Rattle.beam_rows.specs.declared.of_process.Unwatched.{Unwatched}
+use Rattle.beam_rows.specs.declared.of_process.Demonitoring.{Demonitoring}
 
 -- a process without its monitor of a reference, and, with `flush`, without its first message of that reference
-abbrev pub without : Unwatched → Process → Process
+abbrev pub without : Demonitoring → Process → Process
 without u p = flushed_if u.flush (demonitored p u.reference) u.reference
 
 -- an outcome whose process is without that monitor
-abbrev pub leaves_without : Unwatched → Outcome → Outcome
+abbrev pub leaves_without : Demonitoring → Outcome → Outcome
 leaves_without u (makes p) = makes (without u p)
 leaves_without u outcome = outcome
 
 -- whatever outcome a row had, with this answer, before a change of its process: after the change it has that outcome without the monitor
-abbrev pub TakesAway : Unwatched → Then → Process → Process → Type 0
+abbrev pub TakesAway : Demonitoring → Then → Process → Process → Type 0
 TakesAway u said before after =
     (old : Process) (outcome : Outcome) → Makes old outcome (Ok said) before → Makes old (leaves_without u outcome) (Ok said) after
 

@@ -7,9 +7,9 @@ ghost use Rattle.beam_model.specs.Native.{is_exit};
 ghost use Rattle.beam_proc.specs.Does.{Does};
 ghost use Rattle.beam_rows.specs.Asked.{after_drop, calls_after, enters_after, native_answers, Performs};
 
-use crate::natives::called;
+use crate::natives::native_value;
 use crate::of_process::{call_of_process, call_of_process_last};
-use crate::request::{Request, Row};
+use crate::request::{Request, RowOutcome};
 use beam_bif::name::is_exit;
 use beam_codesrv::code_table::CodeTable;
 use beam_image::callee::callee_named;
@@ -29,12 +29,12 @@ fn call_native(
     native: Native,
     arity: u32,
     after: After,
-) -> Result<Row, AllocError>
+) -> Result<RowOutcome, AllocError>
     requires { process.old.status ≡ Status.Running }
     ensures { Performs process.old (native_answers native arity after process.old) result process.new }
 {
-    let value = called(process, native, arity)?;
-    Ok(Row::Made(process.answer(after, value)?))
+    let value = native_value(process, native, arity)?;
+    Ok(RowOutcome::Made(process.return_value(after, value)?))
 }
 
 /// Enters a function, if it is there. A call that isn't in the place of a return pushes a frame first.
@@ -55,7 +55,7 @@ pub fn calls(
     process: &mut Process,
     after: After,
     callee: &Callee,
-) -> Result<Row, AllocError>
+) -> Result<RowOutcome, AllocError>
     requires { process.old.status ≡ Status.Running }
     ensures { Performs process.old (calls_after code.now callee.now after process.old) result process.new }
 {
@@ -66,16 +66,16 @@ pub fn calls(
             arity,
         } => {
             let entry = code.entry_of(module, name, *arity);
-            Ok(Row::Made(enter(process, after, entry)?))
+            Ok(RowOutcome::Made(enter(process, after, entry)?))
         }
         Callee::Native { native, arity } => call_native(process, *native, *arity, after),
-        Callee::Node { native, arity } => Ok(Row::Asks(Request::Ask {
+        Callee::Node { native, arity } => Ok(RowOutcome::Asks(Request::Ask {
             native: *native,
             arity: *arity,
             after,
         })),
         Callee::OfProcess { native, arity } => call_of_process(process, *native, *arity, after),
-        Callee::Undefined => Ok(Row::Made(process.fault(Fault::Undef)?)),
+        Callee::Undefined => Ok(RowOutcome::Made(process.fault(Fault::Undef)?)),
     }
 }
 
@@ -86,12 +86,12 @@ fn call_native_last(
     count: u32,
     native: Native,
     arity: u32,
-) -> Result<Row, AllocError>
+) -> Result<RowOutcome, AllocError>
     requires { process.old.status ≡ Status.Running }
     ensures { Performs process.old (after_drop count process.old (native_answers native arity Return)) result process.new }
 {
-    let value = called(process, native, arity)?;
-    Ok(Row::Made(process.drop_and_answer(count, value)?))
+    let value = native_value(process, native, arity)?;
+    Ok(RowOutcome::Made(process.drop_and_return_value(count, value)?))
 }
 
 /// The call of a native of the node in the place of a return, after the dropping of y registers.
@@ -101,18 +101,18 @@ fn ask_dropping(
     count: u32,
     native: NodeNative,
     arity: u32,
-) -> Result<Row, AllocError>
+) -> Result<RowOutcome, AllocError>
     requires { process.old.status ≡ Status.Running }
     ensures { Performs process.old (after_drop count process.old (λ q. asks q native arity Return)) result process.new }
 {
     if process.can_drop(count) {
-        Ok(Row::Asks(Request::AskDropping {
+        Ok(RowOutcome::Asks(Request::AskDropping {
             dropped: count,
             native,
             arity,
         }))
     } else {
-        Ok(Row::Made(process.illegal()?))
+        Ok(RowOutcome::Made(process.illegal()?))
     }
 }
 
@@ -122,7 +122,7 @@ fn calls_dropping(
     process: &mut Process,
     count: u32,
     callee: &Callee,
-) -> Result<Row, AllocError>
+) -> Result<RowOutcome, AllocError>
     requires { process.old.status ≡ Status.Running }
     ensures { Performs process.old (after_drop count process.old (λ q. calls_only code.now callee.now q)) result process.new }
 {
@@ -133,26 +133,26 @@ fn calls_dropping(
             arity,
         } => {
             let entry = code.entry_of(module, name, *arity);
-            Ok(Row::Made(process.drop_and_enter(count, entry)?))
+            Ok(RowOutcome::Made(process.drop_and_enter(count, entry)?))
         }
         Callee::Native { native, arity } => call_native_last(process, count, *native, *arity),
         Callee::Node { native, arity } => ask_dropping(process, count, *native, *arity),
         Callee::OfProcess { native, arity } => {
             call_of_process_last(process, count, *native, *arity)
         }
-        Callee::Undefined => Ok(Row::Made(process.drop_and_fault(count, Fault::Undef)?)),
+        Callee::Undefined => Ok(RowOutcome::Made(process.drop_and_fault(count, Fault::Undef)?)),
     }
 }
 
 /// The call of a native that never returns, after the dropping of all y registers.
 #[tactic(auto, using(crate::proofs::Exits::exit_raises))]
-fn call_exit(process: &mut Process, native: Native, arity: u32) -> Result<Row, AllocError>
+fn call_exit(process: &mut Process, native: Native, arity: u32) -> Result<RowOutcome, AllocError>
     requires runs { process.old.status ≡ Status.Running }
     requires exits { is_exit native ≡ true }
     ensures { Performs process.old (native_answers native arity Return (bared process.old)) result process.new }
 {
-    match called(process, native, arity)? {
-        Err(exception) => Ok(Row::Made(process.bare_and_raise(exception)?)),
+    match native_value(process, native, arity)? {
+        Err(exception) => Ok(RowOutcome::Made(process.bare_and_raise(exception)?)),
         Ok(_) => unreachable!(),
     }
 }
@@ -163,7 +163,7 @@ pub fn calls_last(
     process: &mut Process,
     count: u32,
     callee: &Callee,
-) -> Result<Row, AllocError>
+) -> Result<RowOutcome, AllocError>
     requires { process.old.status ≡ Status.Running }
     ensures { Performs process.old (calls_last code.now count callee.now process.old) result process.new }
 {
@@ -202,13 +202,13 @@ pub fn apply(
     process: &mut Process,
     next: Place,
     arity: u32,
-) -> Result<Row, AllocError>
+) -> Result<RowOutcome, AllocError>
     requires { process.old.status ≡ Status.Running }
     ensures { Performs process.old (applies process.old (λ c. calls code.now c next process.old) (callee_at process.old arity)) result process.new }
 {
     match callee_at(process, arity)? {
         Some(callee) => calls(code, process, After::NextRow(next), &callee),
-        None => Ok(Row::Made(process.fault(Fault::Badarg)?)),
+        None => Ok(RowOutcome::Made(process.fault(Fault::Badarg)?)),
     }
 }
 
@@ -219,12 +219,12 @@ pub fn apply_last(
     process: &mut Process,
     count: u32,
     arity: u32,
-) -> Result<Row, AllocError>
+) -> Result<RowOutcome, AllocError>
     requires { process.old.status ≡ Status.Running }
     ensures { Performs process.old (after_drop count process.old (λ q. applies q (λ c. calls_only code.now c q) (callee_at q arity))) result process.new }
 {
     match callee_at(process, arity)? {
         Some(callee) => calls_dropping(code, process, count, &callee),
-        None => Ok(Row::Made(process.drop_and_fault(count, Fault::Badarg)?)),
+        None => Ok(RowOutcome::Made(process.drop_and_fault(count, Fault::Badarg)?)),
     }
 }

@@ -5,7 +5,7 @@ ghost use Rattle.beam_machine.specs.Row.{computes};
 ghost use Rattle.beam_proc.specs.Does.{Does};
 ghost use Rattle.beam_shape_laws.specs.Finds.{HasValue, compute_reads};
 
-use crate::natives::given;
+use crate::natives::native_result;
 use crate::operand::source_there;
 use beam_bif::call::{call0, call1, call2};
 use beam_machine::action::{Compute, OnFault, Register, Source};
@@ -34,7 +34,7 @@ fn compute0(
             process.store(next, dest, own)
         }
         Nullary::Node => {
-            let computed = given(call0(alloc, native, &Term::nil()))?;
+            let computed = native_result(call0(alloc, native, &Term::nil()))?;
             process.store_computed(next, dest, fail, computed)
         }
     }
@@ -54,7 +54,7 @@ fn compute1(
 {
     let nil = Term::nil();
     let argument = source_there(process, &nil, source);
-    let computed = given(call1(process.alloc(), native, argument))?;
+    let computed = native_result(call1(process.alloc(), native, argument))?;
     process.store_computed(next, dest, fail, computed)
 }
 
@@ -75,7 +75,7 @@ fn compute2(
     let nil = Term::nil();
     let left = source_there(process, &nil, left);
     let right = source_there(process, &nil, right);
-    let computed = given(call2(process.alloc(), native, left, right))?;
+    let computed = native_result(call2(process.alloc(), native, left, right))?;
     process.store_computed(next, dest, fail, computed)
 }
 

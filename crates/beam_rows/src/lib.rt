@@ -2,14 +2,13 @@
 //! the process answers the end and isn't executed: the caller ends the process.
 #![tactic(auto)]
 
+mod call_cache;
 mod calls;
 mod catching;
 mod choosing;
 mod computes;
 mod controls;
 mod data;
-mod decoded;
-mod entered;
 mod fetch;
 mod leaving;
 mod making;
@@ -19,14 +18,15 @@ mod native_rows;
 mod natives;
 mod of_process;
 mod operand;
-mod plain;
-mod plain_others;
 mod quick;
+mod rare_record_rows;
 mod receiving;
+mod record_rows;
 pub mod request;
 mod row;
+mod row_error;
+mod rows_without_record;
 pub mod run;
 pub mod spots;
 mod stacks;
 mod tests;
-mod undone;

@@ -13,9 +13,9 @@ ghost use Rattle.beam_rows.specs.Asked.{Performs, duration, without_exception};
 ghost use Rattle.beam_shape_laws.specs.Finds.{HasRow, HasValue, IsThere, messaging_reads, messaging_targets, messaging_writes};
 
 use crate::operand::source_there;
-use crate::receiving::{peek_row, remove_row, skip_row, timeout_row};
-use crate::request::{Request, Row};
-use crate::undone::finish;
+use crate::receiving::{loop_rec_end_row, loop_rec_row, remove_message_row, timeout_row};
+use crate::request::{Request, RowOutcome};
+use crate::row_error::finish;
 use beam_machine::action::{Messaging, Register, Source};
 use beam_machine::callee::After;
 use beam_machine::event::Then;
@@ -48,22 +48,22 @@ fn send_nowhere(process: &mut Process, next: Place) -> Result<Then, AllocError>
     process.store(next, Register::X(0), message)
 }
 
-fn send(process: &mut Process, next: Place) -> Result<Row, AllocError>
+fn send(process: &mut Process, next: Place) -> Result<RowOutcome, AllocError>
     requires { process.old.status ≡ Status.Running }
     ensures { Performs process.old (sends_to process.old next (read_x process.old.x 0)) result process.new }
 {
     let nil = Term::nil();
     match process.read_x(&nil, 0).view() {
         TermView::Pid(pid) => match own_number(pid) {
-            Some(to) => Ok(Row::Asks(Request::Send { to, next })),
-            None => Ok(Row::Made(send_nowhere(process, next)?)),
+            Some(to) => Ok(RowOutcome::Asks(Request::Send { to, next })),
+            None => Ok(RowOutcome::Made(send_nowhere(process, next)?)),
         },
-        TermView::Atom(_) => Ok(Row::Asks(Request::Ask {
+        TermView::Atom(_) => Ok(RowOutcome::Asks(Request::Ask {
             native: NodeNative::Send,
             arity: 2,
             after: After::NextRow(next),
         })),
-        _ => Ok(Row::Made(process.fault(Fault::Badarg)?)),
+        _ => Ok(RowOutcome::Made(process.fault(Fault::Badarg)?)),
     }
 }
 
@@ -85,13 +85,13 @@ fn wait_at(
     next: Place,
     at: usize,
     milliseconds: u32,
-) -> Result<Row, AllocError>
+) -> Result<RowOutcome, AllocError>
     requires { process.old.status ≡ Status.Running }
     ensures { Performs process.old (waits_for process.old next (Some at) (Some (time.milliseconds milliseconds))) result process.new }
 {
     match process.wait_for(next, Some(at), milliseconds)? {
-        Some(then) => Ok(Row::Made(then)),
-        None => Ok(Row::Asks(Request::Sleep {
+        Some(then) => Ok(RowOutcome::Made(then)),
+        None => Ok(RowOutcome::Asks(Request::Sleep {
             milliseconds,
             at,
             next,
@@ -105,7 +105,7 @@ fn wait_timeout(
     next: Place,
     at: usize,
     duration: &Source<'_>,
-) -> Result<Row, AllocError>
+) -> Result<RowOutcome, AllocError>
     requires runs { process.old.status ≡ Status.Running }
     requires value { HasValue process.old duration.now }
     ensures { Performs process.old (waits_with process.old next (Some at) (read process.old duration.now)) result process.new }
@@ -113,8 +113,8 @@ fn wait_timeout(
     let nil = Term::nil();
     match duration_of(source_there(process, &nil, duration)) {
         Some(Some(milliseconds)) => wait_at(process, next, at, milliseconds),
-        Some(None) => Ok(Row::Made(process.wait(next.instance(), Some(at))?)),
-        None => Ok(Row::Made(process.fault(Fault::TimeoutValue)?)),
+        Some(None) => Ok(RowOutcome::Made(process.wait(next.instance(), Some(at))?)),
+        None => Ok(RowOutcome::Made(process.fault(Fault::TimeoutValue)?)),
     }
 }
 
@@ -135,7 +135,7 @@ pub(crate) fn message_rows(
     process: &mut Process,
     next: Place,
     messaging: &Messaging<'_>,
-) -> Result<Row, AllocError>
+) -> Result<RowOutcome, AllocError>
     requires runs { process.old.status ≡ Status.Running }
     requires stands { (here : ThePlace) × (process.old.goes ≡ At here) }
     requires values { AllByRecursion (HasValue process.old) (messaging_reads messaging.now) }
@@ -147,18 +147,18 @@ pub(crate) fn message_rows(
     match messaging {
         Messaging::Send => send(process, next),
         Messaging::Peek { dest, fail } => {
-            let row = peek_row(process, next, *dest, row_there(*fail));
+            let row = loop_rec_row(process, next, *dest, row_there(*fail));
             finish(process, next.instance(), row)
         }
         Messaging::Skip(target) => {
-            let row = skip_row(process, next, row_there(*target));
+            let row = loop_rec_end_row(process, next, row_there(*target));
             finish(process, next.instance(), row)
         }
         Messaging::Remove => {
-            let row = remove_row(process, next);
+            let row = remove_message_row(process, next);
             finish(process, next.instance(), row)
         }
-        Messaging::Wait(target) => Ok(Row::Made(process.wait(next.instance(), *target)?)),
+        Messaging::Wait(target) => Ok(RowOutcome::Made(process.wait(next.instance(), *target)?)),
         Messaging::WaitTimeout { target, duration } => {
             wait_timeout(process, next, row_there(*target), duration)
         }
@@ -166,6 +166,8 @@ pub(crate) fn message_rows(
             let row = timeout_row(process, next);
             finish(process, next.instance(), row)
         }
-        Messaging::Reads(_) | Messaging::ReadsBoth { .. } => Ok(Row::Made(process.go_on(next))),
+        Messaging::Reads(_) | Messaging::ReadsBoth { .. } => Ok(RowOutcome::Made(process.go_on(
+            next,
+        ))),
     }
 }

@@ -16,7 +16,9 @@ use beam_term::Term;
 use std::alloc::AllocError;
 
 /// What a native gave, a value or an exception. `Err` where memory was refused.
-pub fn given(computed: Result<Term, NativeError>) -> Result<Result<Term, Exception>, AllocError>
+pub fn native_result(
+    computed: Result<Term, NativeError>,
+) -> Result<Result<Term, Exception>, AllocError>
     ensures { (value : Result TermValue TheException) → Gives computed value → IfOk result (λ g. g ≡ value) }
 {
     match computed {
@@ -29,7 +31,7 @@ pub fn given(computed: Result<Term, NativeError>) -> Result<Result<Term, Excepti
 /// The value or the exception of a native, called with the first x registers. Memory for the pid is taken only where the native may read
 /// it.
 #[tactic(auto, using(crate::proofs::Pids::without_pid))]
-pub fn called(
+pub fn native_value(
     process: &Process,
     native: Native,
     arity: u32,
@@ -42,5 +44,5 @@ pub fn called(
         Native::Unary(_) | Native::Binary(_) | Native::Ternary(_) => Term::nil(),
     };
     let arguments = process.arguments(arity)?;
-    given(call(alloc, native, &arguments, &own))
+    native_result(call(alloc, native, &arguments, &own))
 }

@@ -6,7 +6,7 @@ ghost use Rattle.beam_machine.specs.Row.{flush_in, demonitors, changed_by, argum
 ghost use Rattle.beam_rows.specs.Asked.{Performs};
 ghost use Rattle.beam_rows.specs.OfProcess.{without, called, TakesAway};
 
-use crate::request::Row;
+use crate::request::RowOutcome;
 use beam_machine::callee::After;
 use beam_machine::event::Then;
 use beam_machine::process::Status;
@@ -18,7 +18,7 @@ use std::alloc::AllocError;
 
 /// A reference that isn't to be monitored, and whether its first message is to go too.
 #[derive(Drop)]
-struct Unwatched {
+struct Demonitoring {
     reference: Term,
     flush: bool,
 }
@@ -38,11 +38,14 @@ fn flush_in(options: &Term) -> Option<bool>
 }
 
 /// What demonitor does with this reference. `None` where it is none, or the options are wrong.
-fn unwatching(reference: &Term, flush: Option<bool>) -> Result<Option<Unwatched>, AllocError>
+fn demonitoring_of(
+    reference: &Term,
+    flush: Option<bool>,
+) -> Result<Option<Demonitoring>, AllocError>
     ensures { (q : TheProcess) → IfOk result (λ u. demonitors q reference.now flush ≡ option_map (λ u. without u q) u) }
 {
     match (reference.view(), flush) {
-        (TermView::Reference(_), Some(flush)) => Ok(Some(Unwatched {
+        (TermView::Reference(_), Some(flush)) => Ok(Some(Demonitoring {
             reference: reference.clone()?,
             flush,
         })),
@@ -56,16 +59,16 @@ fn change_of(
     process: &Process,
     native: ProcessNative,
     arity: u32,
-) -> Result<Option<Unwatched>, AllocError>
+) -> Result<Option<Demonitoring>, AllocError>
     ensures { (q : TheProcess) → IfOk result (λ u. changed_by q native (arguments_of process.now arity) ≡ option_map (λ u. without u q) u) }
 {
     let nil = Term::nil();
     let ProcessNative::Demonitor = native;
     match arity {
-        1 => unwatching(process.read_x(&nil, 0), Some(false)),
+        1 => demonitoring_of(process.read_x(&nil, 0), Some(false)),
         2 => {
             let flush = flush_in(process.read_x(&nil, 1));
-            unwatching(process.read_x(&nil, 0), flush)
+            demonitoring_of(process.read_x(&nil, 0), flush)
         }
         _ => Ok(None),
     }
@@ -73,7 +76,7 @@ fn change_of(
 
 /// Makes the change, once the row was answered. A row that ends the process leaves nothing to change.
 #[tactic(auto, using(crate::proofs::OfProcess::ends_without))]
-fn change(process: &mut Process, change: &Unwatched, answered: &Then)
+fn change(process: &mut Process, change: &Demonitoring, answered: &Then)
     ensures { TakesAway change.now answered.now process.old process.new }
 {
     if !matches!(answered, Then::Ended { .. }) {
@@ -87,17 +90,17 @@ pub(crate) fn call_of_process(
     native: ProcessNative,
     arity: u32,
     after: After,
-) -> Result<Row, AllocError>
+) -> Result<RowOutcome, AllocError>
     requires { process.old.status ≡ Status.Running }
     ensures { Performs process.old (called native arity after process.old) result process.new }
 {
-    let Some(unwatched) = change_of(process, native, arity)? else {
-        return Ok(Row::Made(process.fault(Fault::Badarg)?));
+    let Some(demonitoring) = change_of(process, native, arity)? else {
+        return Ok(RowOutcome::Made(process.fault(Fault::Badarg)?));
     };
     let value = process.known().truth(true)?;
-    let then = process.answer(after, Ok(value))?;
-    change(process, &unwatched, &then);
-    Ok(Row::Made(then))
+    let then = process.return_value(after, Ok(value))?;
+    change(process, &demonitoring, &then);
+    Ok(RowOutcome::Made(then))
 }
 
 /// Calls a native that changes its process alone, in the place of a return, after `count` y registers are dropped. All memory is taken
@@ -108,18 +111,18 @@ pub(crate) fn call_of_process_last(
     count: u32,
     native: ProcessNative,
     arity: u32,
-) -> Result<Row, AllocError>
+) -> Result<RowOutcome, AllocError>
     requires { process.old.status ≡ Status.Running }
     ensures { Performs process.old (after_dropping process.old (dropped count process.old process.old.frames) (called native arity Return)) result process.new }
 {
     if !process.can_drop(count) {
-        return Ok(Row::Made(process.illegal()?));
+        return Ok(RowOutcome::Made(process.illegal()?));
     }
-    let Some(unwatched) = change_of(process, native, arity)? else {
-        return Ok(Row::Made(process.drop_and_fault(count, Fault::Badarg)?));
+    let Some(demonitoring) = change_of(process, native, arity)? else {
+        return Ok(RowOutcome::Made(process.drop_and_fault(count, Fault::Badarg)?));
     };
     let value = process.known().truth(true)?;
-    let then = process.drop_and_answer(count, Ok(value))?;
-    change(process, &unwatched, &then);
-    Ok(Row::Made(then))
+    let then = process.drop_and_return_value(count, Ok(value))?;
+    change(process, &demonitoring, &then);
+    Ok(RowOutcome::Made(then))
 }

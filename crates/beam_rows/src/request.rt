@@ -35,7 +35,7 @@ pub enum Request {
 
 /// What a row comes to.
 #[derive(Drop)]
-pub enum Row {
+pub enum RowOutcome {
     /// The row is executed, and this is how the process stands. A row that ends the process isn't executed, and this is its end.
     Made(Then),
     /// The row asks something of the node, and nothing has changed.

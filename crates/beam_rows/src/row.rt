@@ -15,10 +15,10 @@ use crate::controls::controls;
 use crate::data::moves;
 use crate::fetch::Fetcher;
 use crate::messaging::message_rows;
-use crate::request::Row;
+use crate::request::RowOutcome;
+use crate::row_error::finish;
 use crate::stacks::stacks;
 use crate::tests::tests;
-use crate::undone::finish;
 use beam_codesrv::code_table::CodeTable;
 use beam_image::callee::callee_named;
 use beam_machine::action::{Action, Step};
@@ -34,7 +34,7 @@ fn perform(
     process: &mut Process,
     next: Place,
     action: &Action<'_>,
-) -> Result<Row, AllocError>
+) -> Result<RowOutcome, AllocError>
     requires runs { process.old.status ≡ Status.Running }
     requires stands { (here : ThePlace) × (process.old.goes ≡ At here) }
     requires finds { Finds action.now process.old }
@@ -46,9 +46,9 @@ fn perform(
             let Some(at) = tests(process, next, test, *fail) else {
                 unreachable!();
             };
-            Ok(Row::Made(process.go_on(Place::new(next.instance(), at))))
+            Ok(RowOutcome::Made(process.go_on(Place::new(next.instance(), at))))
         }
-        Action::Compute { compute, fail } => Ok(Row::Made(computes(
+        Action::Compute { compute, fail } => Ok(RowOutcome::Made(computes(
             process, next, compute, *fail,
         )?)),
         Action::Data(data) => {
@@ -60,7 +60,7 @@ fn perform(
             let row = stacks(process, next, stack);
             finish(process, next.instance(), row)
         }
-        Action::Catching(catching) => Ok(Row::Made(catch_rows(process, next, catching)?)),
+        Action::Catching(catching) => Ok(RowOutcome::Made(catch_rows(process, next, catching)?)),
         Action::Messaging(messaging) => message_rows(process, next, messaging),
     }
 }
@@ -72,7 +72,7 @@ fn row_at(
     process: &mut Process,
     place: Place,
     step: Option<Step<'_>>,
-) -> Result<Row, AllocError>
+) -> Result<RowOutcome, AllocError>
     requires runs { process.old.status ≡ Status.Running }
     requires stands { process.old.goes ≡ At place }
     requires there { step ≡ step_of code.now place }
@@ -85,7 +85,7 @@ fn row_at(
             let next = Place::new(place.instance(), step.next);
             perform(code, process, next, &step.action)
         }
-        None => Ok(Row::Made(process.illegal()?)),
+        None => Ok(RowOutcome::Made(process.illegal()?)),
     }
 }
 
@@ -94,7 +94,7 @@ fn row_at(
 pub(crate) fn private_row(
     fetcher: &mut Fetcher<'_>,
     process: &mut Process,
-) -> Result<Row, AllocError>
+) -> Result<RowOutcome, AllocError>
     requires runs { process.old.status ≡ Status.Running }
     requires finds { FindsNext fetcher.old process.old.goes process.old }
     ensures code { fetcher.new ≡ fetcher.old }
@@ -115,6 +115,6 @@ pub(crate) fn private_row(
             let callee = callee_named(module, function, *arity)?;
             calls(fetcher.code(), process, After::Return, &callee)
         }
-        Goes::Nowhere => Ok(Row::Made(process.illegal()?)),
+        Goes::Nowhere => Ok(RowOutcome::Made(process.illegal()?)),
     }
 }

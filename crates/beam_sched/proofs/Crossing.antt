@@ -17,7 +17,7 @@ use Rattle.beam_agenda.specs.contracts.agenda.Agenda as Agenda
 use Rattle.beam_agenda.specs.contracts.agenda.Agenda.TheInside as Agenda_inside
 use Rattle.beam_agenda.specs.contracts.flags.Flags as Flags
 use Rattle.beam_agenda.specs.contracts.times.Times as Times
-use Rattle.beam_code.proofs.instruction.Places.TheSendSync as Places_crossing
+use Rattle.beam_code.proofs.instruction.ChunkLayout.TheSendSync as ChunkLayout_crossing
 use Rattle.beam_code.specs.contracts.bytes.CodeBytes as CodeBytes
 use Rattle.beam_code.specs.contracts.bytes.CodeBytes.TheInside as CodeBytes_inside
 use Rattle.beam_codesrv.specs.contracts.code_table.CodeTable as CodeTable
@@ -28,20 +28,20 @@ use Rattle.beam_codesrv.specs.contracts.versions.Versions as Versions
 use Rattle.beam_codesrv.specs.contracts.versions.Versions.TheInside as Versions_inside
 use Rattle.beam_core.specs.contracts.node.Core as Core
 use Rattle.beam_core.specs.contracts.node.Core.TheInside as Core_inside
-use Rattle.beam_debug.proofs.marks.Marks.TheSendSync as Marks_crossing
+use Rattle.beam_debug.proofs.debug_state.DebugState.TheSendSync as DebugState_crossing
 use Rattle.beam_debug.specs.contracts.debugger.Debugger as Debugger
 use Rattle.beam_debug.specs.contracts.debugger.Debugger.TheInside as Debugger_inside
-use Rattle.beam_image.proofs.entries.Entries.TheSendSync as Entries_crossing
+use Rattle.beam_image.proofs.entry_points.EntryPoints.TheSendSync as EntryPoints_crossing
 use Rattle.beam_shapes.proofs.label_rows.LabelRows.TheSendSync as LabelRows_crossing
-use Rattle.beam_image.proofs.records.Records.TheSendSync as Records_crossing
+use Rattle.beam_image.proofs.record_table.RecordTable.TheSendSync as RecordTable_crossing
 use Rattle.beam_image.specs.contracts.code.LinkedCode as LinkedCode
 use Rattle.beam_image.specs.contracts.code.LinkedCode.TheInside as LinkedCode_inside
-use Rattle.beam_image.specs.contracts.body.Body as Body
-use Rattle.beam_image.specs.contracts.body.Body.TheInside as Body_inside
+use Rattle.beam_image.specs.contracts.image_inner.ImageInner as ImageInner
+use Rattle.beam_image.specs.contracts.image_inner.ImageInner.TheInside as ImageInner_inside
 use Rattle.beam_image.specs.contracts.image.Image as Image
 use Rattle.beam_image.specs.contracts.image.Image.TheInside as Image_inside
-use Rattle.beam_image.specs.contracts.kept.KeptList as KeptList
-use Rattle.beam_image.specs.contracts.kept.Lists as Lists
+use Rattle.beam_image.specs.contracts.operand_lists.OperandList as OperandList
+use Rattle.beam_image.specs.contracts.operand_lists.OperandLists as OperandLists
 use Rattle.beam_journal.specs.contracts.entry.Entry as Entry
 use Rattle.beam_journal.specs.contracts.entry.Entry.TheInside as Entry_inside
 use Rattle.beam_journal.specs.contracts.journal.Journal as Journal
@@ -51,7 +51,7 @@ use Rattle.beam_machine.proofs.action.SizeChoices.TheSendSync as SizeChoices_cro
 use Rattle.beam_machine.proofs.callee.Callee.TheSendSync as Callee_crossing
 use Rattle.beam_machine.proofs.choice_index.ChoiceIndex.TheSendSync as ChoiceIndex_crossing
 use Rattle.beam_machine.proofs.debug.Spot.TheSendSync as Spot_crossing
-use Rattle.beam_machine.proofs.event.Mode.TheSendSync as Mode_crossing
+use Rattle.beam_machine.proofs.event.UpgradeMode.TheSendSync as UpgradeMode_crossing
 use Rattle.beam_machine.proofs.process.Deadline.TheSendSync as Deadline_crossing
 use Rattle.beam_machine.proofs.process.Goes.TheSendSync as Goes_crossing
 use Rattle.beam_machine.specs.contracts.action.Choice as Choice
@@ -63,7 +63,7 @@ use Rattle.beam_machine.specs.contracts.action.Updates as Updates
 use Rattle.beam_machine.specs.contracts.action.Updates.TheInside as Updates_inside
 use Rattle.beam_machine.specs.contracts.choices.Choices as Choices
 use Rattle.beam_machine.specs.contracts.choices.Choices.TheInside as Choices_inside
-use Rattle.beam_machine.specs.contracts.choices.Table as Table
+use Rattle.beam_machine.specs.contracts.choices.ChoiceTable as ChoiceTable
 use Rattle.beam_machine.specs.contracts.debug.DebugEvent as DebugEvent
 use Rattle.beam_machine.specs.contracts.event.Event as Event
 use Rattle.beam_machine.specs.contracts.event.Images as Images
@@ -86,7 +86,7 @@ use Rattle.beam_model.proofs.function.Import.TheSendSync as Import_crossing
 use Rattle.beam_model.proofs.native.Native.TheSendSync as Native_crossing
 use Rattle.beam_model.proofs.place.Place.TheSendSync as Place_crossing
 use Rattle.beam_model.specs.contracts.exception.Exception as Exception
-use Rattle.beam_proc.specs.contracts.entry.Kept as Kept
+use Rattle.beam_proc.specs.contracts.entry.EntryState as EntryState
 use Rattle.beam_proc.specs.contracts.entry.ProcessEntry as ProcessEntry
 use Rattle.beam_proc.specs.contracts.entry.ProcessEntry.TheInside as ProcessEntry_inside
 use Rattle.beam_proc.specs.contracts.known.Atoms as Atoms
@@ -95,34 +95,34 @@ use Rattle.beam_proc.specs.contracts.known.Known.TheInside as Known_inside
 use Rattle.beam_proc.specs.contracts.process.Process as Process
 use Rattle.beam_proc.specs.contracts.process.Process.TheInside as Process_inside
 use Rattle.beam_receipts.proofs.keeper.Keeper.TheSendSync as Keeper_crossing
-use Rattle.beam_queue.specs.declared.name.Queues as Queues
-use Rattle.beam_receipts.specs.declared.room.Room as Room
-use Rattle.beam_sched.proofs.baton.Baton.TheSendSync as Baton_crossing
-use Rattle.beam_sched.proofs.filling.Filling.TheSendSync as Filling_crossing
-use Rattle.beam_sched.proofs.idle.Idle.TheSendSync as Idle_crossing
-use Rattle.beam_sched.proofs.looks.Looks.TheSendSync as Looks_crossing
-use Rattle.beam_sched.proofs.marks.Marks.TheSendSync as NodeMarks_crossing
-use Rattle.beam_sched.proofs.moments.Moments.TheSendSync as Moments_crossing
+use Rattle.beam_queue.specs.declared.brand.QueueBrand as QueueBrand
+use Rattle.beam_receipts.specs.declared.brand.NodeBrand as NodeBrand
+use Rattle.beam_sched.proofs.short_slice_token.ShortSliceToken.TheSendSync as ShortSliceToken_crossing
+use Rattle.beam_sched.proofs.journal_usage.JournalUsage.TheSendSync as JournalUsage_crossing
+use Rattle.beam_sched.proofs.idle_workers.IdleWorkers.TheSendSync as IdleWorkers_crossing
+use Rattle.beam_sched.proofs.scan_state.ScanState.TheSendSync as ScanState_crossing
+use Rattle.beam_sched.proofs.queue_states.QueueStates.TheSendSync as QueueStates_crossing
+use Rattle.beam_sched.proofs.node_clock.NodeClock.TheSendSync as NodeClock_crossing
 use Rattle.beam_sched.proofs.pool.Pool.TheSendSync as Pool_crossing
-use Rattle.beam_sched.proofs.signs.Signs.TheSendSync as Signs_crossing
-use Rattle.beam_sched.proofs.station.Station.TheSendSync as Station_crossing
-use Rattle.beam_sched.specs.contracts.marked.Marked as Marked
+use Rattle.beam_sched.proofs.scan_hint.ScanHint.TheSendSync as ScanHint_crossing
+use Rattle.beam_sched.proofs.thread_context.ThreadContext.TheSendSync as ThreadContext_crossing
+use Rattle.beam_sched.specs.contracts.locked_node.LockedNode as LockedNode
 use Rattle.beam_sched.specs.contracts.pool.Pool as Pool
 use Rattle.beam_sched.specs.contracts.shared.Shared as Shared
-use Rattle.beam_sched.specs.contracts.station.Station as Station
-use Rattle.beam_shared.proofs.outs.OutEntry.TheSendSync as OutEntry_crossing
-use Rattle.beam_shared.specs.contracts.context.Body as SharedBody
-use Rattle.beam_shared.specs.contracts.context.Body.TheInside as SharedBody_inside
-use Rattle.beam_shared.specs.contracts.context.Context as Context
-use Rattle.beam_shared.specs.contracts.context.Context.TheInside as Context_inside
+use Rattle.beam_sched.specs.contracts.thread_context.ThreadContext as ThreadContext
+use Rattle.beam_shared.proofs.checked_out.CheckoutEntry.TheSendSync as CheckoutEntry_crossing
+use Rattle.beam_shared.specs.contracts.code_context.ContextParts as ContextParts
+use Rattle.beam_shared.specs.contracts.code_context.ContextParts.TheInside as ContextParts_inside
+use Rattle.beam_shared.specs.contracts.code_context.CodeContext as CodeContext
+use Rattle.beam_shared.specs.contracts.code_context.CodeContext.TheInside as CodeContext_inside
 use Rattle.beam_shared.specs.contracts.node.Node as Node
 use Rattle.beam_shared.specs.contracts.node.Node.TheInside as Node_inside
 use Rattle.beam_stack.specs.contracts.frames.Frames as Frames
 use Rattle.beam_stack.specs.contracts.frames.Frames.TheInside as Frames_inside
-use Rattle.beam_stack.specs.contracts.word.Inside as Inside
+use Rattle.beam_stack.specs.contracts.word.PackedWord as PackedWord
 use Rattle.beam_stack.specs.contracts.word.Word as Word
 use Rattle.beam_stack.specs.contracts.word.Word.TheInside as Word_inside
-use Rattle.beam_state.proofs.watched.Watched.TheSendSync as Watched_crossing
+use Rattle.beam_state.proofs.monitor_index.MonitorIndex.TheSendSync as MonitorIndex_crossing
 use Rattle.beam_state.specs.contracts.processes.Processes as Processes
 use Rattle.beam_state.specs.contracts.processes.Processes.TheInside as Processes_inside
 use Rattle.beam_state.specs.contracts.state.State as State
@@ -132,10 +132,10 @@ use Rattle.beam_term.proofs.identifier.Pid.TheSendSync as Pid_crossing
 use Rattle.beam_term.proofs.identifier.Reference.TheSendSync as Reference_crossing
 use Rattle.beam_term.proofs.term.Term.TheLaws.TheKnot as TermKnot
 use Rattle.beam_term.specs.contracts.term.Term as Term
-use Rattle.beam_watches.specs.contracts.kept.Kept as KeptMonitors
-use Rattle.beam_watches.specs.contracts.kept.Kept.TheInside as KeptMonitors_inside
-use Rattle.beam_watches.specs.contracts.part.Part as MonitorsPart
-use Rattle.beam_watches.specs.contracts.part.Part.TheInside as MonitorsPart_inside
+use Rattle.beam_watches.specs.contracts.shared_monitors.SharedMonitors as SharedMonitors
+use Rattle.beam_watches.specs.contracts.shared_monitors.SharedMonitors.TheInside as SharedMonitors_inside
+use Rattle.beam_watches.specs.contracts.segment.Segment as Segment
+use Rattle.beam_watches.specs.contracts.segment.Segment.TheInside as Segment_inside
 use Rattle.beam_watches.specs.contracts.monitors.Monitors as Monitors
 use Rattle.beam_watches.specs.contracts.monitors.Monitors.TheInside as Monitors_inside
 
@@ -204,26 +204,26 @@ Updates_send = view_send _ _ _ _ _ (declared_send Updates_inside.the_type ((Vec-
 pub Choice_send : IsSend Choice.the_row
 Choice_send = declared_send Choice.the_type (Source_send _, ((Option.the_send _ (search sendable)), tt))
 
-pub Table_send : IsSend Table.the_row
-Table_send = declared_send Table.the_type ((Vec-send _ Choice_send), (bool_send, ((Option.the_send _ ChoiceIndex_crossing.the_send), tt)))
+pub ChoiceTable_send : IsSend ChoiceTable.the_row
+ChoiceTable_send = declared_send ChoiceTable.the_type ((Vec-send _ Choice_send), (bool_send, ((Option.the_send _ ChoiceIndex_crossing.the_send), tt)))
 
 pub Choices_send : IsSend Choices.the_row
-Choices_send = view_send _ _ _ _ _ (declared_send Choices_inside.the_type ((Box-send _ Table_send), tt))
+Choices_send = view_send _ _ _ _ _ (declared_send Choices_inside.the_type ((Box-send _ ChoiceTable_send), tt))
 
 pub CodeBytes_send : IsSend CodeBytes.the_row
-CodeBytes_send = view_send _ _ _ _ _ (declared_send CodeBytes_inside.the_type ((Vec-send _ Atom_crossing.the_send), ((Vec-send _ Term_send), ((Vec-send _ Import_crossing.the_send), ((Vec-send _ Term_send), ((Vec-send _ (search sendable)), (Places_crossing.the_send, tt)))))))
+CodeBytes_send = view_send _ _ _ _ _ (declared_send CodeBytes_inside.the_type ((Vec-send _ Atom_crossing.the_send), ((Vec-send _ Term_send), ((Vec-send _ Import_crossing.the_send), ((Vec-send _ Term_send), ((Vec-send _ (search sendable)), (ChunkLayout_crossing.the_send, tt)))))))
 
-pub KeptList_send : IsSend KeptList.the_row
-KeptList_send = variants_send KeptList.enum ((Choices_send, tt), ((SizeChoices_crossing.the_send, tt), ((Sources_send, tt), ((Registers_crossing.the_send, tt), ((Updates_send, tt), tt)))))
+pub OperandList_send : IsSend OperandList.the_row
+OperandList_send = variants_send OperandList.enum ((Choices_send, tt), ((SizeChoices_crossing.the_send, tt), ((Sources_send, tt), ((Registers_crossing.the_send, tt), ((Updates_send, tt), tt)))))
 
-pub Lists_send : IsSend Lists.the_row
-Lists_send = declared_send Lists.the_type ((Vec-send _ KeptList_send), ((search (sendable, crosses, BTreeMap.the_send) depth 20), tt))
+pub OperandLists_send : IsSend OperandLists.the_row
+OperandLists_send = declared_send OperandLists.the_type ((Vec-send _ OperandList_send), ((search (sendable, crosses, BTreeMap.the_send) depth 20), tt))
 
 pub LinkedCode_send : IsSend LinkedCode.the_row
-LinkedCode_send = view_send _ _ _ _ _ (declared_send LinkedCode_inside.the_type (CodeBytes_send, ((Vec-send _ Callee_crossing.the_send), (Lists_send, (LabelRows_crossing.the_send, ((Vec-send _ (Option.the_send _ Native_crossing.the_send)), tt))))))
+LinkedCode_send = view_send _ _ _ _ _ (declared_send LinkedCode_inside.the_type (CodeBytes_send, ((Vec-send _ Callee_crossing.the_send), (OperandLists_send, (LabelRows_crossing.the_send, ((Vec-send _ (Option.the_send _ Native_crossing.the_send)), tt))))))
 
-pub Body_send : IsSend Body.the_row
-Body_send = let b = declared_send Body_inside.the_type (Atom_crossing.the_send, ((Vec-send _ Export_crossing.the_send), (u32_send, (u32_send, (LinkedCode_send, (Records_crossing.the_send, (Entries_crossing.the_send, tt))))))) in search (view_send) depth 9
+pub ImageInner_send : IsSend ImageInner.the_row
+ImageInner_send = let b = declared_send ImageInner_inside.the_type (Atom_crossing.the_send, ((Vec-send _ Export_crossing.the_send), (u32_send, (u32_send, (LinkedCode_send, (RecordTable_crossing.the_send, (EntryPoints_crossing.the_send, tt))))))) in search (view_send) depth 9
 
 pub ConstantKept_sync : (l : NamedLft) → IsSync (ConstantKept.the_row l)
 ConstantKept_sync l = let s = Term_send in let y = Term_sync in variants_sync (ConstantKept.enum l) ((Term_sync, tt), (((search (sendable, crosses) depth 9), tt), tt))
@@ -246,29 +246,29 @@ Updates_sync = view_sync _ _ _ _ _ (declared_sync Updates_inside.the_type ((Vec-
 pub Choice_sync : IsSync Choice.the_row
 Choice_sync = declared_sync Choice.the_type (Source_sync _, ((Option.the_sync _ (search sendable)), tt))
 
-pub Table_sync : IsSync Table.the_row
-Table_sync = declared_sync Table.the_type ((Vec-sync _ Choice_sync), (bool_sync, ((Option.the_sync _ ChoiceIndex_crossing.the_sync), tt)))
+pub ChoiceTable_sync : IsSync ChoiceTable.the_row
+ChoiceTable_sync = declared_sync ChoiceTable.the_type ((Vec-sync _ Choice_sync), (bool_sync, ((Option.the_sync _ ChoiceIndex_crossing.the_sync), tt)))
 
 pub Choices_sync : IsSync Choices.the_row
-Choices_sync = view_sync _ _ _ _ _ (declared_sync Choices_inside.the_type ((Box-sync _ Table_sync), tt))
+Choices_sync = view_sync _ _ _ _ _ (declared_sync Choices_inside.the_type ((Box-sync _ ChoiceTable_sync), tt))
 
 pub CodeBytes_sync : IsSync CodeBytes.the_row
-CodeBytes_sync = view_sync _ _ _ _ _ (declared_sync CodeBytes_inside.the_type ((Vec-sync _ Atom_crossing.the_sync), ((Vec-sync _ Term_sync), ((Vec-sync _ Import_crossing.the_sync), ((Vec-sync _ Term_sync), ((Vec-sync _ (search sendable)), (Places_crossing.the_sync, tt)))))))
+CodeBytes_sync = view_sync _ _ _ _ _ (declared_sync CodeBytes_inside.the_type ((Vec-sync _ Atom_crossing.the_sync), ((Vec-sync _ Term_sync), ((Vec-sync _ Import_crossing.the_sync), ((Vec-sync _ Term_sync), ((Vec-sync _ (search sendable)), (ChunkLayout_crossing.the_sync, tt)))))))
 
-pub KeptList_sync : IsSync KeptList.the_row
-KeptList_sync = variants_sync KeptList.enum ((Choices_sync, tt), ((SizeChoices_crossing.the_sync, tt), ((Sources_sync, tt), ((Registers_crossing.the_sync, tt), ((Updates_sync, tt), tt)))))
+pub OperandList_sync : IsSync OperandList.the_row
+OperandList_sync = variants_sync OperandList.enum ((Choices_sync, tt), ((SizeChoices_crossing.the_sync, tt), ((Sources_sync, tt), ((Registers_crossing.the_sync, tt), ((Updates_sync, tt), tt)))))
 
-pub Lists_sync : IsSync Lists.the_row
-Lists_sync = declared_sync Lists.the_type ((Vec-sync _ KeptList_sync), ((search (sendable, crosses, BTreeMap.the_sync) depth 20), tt))
+pub OperandLists_sync : IsSync OperandLists.the_row
+OperandLists_sync = declared_sync OperandLists.the_type ((Vec-sync _ OperandList_sync), ((search (sendable, crosses, BTreeMap.the_sync) depth 20), tt))
 
 pub LinkedCode_sync : IsSync LinkedCode.the_row
-LinkedCode_sync = view_sync _ _ _ _ _ (declared_sync LinkedCode_inside.the_type (CodeBytes_sync, ((Vec-sync _ Callee_crossing.the_sync), (Lists_sync, (LabelRows_crossing.the_sync, ((Vec-sync _ (Option.the_sync _ Native_crossing.the_sync)), tt))))))
+LinkedCode_sync = view_sync _ _ _ _ _ (declared_sync LinkedCode_inside.the_type (CodeBytes_sync, ((Vec-sync _ Callee_crossing.the_sync), (OperandLists_sync, (LabelRows_crossing.the_sync, ((Vec-sync _ (Option.the_sync _ Native_crossing.the_sync)), tt))))))
 
-pub Body_sync : IsSync Body.the_row
-Body_sync = let b = declared_sync Body_inside.the_type (Atom_crossing.the_sync, ((Vec-sync _ Export_crossing.the_sync), (u32_sync, (u32_sync, (LinkedCode_sync, (Records_crossing.the_sync, (Entries_crossing.the_sync, tt))))))) in search (view_sync) depth 9
+pub ImageInner_sync : IsSync ImageInner.the_row
+ImageInner_sync = let b = declared_sync ImageInner_inside.the_type (Atom_crossing.the_sync, ((Vec-sync _ Export_crossing.the_sync), (u32_sync, (u32_sync, (LinkedCode_sync, (RecordTable_crossing.the_sync, (EntryPoints_crossing.the_sync, tt))))))) in search (view_sync) depth 9
 
 pub Image_send : IsSend Image.the_row
-Image_send = view_send _ _ _ _ _ (declared_send Image_inside.the_type ((Arc-send _ Body_send Body_sync), tt))
+Image_send = view_send _ _ _ _ _ (declared_send Image_inside.the_type ((Arc-send _ ImageInner_send ImageInner_sync), tt))
 
 pub Instance_send : IsSend Instance.the_row
 Instance_send = view_send _ _ _ _ _ (declared_send Instance_inside.the_type (u32_send, (Image_send, tt)))
@@ -279,11 +279,11 @@ Versions_send = view_send _ _ _ _ _ (declared_send Versions_inside.the_type ((Op
 pub CodeTable_send : IsSend CodeTable.the_row
 CodeTable_send = view_send _ _ _ _ _ (declared_send CodeTable_inside.the_type ((let k = Atom_crossing.the_send in let v = Versions_send in search (sendable, crosses, IndexMap.the_send) depth 20), ((let v = Image_send in search (sendable, crosses, IndexMap.the_send) depth 20), tt)))
 
-pub Inside_send : IsSend Inside.the_row
-Inside_send = variants_send Inside.enum ((bool_send, tt), ((bool_send, (u32_send, (usize_send, (u32_send, tt)))), ((Term_send, tt), ((u32_send, (u32_send, (usize_send, tt))), tt))))
+pub PackedWord_send : IsSend PackedWord.the_row
+PackedWord_send = variants_send PackedWord.enum ((bool_send, tt), ((bool_send, (u32_send, (usize_send, (u32_send, tt)))), ((Term_send, tt), ((u32_send, (u32_send, (usize_send, tt))), tt))))
 
 pub Word_send : IsSend Word.the_row
-Word_send = view_send _ _ _ _ _ (declared_send Word_inside.the_type (Inside_send, tt))
+Word_send = view_send _ _ _ _ _ (declared_send Word_inside.the_type (PackedWord_send, tt))
 
 pub Frames_send : IsSend Frames.the_row
 Frames_send = view_send _ _ _ _ _ (declared_send Frames_inside.the_type ((Vec-send _ Word_send), (usize_send, tt)))
@@ -297,14 +297,14 @@ Mailbox_send = view_send _ _ _ _ _ (declared_send Mailbox_inside.the_type ((Dequ
 pub Signal_send : IsSend Signal.the_row
 Signal_send = variants_send Signal.enum ((Term_send, tt), ((u32_send, (Term_send, tt)), ((u32_send, (Term_send, tt)), tt)))
 
-pub KeptMonitors_send : IsSend KeptMonitors.the_row
-KeptMonitors_send = let s = Term_send in let y = Term_sync in view_send _ _ _ _ _ (declared_send KeptMonitors_inside.the_type ((search (sendable, crosses) depth 20), ((Vec-send _ (search sendable)), (usize_send, tt))))
+pub SharedMonitors_send : IsSend SharedMonitors.the_row
+SharedMonitors_send = let s = Term_send in let y = Term_sync in view_send _ _ _ _ _ (declared_send SharedMonitors_inside.the_type ((search (sendable, crosses) depth 20), ((Vec-send _ (search sendable)), (usize_send, tt))))
 
-pub MonitorsPart_send : IsSend MonitorsPart.the_row
-MonitorsPart_send = view_send _ _ _ _ _ (declared_send MonitorsPart_inside.the_type ((Option.the_send _ KeptMonitors_send), tt))
+pub Segment_send : IsSend Segment.the_row
+Segment_send = view_send _ _ _ _ _ (declared_send Segment_inside.the_type ((Option.the_send _ SharedMonitors_send), tt))
 
 pub Monitors_send : IsSend Monitors.the_row
-Monitors_send = view_send _ _ _ _ _ (declared_send Monitors_inside.the_type (Global.the_send, (MonitorsPart_send, (MonitorsPart_send, tt))))
+Monitors_send = view_send _ _ _ _ _ (declared_send Monitors_inside.the_type (Global.the_send, (Segment_send, (Segment_send, tt))))
 
 pub Exception_send : IsSend Exception.the_row
 Exception_send = variants_send Exception.enum ((Fault_crossing.the_send, tt), ((Class_crossing.the_send, (Term_send, tt)), tt))
@@ -324,11 +324,11 @@ Known_send = view_send _ _ _ _ _ (declared_send Known_inside.the_type ((Arc-send
 pub Process_send : IsSend Process.the_row
 Process_send = view_send _ _ _ _ _ (declared_send Process_inside.the_type (Global.the_send, (u32_send, ((Option.the_send _ Atom_crossing.the_send), ((Vec-send _ Term_send), (Frames_send, (Goes_crossing.the_send, (Mailbox_send, ((Vec-send _ Signal_send), ((Option.the_send _ Deadline_crossing.the_send), ((Option.the_send _ Exception_send), (Status_send, (Monitors_send, (Term_send, (Known_send, tt)))))))))))))))
 
-pub Kept_send : IsSend Kept.the_row
-Kept_send = variants_send Kept.enum (((Box-send _ Process_send), tt), ((u32_send, (Term_send, (Term_send, tt))), tt))
+pub EntryState_send : IsSend EntryState.the_row
+EntryState_send = variants_send EntryState.enum (((Box-send _ Process_send), tt), ((u32_send, (Term_send, (Term_send, tt))), tt))
 
 pub ProcessEntry_send : IsSend ProcessEntry.the_row
-ProcessEntry_send = view_send _ _ _ _ _ (declared_send ProcessEntry_inside.the_type (Kept_send, tt))
+ProcessEntry_send = view_send _ _ _ _ _ (declared_send ProcessEntry_inside.the_type (EntryState_send, tt))
 
 pub Flags_send : IsSend Flags.the_row
 Flags_send = FlagsKnot.send-Flags Global.the_send (Vec-send _ u8_send) Box-send
@@ -340,7 +340,7 @@ pub Agenda_send : IsSend Agenda.the_row
 Agenda_send = view_send _ _ _ _ _ (declared_send Agenda_inside.the_type (Flags_send, (Times_send, ((Option.the_send _ u64_send), tt))))
 
 pub Processes_send : IsSend Processes.the_row
-Processes_send = let b = declared_send Processes_inside.the_type ((Vec-send _ ProcessEntry_send), ((let k = Atom_crossing.the_send in search (sendable, crosses, IndexMap.the_send) depth 20), (Agenda_send, (Watched_crossing.the_send, (bool_send, ((Option.the_send _ Known_send), tt)))))) in search (view_send) depth 9
+Processes_send = let b = declared_send Processes_inside.the_type ((Vec-send _ ProcessEntry_send), ((let k = Atom_crossing.the_send in search (sendable, crosses, IndexMap.the_send) depth 20), (Agenda_send, (MonitorIndex_crossing.the_send, (bool_send, ((Option.the_send _ Known_send), tt)))))) in search (view_send) depth 9
 
 pub State_send : IsSend State.the_row
 State_send = view_send _ _ _ _ _ (declared_send State_inside.the_type (Global.the_send, (Processes_send, (u64_send, (u32_send, (u32_send, tt))))))
@@ -349,7 +349,7 @@ pub Core_send : IsSend Core.the_row
 Core_send = view_send _ _ _ _ _ (declared_send Core_inside.the_type (Global.the_send, (CodeTable_send, (State_send, tt))))
 
 pub Debugger_send : IsSend Debugger.the_row
-Debugger_send = view_send _ _ _ _ _ (declared_send Debugger_inside.the_type (Global.the_send, (Core_send, (Marks_crossing.the_send, tt))))
+Debugger_send = view_send _ _ _ _ _ (declared_send Debugger_inside.the_type (Global.the_send, (Core_send, (DebugState_crossing.the_send, tt))))
 
 pub Terms_send : IsSend SpawnArguments.the_row
 Terms_send = view_send _ _ _ _ _ (declared_send Terms_inside.the_type ((Vec-send _ Term_send), tt))
@@ -358,7 +358,7 @@ pub Images_send : (I : RattleType) → IsSend I → IsSend (Images.the_row I)
 Images_send I i-send = view_send _ _ _ _ _ (declared_send (Images_inside.the_type I) ((Vec-send _ i-send), tt))
 
 pub Event_send : (I : RattleType) → IsSend I → IsSend (Event.the_row I)
-Event_send I i-send = variants_send (Event.enum I) (((as_row_send (row_field I) i-send), tt), (((as_row_send (row_field I) i-send), tt), ((Mode_crossing.the_send, ((as_row_send (row_field (Images.the_row I)) (Images_send I i-send)), tt)), ((Atom_crossing.the_send, tt), ((Atom_crossing.the_send, tt), ((Atom_crossing.the_send, tt), ((Atom_crossing.the_send, tt), ((Atom_crossing.the_send, (Atom_crossing.the_send, (Terms_send, tt))), ((Term_send, (Term_send, tt)), ((u32_send, (u32_send, tt)), ((u32_send, tt), ((u64_send, tt), ((u32_send, tt), tt)))))))))))))
+Event_send I i-send = variants_send (Event.enum I) (((as_row_send (row_field I) i-send), tt), (((as_row_send (row_field I) i-send), tt), ((UpgradeMode_crossing.the_send, ((as_row_send (row_field (Images.the_row I)) (Images_send I i-send)), tt)), ((Atom_crossing.the_send, tt), ((Atom_crossing.the_send, tt), ((Atom_crossing.the_send, tt), ((Atom_crossing.the_send, tt), ((Atom_crossing.the_send, (Atom_crossing.the_send, (Terms_send, tt))), ((Term_send, (Term_send, tt)), ((u32_send, (u32_send, tt)), ((u32_send, tt), ((u64_send, tt), ((u32_send, tt), tt)))))))))))))
 
 pub DebugEvent_send : (I : RattleType) → IsSend I → IsSend (DebugEvent.the_row I)
 DebugEvent_send I i-send = variants_send (DebugEvent.enum I) (((Event_send _ i-send), tt), ((Spot_crossing.the_send, tt), ((Spot_crossing.the_send, tt), ((u32_send, tt), ((u32_send, tt), ((u32_send, tt), tt))))))
@@ -369,11 +369,11 @@ Entry_send = view_send _ _ _ _ _ (declared_send Entry_inside.the_type ((DebugEve
 pub Journal_send : IsSend Journal.the_row
 Journal_send = view_send _ _ _ _ _ (declared_send Journal_inside.the_type (Global.the_send, ((Vec-send _ Entry_send), (u32_send, tt))))
 
-pub SharedBody_send : IsSend SharedBody.the_row
-SharedBody_send = let b = declared_send SharedBody_inside.the_type (CodeTable_send, ((Vec-send _ Place_crossing.the_send), tt)) in search (view_send) depth 9
+pub ContextParts_send : IsSend ContextParts.the_row
+ContextParts_send = let b = declared_send ContextParts_inside.the_type (CodeTable_send, ((Vec-send _ Place_crossing.the_send), tt)) in search (view_send) depth 9
 
 pub Image_sync : IsSync Image.the_row
-Image_sync = view_sync _ _ _ _ _ (declared_sync Image_inside.the_type ((Arc-sync _ Body_send Body_sync), tt))
+Image_sync = view_sync _ _ _ _ _ (declared_sync Image_inside.the_type ((Arc-sync _ ImageInner_send ImageInner_sync), tt))
 
 pub Instance_sync : IsSync Instance.the_row
 Instance_sync = view_sync _ _ _ _ _ (declared_sync Instance_inside.the_type (u32_sync, (Image_sync, tt)))
@@ -384,21 +384,21 @@ Versions_sync = view_sync _ _ _ _ _ (declared_sync Versions_inside.the_type ((Op
 pub CodeTable_sync : IsSync CodeTable.the_row
 CodeTable_sync = view_sync _ _ _ _ _ (declared_sync CodeTable_inside.the_type ((let k = Atom_crossing.the_sync in let v = Versions_sync in search (sendable, crosses, IndexMap.the_sync) depth 20), ((let v = Image_sync in search (sendable, crosses, IndexMap.the_sync) depth 20), tt)))
 
-pub SharedBody_sync : IsSync SharedBody.the_row
-SharedBody_sync = let b = declared_sync SharedBody_inside.the_type (CodeTable_sync, ((Vec-sync _ Place_crossing.the_sync), tt)) in search (view_sync) depth 9
+pub ContextParts_sync : IsSync ContextParts.the_row
+ContextParts_sync = let b = declared_sync ContextParts_inside.the_type (CodeTable_sync, ((Vec-sync _ Place_crossing.the_sync), tt)) in search (view_sync) depth 9
 
-pub Context_send : IsSend Context.the_row
-Context_send = let b = declared_send Context_inside.the_type ((Arc-send _ SharedBody_send SharedBody_sync), tt) in search (view_send) depth 9
+pub CodeContext_send : IsSend CodeContext.the_row
+CodeContext_send = let b = declared_send CodeContext_inside.the_type ((Arc-send _ ContextParts_send ContextParts_sync), tt) in search (view_send) depth 9
 
-pub Node_send : (B : RattleType) (g : Room.Ghosts B.Denot) → IsSend (Node.the_row B g)
-Node_send B g = view_send _ _ _ _ _ (declared_send (Node_inside.the_type B g) (Global.the_send, (Debugger_send, (Journal_send, ((Keeper_crossing.the_send B g), ((Vec-send _ OutEntry_crossing.the_send), (u64_send, ((Option.the_send _ Context_send), tt))))))))
+pub Node_send : (B : RattleType) (g : NodeBrand.Ghosts B.Denot) → IsSend (Node.the_row B g)
+Node_send B g = view_send _ _ _ _ _ (declared_send (Node_inside.the_type B g) (Global.the_send, (Debugger_send, (Journal_send, ((Keeper_crossing.the_send B g), ((Vec-send _ CheckoutEntry_crossing.the_send), (u64_send, ((Option.the_send _ CodeContext_send), tt))))))))
 
-pub Marked_send : (B : RattleType) (g : Room.Ghosts B.Denot) → IsSend (Marked.the_row B g)
-Marked_send B g = declared_send (Marked.the_type B g) (Node_send B g, (NodeMarks_crossing.the_send, (Looks_crossing.the_send, tt)))
+pub LockedNode_send : (B : RattleType) (g : NodeBrand.Ghosts B.Denot) → IsSend (LockedNode.the_row B g)
+LockedNode_send B g = declared_send (LockedNode.the_type B g) (Node_send B g, (QueueStates_crossing.the_send, (ScanState_crossing.the_send, tt)))
 
-pub Shared_sync : (B : RattleType) (g : Room.Ghosts B.Denot) → IsSync (Shared.the_row B g)
-Shared_sync B g = let m = Marked_send B g in declared_sync (Shared.the_type B g) (search crosses, (Signs_crossing.the_sync, (Idle_crossing.the_sync, (Baton_crossing.the_sync, (Moments_crossing.the_sync, (Filling_crossing.the_sync, tt))))))
+pub Shared_sync : (B : RattleType) (g : NodeBrand.Ghosts B.Denot) → IsSync (Shared.the_row B g)
+Shared_sync B g = let m = LockedNode_send B g in declared_sync (Shared.the_type B g) (search crosses, (ScanHint_crossing.the_sync, (IdleWorkers_crossing.the_sync, (ShortSliceToken_crossing.the_sync, (NodeClock_crossing.the_sync, (JournalUsage_crossing.the_sync, tt))))))
 
 -- the stations of workers, and of senders of commands
-pub Stations_sync : (B : RattleType) (g : Room.Ghosts B.Denot) (q : Queues.Ghosts B.Denot) → IsSync (Pool.the_row (Station.the_row B g q))
-Stations_sync B g q = Pool_crossing.the_sync _ (Station_crossing.the_send B g q)
+pub ThreadContexts_sync : (B : RattleType) (g : NodeBrand.Ghosts B.Denot) (q : QueueBrand.Ghosts B.Denot) → IsSync (Pool.the_row (ThreadContext.the_row B g q))
+ThreadContexts_sync B g q = Pool_crossing.the_sync _ (ThreadContext_crossing.the_send B g q)

@@ -1,7 +1,7 @@
-pub mod Commanded
-pub mod Due
-pub mod Lanes
-pub mod Marks
-pub mod Moments
-pub mod Shares
-pub mod Turns
+pub mod CommandAnswers
+pub mod Deadlines
+pub mod RunQueues
+pub mod QueueStates
+pub mod NodeClock
+pub mod Thresholds
+pub mod WorkerActions

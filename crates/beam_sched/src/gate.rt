@@ -1,6 +1,6 @@
 //! What workers report of the processes that they run, and of the journal.
 
-use crate::share::Share;
+use crate::journal_threshold::JournalThreshold;
 use beam_debug::outcome::Outcome;
 use beam_term::Term;
 
@@ -18,9 +18,9 @@ pub trait Gate {
     /// A process ended with that reason by a signal that arrived before rows of it were to be run.
     fn ended(&self, pid: u32, reason: &Term);
 
-    /// The journal has reached this share of the entries that it can have. Each share is reported at most once, and none after a greater
+    /// The journal has reached this threshold of the entries that it can have. Each threshold is reported at most once, and none after a greater
     /// one: by a worker, unless `Shared::crossed` has given it to another thread.
-    fn filled(&self, share: Share);
+    fn filled(&self, threshold: JournalThreshold);
 }
 
 /// An observer that does nothing.
@@ -36,5 +36,5 @@ impl Gate for NoGate {
 
     fn ended(&self, _pid: u32, _reason: &Term) {}
 
-    fn filled(&self, _share: Share) {}
+    fn filled(&self, _threshold: JournalThreshold) {}
 }

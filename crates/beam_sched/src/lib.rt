@@ -1,23 +1,23 @@
-//! Schedulers over a node that threads share: how they announce and take processes, and what a thread does that runs them.
+//! Schedulers over a node that threads share: how they enqueue and take processes, and what a thread does that runs them.
 #![tactic(auto)]
 
-mod baton;
 pub mod clock;
-mod filling;
 pub mod gate;
-mod idle;
-mod looking;
-mod looks;
-pub mod marked;
-mod marks;
-mod moments;
+mod idle_workers;
+pub mod journal_threshold;
+mod journal_usage;
+pub mod locked_node;
+mod made_runnable;
+mod node_clock;
 mod pool;
+mod queue_states;
+mod scan;
+mod scan_hint;
+mod scan_state;
 pub mod schedulers;
-pub mod share;
 pub mod shared;
-mod signs;
-pub mod station;
-pub mod stations;
-mod stirs;
-mod turn;
+mod short_slice_token;
+pub mod thread_context;
+pub mod thread_contexts;
 pub mod worker;
+mod worker_action;

@@ -2,7 +2,7 @@
 
 use std::sync::{Mutex, Wait};
 
-/// A pool of values of which each thread takes one: the stations of workers, or helpers.
+/// A pool of values of which each thread takes one: the thread contexts of workers, or helpers.
 #[derive(Drop)]
 pub struct Pool<T: Drop> {
     left: Mutex<Vec<T>>,

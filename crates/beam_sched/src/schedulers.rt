@@ -4,10 +4,10 @@ use crate::clock::Clock;
 use crate::gate::Gate;
 use crate::pool::Pool;
 use crate::shared::Shared;
-use crate::station::Station;
+use crate::thread_context::ThreadContext;
 use crate::worker::work;
-use beam_queue::Queues;
-use beam_receipts::room::Room;
+use beam_queue::QueueBrand;
+use beam_receipts::brand::NodeBrand;
 use std::alloc::Global;
 use std::sync::Wait;
 use std::thread::{Builder, Scope, Threads};
@@ -18,20 +18,20 @@ const STACK: usize = 512 * 1024;
 
 /// How many threads run, fewer than wanted if threads could not be made.
 #[derive(Clone, Copy, Debug)]
-pub struct Started {
+pub struct StartedThreads {
     /// The threads that run processes.
     pub workers: usize,
-    /// The threads that help the body.
+    /// The threads that help the task.
     pub helpers: usize,
 }
 
 /// What runs beside the workers, on the calling thread.
-pub trait Body {
+pub trait ForegroundTask {
     /// Runs beside this many workers and helpers. The workers end after the call returns and the helpers have ended.
-    fn run(&mut self, started: Started);
+    fn run(&mut self, started: StartedThreads);
 }
 
-/// What runs beside the body, on a thread of its own.
+/// What runs beside the task, on a thread of its own.
 pub trait Helper {
     /// Helps until there is no more to do.
     fn help(&mut self);
@@ -45,17 +45,17 @@ impl Helper for NoHelper {
     fn help(&mut self) {}
 }
 
-/// Takes a station and works at it. There is one for each thread that could be made.
-fn take_station<B: Room + Queues, G: Gate, C: Clock, R: Wait + time::Clock>(
+/// Takes a thread context and works at it. There is one for each thread that could be made.
+fn run_worker<B: NodeBrand + QueueBrand, G: Gate, C: Clock, R: Wait + time::Clock>(
     rt: &R,
     shared: &Shared<B>,
     gate: &G,
     clock: &C,
-    stations: &Pool<Station<B>>,
+    contexts: &Pool<ThreadContext<B>>,
 ) {
-    if let Some(station) = stations.take(rt) {
-        let station = work(rt, shared, gate, clock, station);
-        stations.give(rt, station);
+    if let Some(context) = contexts.take(rt) {
+        let context = work(rt, shared, gate, clock, context);
+        contexts.give(rt, context);
     }
 }
 
@@ -71,7 +71,7 @@ fn help<H: Helper + Drop, R: Wait>(rt: &R, helpers: &Pool<H>) {
 fn start_worker<
     's,
     E,
-    B: Room + Queues + Send + Sync + 's,
+    B: NodeBrand + QueueBrand + Send + Sync + 's,
     G: Gate + Sync + 's,
     C: Clock + Sync + 's,
     R: Wait + time::Clock + Sync + 's,
@@ -81,14 +81,11 @@ fn start_worker<
     shared: &'s Shared<B>,
     gate: &'s G,
     clock: &'s C,
-    stations: &'s Pool<Station<B>>,
+    contexts: &'s Pool<ThreadContext<B>>,
 ) -> bool {
     Builder::new()
         .stack_size(STACK)
-        .spawn_scoped(
-            scope,
-            move || take_station(rt, shared, gate, clock, stations),
-        )
+        .spawn_scoped(scope, move || run_worker(rt, shared, gate, clock, contexts))
         .is_ok()
 }
 
@@ -104,11 +101,11 @@ fn start_helper<'s, E, H: Helper + Drop + Send + 's, R: Wait + Sync + 's>(
         .is_ok()
 }
 
-/// Starts a thread for each of the stations, and answers how many could be made.
+/// Starts a thread for each of the thread contexts, and answers how many could be made.
 fn start_workers<
     's,
     E,
-    B: Room + Queues + Send + Sync + 's,
+    B: NodeBrand + QueueBrand + Send + Sync + 's,
     G: Gate + Sync + 's,
     C: Clock + Sync + 's,
     R: Wait + time::Clock + Sync + 's,
@@ -118,11 +115,11 @@ fn start_workers<
     shared: &'s Shared<B>,
     gate: &'s G,
     clock: &'s C,
-    stations: &'s Pool<Station<B>>,
+    contexts: &'s Pool<ThreadContext<B>>,
 ) -> usize {
     let mut started = 0usize;
-    for _ in 0..stations.count() {
-        if start_worker(scope, rt, shared, gate, clock, stations) {
+    for _ in 0..contexts.count() {
+        if start_worker(scope, rt, shared, gate, clock, contexts) {
             started = started.saturating_add(1);
         }
     }
@@ -144,12 +141,12 @@ fn start_helpers<'s, E, H: Helper + Drop + Send + 's, R: Wait + Sync + 's>(
     started
 }
 
-/// Runs the body beside the workers and the helpers, and waits until these have ended. Without workers no helper runs.
-fn run_helped<H: Helper + Drop + Send, W: Body, R: Threads + Wait + Sync>(
+/// Runs the task beside the workers and the helpers, and waits until these have ended. Without workers no helper runs.
+fn run_helped<H: Helper + Drop + Send, W: ForegroundTask, R: Threads + Wait + Sync>(
     rt: &R,
     helpers: &Pool<H>,
     workers: usize,
-    body: &mut W,
+    task: &mut W,
 ) {
     thread::scope(thread::scope_env(), rt, |scope| {
         let helpers = if workers == 0 {
@@ -157,67 +154,67 @@ fn run_helped<H: Helper + Drop + Send, W: Body, R: Threads + Wait + Sync>(
         } else {
             start_helpers(scope, rt, helpers)
         };
-        body.run(Started { workers, helpers });
+        task.run(StartedThreads { workers, helpers });
     })
 }
 
-/// Runs the body and the helpers beside the workers, and waits until all have ended, the workers last.
+/// Runs the task and the helpers beside the workers, and waits until all have ended, the workers last.
 fn run_in_scope<
-    B: Room + Queues + Send + Sync,
+    B: NodeBrand + QueueBrand + Send + Sync,
     G: Gate + Sync,
     C: Clock + Sync,
     H: Helper + Drop + Send,
-    W: Body,
+    W: ForegroundTask,
     R: Threads + Wait + time::Clock + Sync,
 >(
     rt: &R,
     shared: &Shared<B>,
     gate: &G,
     clock: &C,
-    stations: &Pool<Station<B>>,
+    contexts: &Pool<ThreadContext<B>>,
     helpers: &Pool<H>,
-    body: &mut W,
+    task: &mut W,
 ) {
     thread::scope(thread::scope_env(), rt, |scope| {
-        let workers = start_workers(scope, rt, shared, gate, clock, stations);
-        run_helped(rt, helpers, workers, body);
+        let workers = start_workers(scope, rt, shared, gate, clock, contexts);
+        run_helped(rt, helpers, workers, task);
         shared.close(rt);
     })
 }
 
-/// Runs a worker on a thread of its own for each of the stations, and each of the helpers on one, while the body runs on this thread. Where
-/// no worker can be made no helper runs. When the body and the helpers have ended the queues are closed; the workers end once they find no
-/// work, and all stations and helpers come back. A thread that can't be made is left out, and its station or helper comes back too; the
-/// body gets the counts of those that run. Processes that no worker took are left in the queues.
+/// Runs a worker on a thread of its own for each of the thread contexts, and each of the helpers on one, while the task runs on this thread. Where
+/// no worker can be made no helper runs. When the task and the helpers have ended the queues are closed; the workers end once they find no
+/// work, and all thread contexts and helpers come back. A thread that can't be made is left out, and its thread context or helper comes back too; the
+/// task gets the counts of those that run. Processes that no worker took are left in the queues.
 pub fn run_with_helpers<
-    B: Room + Queues + Send + Sync,
+    B: NodeBrand + QueueBrand + Send + Sync,
     G: Gate + Sync,
     C: Clock + Sync,
     H: Helper + Drop + Send,
-    W: Body,
+    W: ForegroundTask,
     R: Threads + Wait + time::Clock + Sync,
 >(
     rt: &R,
     shared: &Shared<B>,
     gate: &G,
     clock: &C,
-    stations: Vec<Station<B>>,
+    contexts: Vec<ThreadContext<B>>,
     helpers: Vec<H>,
-    body: &mut W,
-) -> (Vec<Station<B>>, Vec<H>) {
-    let stations = Pool::new(stations);
+    task: &mut W,
+) -> (Vec<ThreadContext<B>>, Vec<H>) {
+    let contexts = Pool::new(contexts);
     let helpers = Pool::new(helpers);
-    run_in_scope(rt, shared, gate, clock, &stations, &helpers, body);
-    (stations.into_left(), helpers.into_left())
+    run_in_scope(rt, shared, gate, clock, &contexts, &helpers, task);
+    (contexts.into_left(), helpers.into_left())
 }
 
-/// Runs a worker on a thread of its own for each of the stations, while the body runs on this thread, as `run_with_helpers` does without
+/// Runs a worker on a thread of its own for each of the thread contexts, while the task runs on this thread, as `run_with_helpers` does without
 /// helpers.
 pub fn run_schedulers<
-    B: Room + Queues + Send + Sync,
+    B: NodeBrand + QueueBrand + Send + Sync,
     G: Gate + Sync,
     C: Clock + Sync,
-    W: Body,
+    W: ForegroundTask,
     R: Threads + Wait + time::Clock + Sync,
 >(
     rt: &R,
@@ -225,10 +222,10 @@ pub fn run_schedulers<
     shared: &Shared<B>,
     gate: &G,
     clock: &C,
-    stations: Vec<Station<B>>,
-    body: &mut W,
-) -> Vec<Station<B>> {
+    contexts: Vec<ThreadContext<B>>,
+    task: &mut W,
+) -> Vec<ThreadContext<B>> {
     let helpers = Vec::<NoHelper>::new(alloc);
-    let (stations, _helpers) = run_with_helpers(rt, shared, gate, clock, stations, helpers, body);
-    stations
+    let (contexts, _helpers) = run_with_helpers(rt, shared, gate, clock, contexts, helpers, task);
+    contexts
 }

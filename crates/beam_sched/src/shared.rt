@@ -1,25 +1,25 @@
 //! A node that threads share, and what they read of it without its lock.
 ghost use Rattle.std.specs.Prelude.{◌≡◌, IfOk, OnErr};
-ghost use Rattle.beam_debug.specs.Answers.{said};
-ghost use Rattle.beam_sched.specs.Commanded.{Commanded, answer_of, kept_more};
+ghost use Rattle.beam_debug.specs.Answers.{reply_of};
+ghost use Rattle.beam_sched.specs.CommandAnswers.{CommandAnswered, answer_of, with_kept};
 
-use crate::baton::Baton;
-use crate::filling::Filling;
-use crate::idle::Idle;
-use crate::looking::end_of;
-use crate::marked::Marked;
-use crate::moments::Moments;
-use crate::share::Share;
-use crate::signs::Signs;
-use crate::station::Station;
-use crate::stirs::Stirs;
+use crate::idle_workers::IdleWorkers;
+use crate::journal_threshold::JournalThreshold;
+use crate::journal_usage::JournalUsage;
+use crate::locked_node::LockedNode;
+use crate::made_runnable::MadeRunnable;
+use crate::node_clock::NodeClock;
+use crate::scan::exit_reason;
+use crate::scan_hint::ScanHint;
+use crate::short_slice_token::ShortSliceToken;
+use crate::thread_context::ThreadContext;
 use beam_debug::outcome::Outcome;
 use beam_image::Image;
 use beam_journal::entry::Entry;
 use beam_machine::debug::DebugEvent;
 use beam_machine::event::Event;
-use beam_queue::Queues;
-use beam_receipts::room::Room;
+use beam_queue::QueueBrand;
+use beam_receipts::brand::NodeBrand;
 use beam_shared::node::Node;
 use beam_shared::refusal::Refusal;
 use beam_term::Term;
@@ -28,13 +28,13 @@ use std::sync::{Mutex, Wait};
 
 /// A node under its lock; what threads read without it; and where its workers wait, under a lock of its own. No thread holds both locks.
 #[derive(Drop)]
-pub struct Shared<B: Room> {
-    pub(crate) node: Mutex<Marked<B>>,
-    pub(crate) signs: Signs,
-    pub(crate) idle: Idle,
-    pub(crate) baton: Baton,
-    pub(crate) moments: Moments,
-    pub(crate) filling: Filling,
+pub struct Shared<B: NodeBrand> {
+    pub(crate) node: Mutex<LockedNode<B>>,
+    pub(crate) scan_hint: ScanHint,
+    pub(crate) idle: IdleWorkers,
+    pub(crate) token: ShortSliceToken,
+    pub(crate) node_clock: NodeClock,
+    pub(crate) usage: JournalUsage,
 }
 
 /// The time to which an event sets the node's clock.
@@ -54,28 +54,28 @@ fn clock_after(entries: &[Entry]) -> u64 {
         .unwrap_or(0)
 }
 
-impl<B: Room> Shared<B> {
-    /// A node of which no process is announced yet. It takes no memory, and time for the node's entries.
+impl<B: NodeBrand> Shared<B> {
+    /// A node of which no process is enqueued yet. It takes no memory, and time for the node's entries.
     pub fn new(alloc: Global, node: Node<B>) -> Shared<B> {
-        let moments = Moments::new(clock_after(node.entries()));
-        let filling = Filling::new();
-        filling.note(&node);
+        let node_clock = NodeClock::new(clock_after(node.entries()));
+        let usage = JournalUsage::new();
+        usage.note(&node);
         Shared {
-            node: Mutex::new(Marked::new(alloc, node)),
-            signs: Signs::new(),
-            idle: Idle::new(),
-            baton: Baton::new(),
-            moments,
-            filling,
+            node: Mutex::new(LockedNode::new(alloc, node)),
+            scan_hint: ScanHint::new(),
+            idle: IdleWorkers::new(),
+            token: ShortSliceToken::new(),
+            node_clock,
+            usage,
         }
     }
 
     /// The node under its lock, to be read. Commands are given by `command`, which wakes workers.
-    pub fn node(&self) -> &Mutex<Marked<B>> {
+    pub fn node(&self) -> &Mutex<LockedNode<B>> {
         &self.node
     }
 
-    /// The node. Processes that were announced and not taken stay in the queues.
+    /// The node. Processes that were enqueued and not taken stay in the queues.
     pub fn into_node(self) -> Node<B> {
         let Shared { node, .. } = self;
         node.into_inner().into_node()
@@ -83,15 +83,15 @@ impl<B: Room> Shared<B> {
 
     /// The reason with which a process ended, read under the lock. `None` where it hasn't ended or was never started, and where memory is
     /// refused for the reason.
-    pub fn end_of<R: Wait>(&self, rt: &R, pid: u32) -> Option<Term> {
-        let marked = self.node.lock(rt);
-        end_of(marked.node(), pid)
+    pub fn exit_reason<R: Wait>(&self, rt: &R, pid: u32) -> Option<Term> {
+        let locked = self.node.lock(rt);
+        exit_reason(locked.node(), pid)
     }
 
     /// The share of its limit that the journal has reached, if neither it nor a greater one was reported. Only the first call after that
     /// gets it. It takes no lock.
-    pub fn crossed(&self) -> Option<Share> {
-        self.filling.take()
+    pub fn crossed(&self) -> Option<JournalThreshold> {
+        self.usage.take_reached()
     }
 
     /// Closes the queues: workers end once they find no work.
@@ -105,58 +105,58 @@ impl<B: Room> Shared<B> {
     }
 }
 
-impl<B: Room + Queues> Shared<B> {
+impl<B: NodeBrand + QueueBrand> Shared<B> {
     /// Follows a command, under the node's lock: notes the share that the journal has reached and, if the command was accepted, the clock
-    /// that it set, and announces the process that can go by it. Tells whether a worker is to be woken: a process may go, or the journal
+    /// that it set, and enqueues the process that can go by it. Tells whether a worker is to be woken: a process may go, or the journal
     /// has reached a share.
-    fn follow(
+    fn note_command(
         &self,
-        marked: &mut Marked<B>,
-        station: &mut Station<B>,
+        locked: &mut LockedNode<B>,
+        context: &mut ThreadContext<B>,
         set: Option<u64>,
-        stirs: Stirs,
+        made_runnable: MadeRunnable,
         answer: &Result<Outcome, Refusal>,
     ) -> bool
-        ensures { station.new.seat ≡ station.old.seat }
+        ensures { context.new.seat ≡ context.old.seat }
     {
-        let has_reached = self.filling.note(&marked.node);
+        let has_reached = self.usage.note(&locked.node);
         let Ok(outcome) = answer else {
             return false;
         };
         if let Some(clock) = set {
-            self.moments.set(clock);
+            self.node_clock.set(clock);
         }
-        marked.stir(station, stirs, outcome);
+        locked.enqueue_made_runnable(context, made_runnable, outcome);
         if has_reached {
-            marked.looks.change();
+            locked.scan_state.note_change();
         }
-        self.signs.show(&marked.looks);
-        has_reached || stirs != Stirs::Nobody
+        self.scan_hint.publish(&locked.scan_state);
+        has_reached || made_runnable != MadeRunnable::Nobody
     }
 
-    /// Gives the node an event under its lock, as a command of a station's seat. The process that can go by it is announced in the
-    /// station's lane, and a worker is woken, unless the event only reads something and the journal reaches no share by it. The answer is
+    /// Gives the node an event under its lock, as a command of a thread context's seat. The process that can go by it is enqueued in the
+    /// thread context's run queue, and a worker is woken, unless the event only reads something and the journal reaches no share by it. The answer is
     /// that of `Node::command`; a refusal changes nothing. The lock is held only for the command and its announcements. Moments are
     /// advanced to the clock that it sets.
     pub fn command<R: Wait>(
         &self,
         rt: &R,
-        station: &mut Station<B>,
+        context: &mut ThreadContext<B>,
         event: DebugEvent<Image>,
     ) -> Result<Outcome, Refusal>
-        ensures kept { IfOk result (λ reply. station.new.seat ≡ kept_more station.old.seat event (said reply)) }
-        ensures err { OnErr result (station.new.seat ≡ station.old.seat) }
-        ensures commanded { Commanded station.old.seat event (answer_of result) station.new.seat }
+        ensures kept { IfOk result (λ reply. context.new.seat ≡ with_kept context.old.seat event (reply_of reply)) }
+        ensures err { OnErr result (context.new.seat ≡ context.old.seat) }
+        ensures command_answered { CommandAnswered context.old.seat event (answer_of result) context.new.seat }
     {
         let set = time_set(&event);
-        let stirs = Stirs::of(&event);
+        let made_runnable = MadeRunnable::of(&event);
         let mut guard = self.node.lock(rt);
-        let marked = &mut *guard;
-        marked.node.stands();
-        let answer = marked.node.command(&mut station.seat, event);
-        let is_heard = self.follow(marked, station, set, stirs, &answer);
+        let locked = &mut *guard;
+        locked.node.recall_invariant();
+        let answer = locked.node.command(&mut context.seat, event);
+        let must_wake = self.note_command(locked, context, set, made_runnable, &answer);
         drop(guard);
-        if is_heard {
+        if must_wake {
             self.idle.wake(rt);
         }
         answer

@@ -1,20 +1,20 @@
 //! Workers.
 
-use crate::baton::Runner;
 use crate::clock::Clock;
 use crate::gate::Gate;
-use crate::looking;
-use crate::looking::{LookAt, end_of, enter_moment};
+use crate::scan;
+use crate::scan::{ScanRequest, advance_clock, exit_reason};
 use crate::shared::Shared;
-use crate::station::Station;
-use crate::turn::{Turn, idle_turn};
+use crate::short_slice_token::RecentSlices;
+use crate::thread_context::ThreadContext;
+use crate::worker_action::{WorkerAction, idle_action};
 use beam_debug::outcome::Outcome;
 use beam_machine::event::Refused;
-use beam_queue::Queues;
-use beam_receipts::room::Room;
+use beam_queue::QueueBrand;
+use beam_receipts::brand::NodeBrand;
 use beam_shared::checkout::Checkout;
-use beam_shared::dropped::Dropped;
-use beam_shared::finished::Finished;
+use beam_shared::drop_reason::DropReason;
+use beam_shared::finished_slice::FinishedSlice;
 use beam_shared::refusal::Refusal;
 use beam_term::Term;
 use std::sync::Wait;
@@ -24,142 +24,148 @@ use std::time;
 const ROWS: u32 = 4_000;
 
 /// A slice of fewer rows is short: it takes about as long as the locks of its checkout and commit.
-const FEW: u32 = 256;
+const SHORT_SLICE: u32 = 256;
 
 /// One turn of this many begins with a steal.
-const STEALS: u32 = 16;
+const STEAL_EVERY: u32 = 16;
 
-/// A worker: its node and station, its observer and clock, and how far its round has come.
+/// A worker: its node and thread context, its observer and clock, and how far its round has come.
 #[derive(Drop)]
-struct Worker<'a, B: Room + Queues, G, C, R> {
+struct Worker<'a, B: NodeBrand + QueueBrand, G, C, R> {
     rt: &'a R,
     shared: &'a Shared<B>,
     gate: &'a G,
     clock: &'a C,
-    station: Station<B>,
+    context: ThreadContext<B>,
     /// How many processes it takes before it looks at the node again.
-    left: usize,
+    until_scan: usize,
     /// How many turns passed since one began with a steal.
-    turns: u32,
-    /// Which slices it had lately, and whether it has the baton.
-    runner: Runner,
+    since_steal: u32,
+    /// Which slices it had lately, and whether it has the token.
+    recent_slices: RecentSlices,
 }
 
-impl<B: Room + Queues, G, C, R> Worker<'_, B, G, C, R> {
-    fn into_station(self) -> Station<B> {
-        let Worker { station, .. } = self;
-        station
+impl<B: NodeBrand + QueueBrand, G, C, R> Worker<'_, B, G, C, R> {
+    fn into_context(self) -> ThreadContext<B> {
+        let Worker { context, .. } = self;
+        context
     }
 }
 
-impl<B: Room + Queues, G: Gate, C: Clock, R: Wait + time::Clock> Worker<'_, B, G, C, R> {
+impl<B: NodeBrand + QueueBrand, G: Gate, C: Clock, R: Wait + time::Clock> Worker<'_, B, G, C, R> {
     /// The moment now.
     fn moment(&self) -> u64 {
-        self.shared.moments.at(self.clock.moment())
+        self.shared.node_clock.at(self.clock.moment())
     }
 
-    /// Whether it is time to look: the processes that were in its queue at the last look were taken, and either a process may have become
+    /// Whether it is time to scan: the processes that were in its queue at the last scan were taken, and either a process may have become
     /// ready, or the moment has come at which the node is to be scanned.
-    fn must_look(&self) -> bool {
-        let signs = &self.shared.signs;
-        self.left == 0 && (signs.is_wanted() || signs.wakes().is_some_and(|at| at <= self.moment()))
+    fn must_scan(&self) -> bool {
+        let scan_hint = &self.shared.scan_hint;
+        self.until_scan == 0
+            && (scan_hint.is_wanted()
+                || scan_hint.next_time().is_some_and(|at| at <= self.moment()))
     }
 
-    /// Takes a process that was announced.
-    fn take(&mut self) -> Option<u32> {
-        self.turns = self.turns.wrapping_add(1) % STEALS;
-        let pid = self.station.take(self.turns == 0);
-        self.left = match pid {
-            Some(_) => self.left.saturating_sub(1),
+    /// Takes a process that was enqueued.
+    fn dequeue(&mut self) -> Option<u32> {
+        self.since_steal = self.since_steal.wrapping_add(1) % STEAL_EVERY;
+        let pid = self.context.dequeue(self.since_steal == 0);
+        self.until_scan = match pid {
+            Some(_) => self.until_scan.saturating_sub(1),
             None => 0,
         };
         pid
     }
 
     /// What it does next.
-    fn turn(&mut self) -> Turn {
+    fn next_action(&mut self) -> WorkerAction {
         if self.shared.idle.is_stopped() {
-            return Turn::End;
+            return WorkerAction::End;
         }
-        if self.must_look() {
-            return Turn::Look;
+        if self.must_scan() {
+            return WorkerAction::Look;
         }
-        match self.take() {
-            Some(pid) => Turn::Run(pid),
+        match self.dequeue() {
+            Some(pid) => WorkerAction::Run(pid),
             None => self.rest(),
         }
     }
 
     /// Its next turn after it found nothing in the queues and was counted among the workers that can be woken.
-    fn idle_turn(&mut self, is_closed: bool) -> Turn {
-        let Shared { idle, signs, .. } = self.shared;
-        match self.station.take(true) {
-            Some(pid) => Turn::Run(pid),
-            None => idle_turn(
+    fn idle_action(&mut self, is_closed: bool) -> WorkerAction {
+        let Shared {
+            idle,
+            scan_hint,
+            ..
+        } = self.shared;
+        match self.context.dequeue(true) {
+            Some(pid) => WorkerAction::Run(pid),
+            None => idle_action(
                 idle.is_stopped(),
                 is_closed,
-                signs.is_wanted(),
-                signs.retry(),
+                scan_hint.is_wanted(),
+                scan_hint.retry(),
             ),
         }
     }
 
     /// How many milliseconds it may wait; `None` for no limit.
-    fn patience(&self) -> Option<u64> {
-        let wakes = self.shared.signs.wakes()?;
-        Some(wakes.saturating_sub(self.moment()).max(1))
+    fn wait_limit(&self) -> Option<u64> {
+        let next_time = self.shared.scan_hint.next_time()?;
+        Some(next_time.saturating_sub(self.moment()).max(1))
     }
 
-    /// Waits until it is woken or the node is to be scanned, unless there is work after all. It gives the baton back before it looks into
-    /// the queues for the last time, so that this look finds all processes that were announced by workers that had found the baton taken.
-    fn rest(&mut self) -> Turn {
-        let Shared { idle, baton, .. } = self.shared;
-        self.runner.gives_back(baton);
-        let guard = idle.enter(self.rt);
-        let turn = self.idle_turn(*guard);
-        match turn {
-            Turn::Rest => idle.wait(self.rt, guard, self.patience()),
-            Turn::End => idle.end(guard),
-            Turn::Run(_) | Turn::Look => drop(guard),
+    /// Waits until it is woken or the node is to be scanned, unless there is work after all. It gives the token back before it looks into
+    /// the queues for the last time, so that this scan finds all processes that were enqueued by workers that had found the token taken.
+    fn rest(&mut self) -> WorkerAction {
+        let Shared { idle, token, .. } = self.shared;
+        self.recent_slices.gives_back(token);
+        let guard = idle.begin_wait(self.rt);
+        let next_action = self.idle_action(*guard);
+        match next_action {
+            WorkerAction::Rest => idle.wait(self.rt, guard, self.wait_limit()),
+            WorkerAction::End => idle.end(guard),
+            WorkerAction::Run(_) | WorkerAction::Look => drop(guard),
         }
-        idle.leave();
-        turn
+        idle.end_wait();
+        next_action
     }
 
-    /// Waits as a worker without work does, though processes may be in its queue: the worker that has the baton takes those. The baton's
+    /// Waits as a worker without work does, though processes may be in its queue: the worker that has the token takes those. The baton's
     /// owner gives it back before it waits; so this worker, already counted among those that can be woken, first tries once more to take
     /// it.
-    fn stand_back(&mut self) {
-        let Shared { idle, baton, .. } = self.shared;
-        let guard = idle.enter(self.rt);
-        if idle.is_stopped() || self.runner.takes(baton) {
+    fn wait_without_token(&mut self) {
+        let Shared { idle, token, .. } = self.shared;
+        let guard = idle.begin_wait(self.rt);
+        if idle.is_stopped() || self.recent_slices.takes(token) {
             drop(guard);
         } else {
-            idle.wait(self.rt, guard, self.patience());
+            idle.wait(self.rt, guard, self.wait_limit());
         }
-        idle.leave();
+        idle.end_wait();
     }
 
     /// Notes an allocation failure: the node is scanned again after some time.
-    fn put_off(&self) {
-        let mut marked = self.shared.node.lock(self.rt);
-        marked.looks.put_off(self.moment());
-        self.shared.signs.show(&marked.looks);
+    fn retry_later(&self) {
+        let mut locked = self.shared.node.lock(self.rt);
+        locked.scan_state.retry_later(self.moment());
+        self.shared.scan_hint.publish(&locked.scan_state);
     }
 
     /// Checks a process out, and answers the reason too if it ended by a signal that arrived just then.
     fn check_out(&self, pid: u32) -> Result<(Checkout<B>, Option<Term>), Refusal> {
-        let mut marked = self.shared.node.lock(self.rt);
-        let checkout = marked.check_out(pid)?;
-        let end = end_of(&marked.node, pid);
+        let mut locked = self.shared.node.lock(self.rt);
+        let checkout = locked.check_out(pid)?;
+        let end = exit_reason(&locked.node, pid);
         Ok((checkout, end))
     }
 
     /// Passes over a process that can't be checked out. A full journal stops the workers.
-    fn pass_over(&self, refusal: Refusal) {
+    fn handle_refusal(&self, refusal: Refusal) {
         match refusal {
             Refusal::JournalFull => self.shared.stop(self.rt),
-            Refusal::Node(Refused::NoMemory) => self.put_off(),
+            Refusal::Node(Refused::NoMemory) => self.retry_later(),
             _ => {}
         }
     }
@@ -176,141 +182,141 @@ impl<B: Room + Queues, G: Gate, C: Clock, R: Wait + time::Clock> Worker<'_, B, G
                 self.gate.back(pid);
                 self.commit(finished);
             }
-            Err(refusal) => self.pass_over(refusal),
+            Err(refusal) => self.handle_refusal(refusal),
         }
     }
 
     /// Commits the rows of a process, under the lock. If they end before a wait, the wait begins at this moment, unless memory is refused
     /// for the moment's entry.
-    fn come_back(&mut self, finished: Finished<B>) -> Result<Option<Outcome>, Dropped> {
+    fn commit_locked(&mut self, finished: FinishedSlice<B>) -> Result<Option<Outcome>, DropReason> {
         let shared = self.shared;
         let mut guard = shared.node.lock(self.rt);
-        let marked = &mut *guard;
+        let locked = &mut *guard;
         if finished.sets_deadline() {
-            let moment = shared.moments.follow(self.clock.moment());
-            let seat = &mut self.station.seat;
-            let _ = enter_moment(&mut marked.node, seat, &shared.moments, moment);
+            let moment = shared.node_clock.advance(self.clock.moment());
+            let seat = &mut self.context.seat;
+            let _ = advance_clock(&mut locked.node, seat, &shared.node_clock, moment);
         }
-        let done = marked.commit(&mut self.station, finished);
-        shared.filling.note(&marked.node);
-        shared.signs.show(&marked.looks);
+        let done = locked.commit(&mut self.context, finished);
+        shared.usage.note(&locked.node);
+        shared.scan_hint.publish(&locked.scan_state);
         done
     }
 
     /// Commits the rows of a process, and reports the node's answer to the gate.
-    fn commit(&mut self, finished: Finished<B>) {
+    fn commit(&mut self, finished: FinishedSlice<B>) {
         let pid = finished.pid();
-        let are_few = finished.count() < FEW;
-        match self.come_back(finished) {
+        let is_short = finished.count() < SHORT_SLICE;
+        match self.commit_locked(finished) {
             Ok(None) => {}
             Ok(Some(outcome)) => self.gate.ran(pid, &outcome),
-            Err(Dropped::JournalFull) => self.shared.stop(self.rt),
-            Err(Dropped::NoMemory) => self.put_off(),
-            Err(Dropped::Stranger | Dropped::Gone | Dropped::StaleCode) => {}
+            Err(DropReason::JournalFull) => self.shared.stop(self.rt),
+            Err(DropReason::NoMemory) => self.retry_later(),
+            Err(DropReason::Stranger | DropReason::Gone | DropReason::StaleCode) => {}
         }
-        if are_few {
-            self.after_few();
+        if is_short {
+            self.after_short();
         } else {
-            self.after_many();
+            self.after_long();
         }
     }
 
     /// After a short slice: it spent its time under the lock, where another worker would only be in the way, so none is woken. A worker
-    /// that has had only short slices for some time stands back, unless it has or gets the baton.
-    fn after_few(&mut self) {
-        if !self.runner.had_short(&self.shared.baton) {
-            self.tell();
-            self.stand_back();
+    /// that has had only short slices for some time stands back, unless it has or gets the token.
+    fn after_short(&mut self) {
+        if !self.recent_slices.had_short(&self.shared.token) {
+            self.report_threshold();
+            self.wait_without_token();
         }
     }
 
     /// After a longer slice: wakes another worker if more is left to do, in its own queue, or in those of workers that stood back.
-    fn after_many(&mut self) {
-        let had_baton = self.runner.had_long(&self.shared.baton);
-        if had_baton || self.has_more() {
+    fn after_long(&mut self) {
+        let had_token = self.recent_slices.had_long(&self.shared.token);
+        if had_token || self.has_more() {
             self.shared.idle.wake(self.rt);
         }
     }
 
     /// Whether its own queue has more than the process that it takes next.
     fn has_more(&self) -> bool {
-        self.station.waiting() > 1
+        self.context.queued() > 1
     }
 
-    /// Enters the timeouts that are due, and announces what can go.
-    fn look(&mut self) {
+    /// Enters the timeouts that are due, and enqueues what can go.
+    fn scan(&mut self) {
         let shared = self.shared;
         let mut guard = shared.node.lock(self.rt);
-        let marked = &mut *guard;
-        let moment = shared.moments.follow(self.clock.moment());
-        let at = LookAt {
-            after: marked.looks.after,
+        let locked = &mut *guard;
+        let moment = shared.node_clock.advance(self.clock.moment());
+        let at = ScanRequest {
+            after: locked.scan_state.after,
             moment,
-            enters: marked.looks.is_changed && self.station.waiting() == 0,
+            sets_clock: locked.scan_state.is_changed && self.context.queued() == 0,
         };
-        marked.looks.begin();
-        let found = looking::look(marked, &mut self.station, &shared.moments, at);
-        marked.looks.end(found, moment);
-        shared.filling.note(&marked.node);
-        shared.signs.show(&marked.looks);
+        locked.scan_state.begin();
+        let found = scan::scan(locked, &mut self.context, &shared.node_clock, at);
+        locked.scan_state.end(found, moment);
+        shared.usage.note(&locked.node);
+        shared.scan_hint.publish(&locked.scan_state);
         drop(guard);
-        self.left = self.station.waiting();
+        self.until_scan = self.context.queued();
         if found.is_full {
             shared.stop(self.rt);
         }
-        if self.has_more() && !self.runner.has_baton() {
+        if self.has_more() && !self.recent_slices.has_token() {
             shared.idle.wake(self.rt);
         }
     }
 
-    /// Reports the share that the journal has reached.
-    fn tell(&self) {
-        if let Some(share) = self.shared.crossed() {
-            self.gate.filled(share);
+    /// Reports the threshold that the journal has reached.
+    fn report_threshold(&self) {
+        if let Some(threshold) = self.shared.crossed() {
+            self.gate.filled(threshold);
         }
     }
 
     /// Takes a turn. Tells whether more are to come.
-    fn goes_on(&mut self) -> bool {
-        let turn = self.turn();
-        match turn {
-            Turn::Run(pid) => self.run(pid),
-            Turn::Look => self.look(),
-            Turn::Rest | Turn::End => {}
+    fn act(&mut self) -> bool {
+        let next_action = self.next_action();
+        match next_action {
+            WorkerAction::Run(pid) => self.run(pid),
+            WorkerAction::Look => self.scan(),
+            WorkerAction::Rest | WorkerAction::End => {}
         }
-        self.tell();
-        turn != Turn::End
+        self.report_threshold();
+        next_action != WorkerAction::End
     }
 }
 
-/// Runs processes that are announced, at most 4,000 rows of one at a time: those of its own queue and, where that is empty and at each 16th
+/// Runs processes that are enqueued, at most 4,000 rows of one at a time: those of its own queue and, where that is empty and at each 16th
 /// turn, those of the others' queues, so that none waits for ever because others keep running. Of workers that have had only short slices
 /// for some time one goes on, and takes what is in the others' queues. It ends once the queues are closed, it finds no work and nothing is
-/// put off for want of memory, or once workers are stopped; a worker stops them if it finds the journal full. Then it gives its station
+/// put off for want of memory, or once workers are stopped; a worker stops them if it finds the journal full. Then it gives its thread context
 /// back, by whose seat it entered moments and timeouts. Processes that can't be checked out and rows that are dropped are passed over; what
-/// can go on is announced again. The gate is called under no lock. The clock gives the time, and moments are advanced where a command moved
+/// can go on is enqueued again. The gate is called under no lock. The clock gives the time, and moments are advanced where a command moved
 /// the node's clock ahead of it; the clock of the runtime tells how long to wait.
-pub fn work<B: Room + Queues, G: Gate, C: Clock, R: Wait + time::Clock>(
+pub fn work<B: NodeBrand + QueueBrand, G: Gate, C: Clock, R: Wait + time::Clock>(
     rt: &R,
     shared: &Shared<B>,
     gate: &G,
     clock: &C,
-    station: Station<B>,
-) -> Station<B> {
+    context: ThreadContext<B>,
+) -> ThreadContext<B> {
     let mut worker = Worker {
         rt,
         shared,
         gate,
         clock,
-        station,
-        left: 0,
-        turns: 0,
-        runner: Runner::new(),
+        context,
+        until_scan: 0,
+        since_steal: 0,
+        recent_slices: RecentSlices::new(),
     };
     for _ in rt.forever() {
-        if !worker.goes_on() {
+        if !worker.act() {
             break;
         }
     }
-    worker.into_station()
+    worker.into_context()
 }

@@ -6,15 +6,15 @@ use denote.Struct.Field.{row_field, shr_ref_field}
 use denote.Param.Send.{IsSend, IsSync, sendable, shr_send, view_send}
 use denote.Param.SendFields.{as_row_send, declared_send}
 use Rattle.std.proofs.alloc.Global.TheSendSync as Global
-use Rattle.beam_queue.specs.declared.name.Queues as Queues
-use Rattle.beam_receipts.specs.declared.room.Room as Room
+use Rattle.beam_queue.specs.declared.brand.QueueBrand as QueueBrand
+use Rattle.beam_receipts.specs.declared.brand.NodeBrand as NodeBrand
 use Rattle.beam_sched.proofs.Crossing.{Shared_sync}
-use Rattle.beam_sched.proofs.station.Station.TheSendSync as Station_crossing
+use Rattle.beam_sched.proofs.thread_context.ThreadContext.TheSendSync as ThreadContext_crossing
 use Rattle.beam_sched.specs.contracts.shared.Shared as Shared
-use Rattle.beam_serve.proofs.attendant.Terms.TheSendSync as Terms_crossing
-use Rattle.beam_serve.proofs.entrance.Entrance.TheSendSync as Entrance_crossing
-use Rattle.beam_serve.specs.contracts.attendant.Attendant as Attendant
-use Rattle.beam_serve.specs.contracts.entrance.Entrance as Entrance
+use Rattle.beam_serve.proofs.connection_thread.ServeOptions.TheSendSync as ServeOptions_crossing
+use Rattle.beam_serve.proofs.acceptor.Acceptor.TheSendSync as Acceptor_crossing
+use Rattle.beam_serve.specs.contracts.connection_thread.ConnectionThread as ConnectionThread
+use Rattle.beam_serve.specs.contracts.acceptor.Acceptor as Acceptor
 use Rattle.beam_serve.specs.contracts.seat_desk.SeatDesk as SeatDesk
 use Rattle.beam_serve.specs.contracts.seat_desk.SeatDesk.TheInside as SeatDesk_inside
 
@@ -22,15 +22,15 @@ use Rattle.beam_serve.specs.contracts.seat_desk.SeatDesk.TheInside as SeatDesk_i
 runtime_send : (l : NamedLft) (R : RattleType) → IsSync R → IsSend (as_row (row_field (ShrRef l.mir l.lft R)))
 runtime_send l R r = as_row_send (row_field (ShrRef l.mir l.lft R)) (shr_send l.mir l.lft R r)
 
-Shared_send : (l : NamedLft) (B : RattleType) (g : Room.Ghosts B.Denot) → IsSend (as_row (shr_ref_field l (Shared.the_row B g) tt))
+Shared_send : (l : NamedLft) (B : RattleType) (g : NodeBrand.Ghosts B.Denot) → IsSend (as_row (shr_ref_field l (Shared.the_row B g) tt))
 Shared_send l B g = as_row_send (shr_ref_field l (Shared.the_row B g) tt) (shr_send l.mir l.lft _ (Shared_sync B g))
 
-Entrance_send : (l : NamedLft) → IsSend (as_row (shr_ref_field l (Entrance.the_row l) tt))
-Entrance_send l = as_row_send (shr_ref_field l (Entrance.the_row l) tt) (shr_send l.mir l.lft _ (Entrance_crossing.the_sync l))
+Acceptor_send : (l : NamedLft) → IsSend (as_row (shr_ref_field l (Acceptor.the_row l) tt))
+Acceptor_send l = as_row_send (shr_ref_field l (Acceptor.the_row l) tt) (shr_send l.mir l.lft _ (Acceptor_crossing.the_sync l))
 
-pub SeatDesk_send : (l : NamedLft) (B R : RattleType) (g : Room.Ghosts B.Denot) (q : Queues.Ghosts B.Denot) → IsSync R → IsSend (SeatDesk.the_row l B R g q)
-SeatDesk_send l B R g q r = view_send _ _ _ _ _ (declared_send (SeatDesk_inside.the_type l B R g q) (runtime_send l R r, (Shared_send l B g, (Station_crossing.the_send B g q, tt))))
+pub SeatDesk_send : (l : NamedLft) (B R : RattleType) (g : NodeBrand.Ghosts B.Denot) (q : QueueBrand.Ghosts B.Denot) → IsSync R → IsSend (SeatDesk.the_row l B R g q)
+SeatDesk_send l B R g q r = view_send _ _ _ _ _ (declared_send (SeatDesk_inside.the_type l B R g q) (runtime_send l R r, (Shared_send l B g, (ThreadContext_crossing.the_send B g q, tt))))
 
-pub Attendant_send : (l : NamedLft) (B R : RattleType) (g : Room.Ghosts B.Denot) (q : Queues.Ghosts B.Denot) → IsSync R → IsSend (Attendant.the_row l B R g q)
-Attendant_send l B R g q r = declared_send (Attendant.the_type l B R g q)
-    (runtime_send l R r, (Global.the_send, (Shared_send l B g, (Entrance_send l, ((search sendable), (SeatDesk_send l B R g q r, (Terms_crossing.the_send, tt)))))))
+pub ConnectionThread_send : (l : NamedLft) (B R : RattleType) (g : NodeBrand.Ghosts B.Denot) (q : QueueBrand.Ghosts B.Denot) → IsSync R → IsSend (ConnectionThread.the_row l B R g q)
+ConnectionThread_send l B R g q r = declared_send (ConnectionThread.the_type l B R g q)
+    (runtime_send l R r, (Global.the_send, (Shared_send l B g, (Acceptor_send l, ((search sendable), (SeatDesk_send l B R g q r, (ServeOptions_crossing.the_send, tt)))))))

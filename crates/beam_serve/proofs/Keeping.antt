@@ -12,16 +12,16 @@ use Rattle.beam_machine.specs.Journal.{Entry}
 use Rattle.beam_machine.specs.View.{View}
 use Rattle.beam_model.specs.Listing.{Listing}
 use Rattle.beam_journal.specs.Entering.{entry_of}
-use Rattle.beam_receipts.specs.Receipts.{Share}
+use Rattle.beam_receipts.specs.Receipts.{SeatHistory}
 use Rattle.beam_machine.specs.Frames.{Command, response_of, stream_of}
 use Rattle.beam_remote.specs.declared.error.Served.{Served}
 use Rattle.beam_remote.specs.declared.error.ServeError.{ServeError}
 use Rattle.beam_remote.specs.Serving.{Answered, IsServed, IsStopped, IsUnloaded, Serves}
 use Rattle.beam_shared.specs.declared.refusal.Refusal.{Refusal}
 use Rattle.beam_shared.specs.declared.refusal.Refusal.TheVariants as refusal
-use Rattle.beam_sched.specs.Commanded.{Commanded, kept_more}
+use Rattle.beam_sched.specs.CommandAnswers.{CommandAnswered, with_kept}
 use Rattle.beam_serve.specs.Answers.{SeatAnswers, response_by, response_to}
-use Rattle.beam_serve.specs.Kept.{IsBegunAndKept, IsRefusal, IsToldAndKept, KeepsTold, Tell}
+use Rattle.beam_serve.specs.SessionReplies.{IsPartlyWrittenAndKept, IsRefusal, IsWrittenAndKept, KeepsReplied, AreRepliesOf}
 
 refused_is : (why : Refusal) → IsRefusal (response_to why)
 refused_is (refusal.Node r) = tt
@@ -41,38 +41,38 @@ unprepared_is _ (response.Held n) h = absurd h
 unprepared_is _ (response.Viewed t) h = absurd h
 
 -- the responses of a session after a refusal report the same entries
-more_refusal : (r : Response) (rs : List Response) (es : List Entry) → IsRefusal r → Tell rs es → Tell (r ∷ rs) es
+more_refusal : (r : Response) (rs : List Response) (es : List Entry) → IsRefusal r → AreRepliesOf rs es → AreRepliesOf (r ∷ rs) es
 more_refusal r rs [] is h = (is, h)
 more_refusal r rs (e ∷ es) is h = inr (is, h)
 
-keeps_refusal : (s next t : Share) (r : Response) (rs : List Response) → IsRefusal r → next ≡ s → KeepsTold next rs t → KeepsTold s (r ∷ rs) t
+keeps_refusal : (s next t : SeatHistory) (r : Response) (rs : List Response) → IsRefusal r → next ≡ s → KeepsReplied next rs t → KeepsReplied s (r ∷ rs) t
 keeps_refusal s next t r rs is same h = record {
   entries = h.entries;
-  kept = h.kept ∙ ap (λ (x : Share). record x { kept = x.kept ++ h.entries }) same;
+  kept = h.kept ∙ ap (λ (x : SeatHistory). record x { kept = x.kept ++ h.entries }) same;
   told = more_refusal r rs h.entries is h.told;
 }
 
 -- a reply to an accepted event, before the other responses of a session
-keeps_reply : (s next t : Share) (event : DebugEvent Listing) (reply : DebugReply View) (r : Response) (rs : List Response)
-    → r ≡ response_of (Ok reply) → next ≡ kept_more s event reply → KeepsTold next rs t → KeepsTold s (r ∷ rs) t
+keeps_reply : (s next t : SeatHistory) (event : DebugEvent Listing) (reply : DebugReply View) (r : Response) (rs : List Response)
+    → r ≡ response_of (Ok reply) → next ≡ with_kept s event reply → KeepsReplied next rs t → KeepsReplied s (r ∷ rs) t
 keeps_reply s next t event reply r rs is same h = record {
   entries = entry_of event (Some s.number) reply ∷ h.entries;
-  kept = h.kept ∙ ap (λ (x : Share). record x { kept = x.kept ++ h.entries }) same
+  kept = h.kept ∙ ap (λ (x : SeatHistory). record x { kept = x.kept ++ h.entries }) same
       ∙ ap (λ (es : List Entry). record s { kept = es }) (append_assoc s.kept (entry_of event (Some s.number) reply ∷ []) h.entries);
   told = inl (is, h.told);
 }
 
-keeps_answer : (s next t : Share) (event : DebugEvent Listing) (answer : Result (DebugReply View) Refusal) (r : Response) (rs : List Response)
-    → Commanded s event answer next → r ≡ response_by answer → KeepsTold next rs t → KeepsTold s (r ∷ rs) t
+keeps_answer : (s next t : SeatHistory) (event : DebugEvent Listing) (answer : Result (DebugReply View) Refusal) (r : Response) (rs : List Response)
+    → CommandAnswered s event answer next → r ≡ response_by answer → KeepsReplied next rs t → KeepsReplied s (r ∷ rs) t
 keeps_answer s next t event (Ok reply) r rs c is h = keeps_reply s next t event reply r rs is c.answered.seat h
 keeps_answer s next t event (Err why) r rs c is h = keeps_refusal s next t r rs (subst IsRefusal (sym is) (refused_is why)) c.answered.seat h
 
-keeps_one : (s next t : Share) (c : Command) (r : Response) (rs : List Response) → Answered SeatAnswers s c r next → KeepsTold next rs t → KeepsTold s (r ∷ rs) t
-keeps_one s next t c r rs (inl a) h = keeps_answer s next t a.0 a.2.answer r rs a.2.commanded a.2.is_response h
+keeps_one : (s next t : SeatHistory) (c : Command) (r : Response) (rs : List Response) → Answered SeatAnswers s c r next → KeepsReplied next rs t → KeepsReplied s (r ∷ rs) t
+keeps_one s next t c r rs (inl a) h = keeps_answer s next t a.0 a.2.answer r rs a.2.command_answered a.2.is_response h
 keeps_one s next t c r rs (inr a) h = keeps_refusal s next t r rs (unprepared_is c r a.0) a.1 h
 
 -- a seat keeps of a session's commands the entries that their responses report
-pub keeps : (s : Share) (cs : List Command) (rs : List Response) (t : Share) → Serves SeatAnswers s cs rs t → KeepsTold s rs t
+pub keeps : (s : SeatHistory) (cs : List Command) (rs : List Response) (t : SeatHistory) → Serves SeatAnswers s cs rs t → KeepsReplied s rs t
 keeps s [] [] t h = record {
   entries = [];
   kept = h ∙ ap (λ (es : List Entry). record s { kept = es }) (sym (append-nil s.kept));
@@ -82,14 +82,14 @@ keeps s [] (r ∷ rs) t h = absurd h
 keeps s (c ∷ cs) [] t h = absurd h
 keeps s (c ∷ cs) (r ∷ rs) t h = keeps_one s h.0 t c r rs h.1 (keeps h.0 cs rs t h.2)
 
-pub kept_served : (s : Share) (read written : List ℕ) (served : Served) (t : Share) → IsServed SeatAnswers s read written served t → IsToldAndKept s written t
+pub kept_served : (s : SeatHistory) (read written : List ℕ) (served : Served) (t : SeatHistory) → IsServed SeatAnswers s read written served t → IsWrittenAndKept s written t
 kept_served s read written served t h = record {
   responses = h.responses;
   is_written = h.is_written;
   keeps = keeps s (stream_of read).commands h.responses t h.answered;
 }
 
-pub kept_stopped : (s : Share) (read written : List ℕ) (e : ServeError) (t : Share) → IsStopped SeatAnswers s read written e t → IsBegunAndKept s written t
+pub kept_stopped : (s : SeatHistory) (read written : List ℕ) (e : ServeError) (t : SeatHistory) → IsStopped SeatAnswers s read written e t → IsPartlyWrittenAndKept s written t
 kept_stopped s read written e t h = record {
   responses = h.responses;
   untold = h.untold;

@@ -7,8 +7,8 @@ use Rattle.beam_tools.specs.declared.job.JobFault.TheVariants as fault
 pub starting_is : (port : ℕ) (module_name function_name : List ℕ) (f : JobFault) → StartingSays module_name function_name f → IsOfPort port f
 starting_is port m n fault.LongName h = tt
 starting_is port m n fault.NoMemory h = tt
-starting_is port m n (fault.Pipe why said) h = absurd h
-starting_is port m n (fault.Net p said) h = absurd h
+starting_is port m n (fault.Pipe why os_error) h = absurd h
+starting_is port m n (fault.Net p os_error) h = absurd h
 starting_is port m n (fault.File f) h = absurd h
 starting_is port m n (fault.Start refused) h = absurd h
 starting_is port m n fault.JournalFull h = absurd h

@@ -7,10 +7,10 @@ use Rattle.beam_machine.specs.declared.debug.DebugReply.{DebugReply}
 use Rattle.beam_machine.specs.Frames.{response_of}
 use Rattle.beam_machine.specs.View.{View}
 use Rattle.beam_model.specs.Listing.{Listing}
-use Rattle.beam_receipts.specs.Receipts.{Share}
+use Rattle.beam_receipts.specs.Receipts.{SeatHistory}
 use Rattle.beam_shared.specs.declared.refusal.Refusal.{Refusal}
 use Rattle.beam_shared.specs.declared.refusal.Refusal.TheVariants.{Node as OfNode, Busy, JournalFull}
-use Rattle.beam_sched.specs.Commanded.{Commanded}
+use Rattle.beam_sched.specs.CommandAnswers.{CommandAnswered}
 
 -- the response to a refused command
 abbrev pub response_to : Refusal → Response
@@ -25,7 +25,7 @@ response_by (Err refusal) = response_to refusal
 
 -- A shared node, which stays unnamed since it is under its lock, gives this answer to the event; if it accepts the event, the seat keeps it
 -- with its reply. The seats' entries are those of a lawful journal, so a reply that a seat keeps is the node's.
-pub record SeatAnswers (s : Share) (event : DebugEvent Listing) (r : Response) (t : Share) : Type 0 where
+pub record SeatAnswers (s : SeatHistory) (event : DebugEvent Listing) (r : Response) (t : SeatHistory) : Type 0 where
   pub answer : Result (DebugReply View) Refusal
-  pub commanded : Commanded s event answer t
+  pub command_answered : CommandAnswered s event answer t
   pub is_response : r ≡ response_by answer

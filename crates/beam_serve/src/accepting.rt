@@ -1,7 +1,7 @@
 //! Connections that are accepted.
 
-use crate::doors::Doors;
-use beam_tools::said::Said;
+use crate::open_sockets::OpenSockets;
+use beam_tools::os_error::OsError;
 use log::{Log, warn};
 use std::io::{Error, ErrorKind};
 use std::net::{SocketAddr, TcpListener, TcpStream};
@@ -10,29 +10,29 @@ use std::time::{Clock, Duration};
 
 /// Why no connection is accepted.
 #[derive(Clone, Copy, Debug, PartialEq, Eq)]
-pub enum Closed {
-    /// The doors are shut.
+pub enum NotAccepted {
+    /// The sockets are shut.
     Shut,
     /// The listener is gone: the operating system's error.
-    Gone(Said),
+    ListenerFailed(OsError),
 }
 
 /// Whether accepting can succeed after this failure.
 #[derive(Clone, Copy, Debug, PartialEq, Eq)]
-enum Failure {
+enum AcceptFailure {
     /// The next call may succeed: no descriptors, no memory, a connection or a network that broke off.
-    Passing,
+    Transient,
     /// The listener is gone.
-    Lasting,
+    Permanent,
 }
 
 /// How long to wait after a failure that may pass, in milliseconds.
-const PAUSE: u64 = 100;
+const RETRY_AFTER: u64 = 100;
 
 /// The system has no descriptors left, the process has none, the protocol failed, or there are no buffers.
-const PASSING: [i32; 4] = [23, 24, 71, 105];
+const TRANSIENT_ERRORS: [i32; 4] = [23, 24, 71, 105];
 
-fn failure_of(error: &Error) -> Failure {
+fn failure_of(error: &Error) -> AcceptFailure {
     match error.kind() {
         ErrorKind::Interrupted
         | ErrorKind::WouldBlock
@@ -43,10 +43,10 @@ fn failure_of(error: &Error) -> Failure {
         | ErrorKind::NetworkUnreachable
         | ErrorKind::NetworkDown
         | ErrorKind::PermissionDenied
-        | ErrorKind::OutOfMemory => Failure::Passing,
+        | ErrorKind::OutOfMemory => AcceptFailure::Transient,
         _ => match error.raw_os_error() {
-            Some(number) if PASSING.contains(&number) => Failure::Passing,
-            _ => Failure::Lasting,
+            Some(number) if TRANSIENT_ERRORS.contains(&number) => AcceptFailure::Transient,
+            _ => AcceptFailure::Permanent,
         },
     }
 }
@@ -56,25 +56,25 @@ fn failure_of(error: &Error) -> Failure {
 pub fn accept<R: Wait + Clock + Log>(
     rt: &R,
     listener: &TcpListener,
-    doors: &Doors,
-) -> Result<(TcpStream, SocketAddr), Closed> {
-    let mut is_told = false;
+    sockets: &OpenSockets,
+) -> Result<(TcpStream, SocketAddr), NotAccepted> {
+    let mut is_reported = false;
     for _ in rt.forever() {
         let error = match listener.accept() {
             Ok(connection) => return Ok(connection),
             Err(error) => error,
         };
-        if doors.are_shut(rt) {
-            return Err(Closed::Shut);
+        if sockets.are_shut(rt) {
+            return Err(NotAccepted::Shut);
         }
-        if failure_of(&error) == Failure::Lasting {
-            return Err(Closed::Gone(Said::of(&error)));
+        if failure_of(&error) == AcceptFailure::Permanent {
+            return Err(NotAccepted::ListenerFailed(OsError::of(&error)));
         }
-        if !is_told {
+        if !is_reported {
             warn!(rt; "accept: {error}");
-            is_told = true;
+            is_reported = true;
         }
-        rt.sleep(Duration::from_millis(PAUSE));
+        rt.sleep(Duration::from_millis(RETRY_AFTER));
     }
     unreachable!()
 }

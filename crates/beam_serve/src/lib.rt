@@ -3,27 +3,27 @@
 #![tactic(auto)]
 
 mod accepting;
-mod attendant;
-mod connections;
-mod doors;
-mod ends;
-mod entrance;
-mod frames;
-mod idle;
+mod acceptor;
+mod command_log;
+mod connection_thread;
+mod endpoint;
+mod exit_log;
+mod frame_tracker;
+mod incoming_connections;
 mod loading;
 mod logging;
-mod noting;
+mod open_sockets;
 mod piping;
-mod place;
 mod seat_desk;
+mod serve_gate;
 mod serving;
 mod sessions;
 mod streams;
-mod watching;
+mod timed_stream;
 
-pub use idle::Timed;
 pub use piping::pipe;
 pub use seat_desk::SeatDesk;
 pub use serving::serve;
-pub use sessions::{Door, attend, session};
+pub use sessions::{Incoming, serve_sessions, session};
 pub use streams::Streams;
+pub use timed_stream::TimedStream;

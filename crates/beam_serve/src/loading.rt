@@ -7,10 +7,10 @@ use beam_image::Image;
 use beam_machine::command::Response;
 use beam_machine::debug::DebugEvent;
 use beam_machine::event::{Event, Refused};
-use beam_queue::Queues;
-use beam_receipts::room::Room;
+use beam_queue::QueueBrand;
+use beam_receipts::brand::NodeBrand;
 use beam_remote::Desk;
-use beam_tools::fault::{FileFault, Why};
+use beam_tools::fault::{FileFault, FileFaultKind};
 use beam_tools::files::Files;
 use beam_tools::job::{JobFault, start_event};
 use beam_tools::line::{Serve, Start};
@@ -20,26 +20,26 @@ use std::alloc::Global;
 use std::sync::Wait;
 
 /// Why a desk doesn't accept an event.
-enum Unmet {
+enum EventRefusal {
     Refused(Refused),
     JournalFull,
 }
 
 /// Gives the desk an event. The answer is never `Busy`: no process is out before schedulers run.
-fn give<B: Room + Queues, R: Wait + Log + AllocGlobal>(
+fn apply_event<B: NodeBrand + QueueBrand, R: Wait + Log + AllocGlobal>(
     desk: &mut SeatDesk<'_, B, R>,
     event: Event<Image>,
-) -> Result<(), Unmet> {
+) -> Result<(), EventRefusal> {
     match desk.command(DebugEvent::Node(event)) {
-        Response::Refused(refused) => Err(Unmet::Refused(refused)),
-        Response::Busy => Err(Unmet::Refused(Refused::NotReady)),
-        Response::JournalFull => Err(Unmet::JournalFull),
+        Response::Refused(refused) => Err(EventRefusal::Refused(refused)),
+        Response::Busy => Err(EventRefusal::Refused(Refused::NotReady)),
+        Response::JournalFull => Err(EventRefusal::JournalFull),
         _ => Ok(()),
     }
 }
 
 /// Reads a file, prepares it, and loads it.
-fn load<'a, F: Files, B: Room + Queues, R: Wait + Log + AllocGlobal>(
+fn load<'a, F: Files, B: NodeBrand + QueueBrand, R: Wait + Log + AllocGlobal>(
     alloc: Global,
     files: &mut F,
     desk: &mut SeatDesk<'_, B, R>,
@@ -52,19 +52,19 @@ fn load<'a, F: Files, B: Room + Queues, R: Wait + Log + AllocGlobal>(
         Ok(image) => image,
         Err(why) => return Err(JobFault::File(FileFault { name, why })),
     };
-    match give(desk, Event::Load(image)) {
+    match apply_event(desk, Event::Load(image)) {
         Ok(()) => Ok(()),
-        Err(Unmet::JournalFull) => Err(JobFault::JournalFull),
-        Err(Unmet::Refused(refused)) => Err(JobFault::File(FileFault {
+        Err(EventRefusal::JournalFull) => Err(JobFault::JournalFull),
+        Err(EventRefusal::Refused(refused)) => Err(JobFault::File(FileFault {
             name,
-            why: Why::Refused(refused),
+            why: FileFaultKind::Refused(refused),
         })),
     }
 }
 
 /// Starts a process, as a command of the desk.
 #[tactic(auto, using(crate::proofs::Ports::starting_is))]
-fn start_process<'a, B: Room + Queues, R: Wait + Log + AllocGlobal>(
+fn start_process<'a, B: NodeBrand + QueueBrand, R: Wait + Log + AllocGlobal>(
     alloc: Global,
     desk: &mut SeatDesk<'_, B, R>,
     line: &Serve<'a>,
@@ -76,15 +76,15 @@ fn start_process<'a, B: Room + Queues, R: Wait + Log + AllocGlobal>(
         Ok(event) => event,
         Err(fault) => return Err(fault),
     };
-    match give(desk, event) {
+    match apply_event(desk, event) {
         Ok(()) => Ok(()),
-        Err(Unmet::JournalFull) => Err(JobFault::JournalFull),
-        Err(Unmet::Refused(refused)) => Err(JobFault::Start(refused)),
+        Err(EventRefusal::JournalFull) => Err(JobFault::JournalFull),
+        Err(EventRefusal::Refused(refused)) => Err(JobFault::Start(refused)),
     }
 }
 
 /// Loads the files of the line in order, and starts its process, as commands of the desk, up to the first that is refused.
-pub fn begin<'a, F: Files, B: Room + Queues, R: Wait + Log + AllocGlobal>(
+pub fn load_and_start<'a, F: Files, B: NodeBrand + QueueBrand, R: Wait + Log + AllocGlobal>(
     alloc: Global,
     files: &mut F,
     desk: &mut SeatDesk<'_, B, R>,

@@ -11,9 +11,9 @@ use std::time::Clock;
 
 /// Writes each record to the standard error of `R`, a line each, which begins with the time.
 #[derive(Clone, Copy, Debug, Drop)]
-pub struct Stamped<R>(pub R);
+pub struct TimestampedStderr<R>(pub R);
 
-impl<R: Eprint + Clock> Log for Stamped<R> {
+impl<R: Eprint + Clock> Log for TimestampedStderr<R> {
     ghost enables = { λ _ _ _. Some true };
 
     ghost target_of = { λ _. Some [] };
@@ -45,6 +45,6 @@ fn filter(level: LogLevel) -> LevelFilter {
 }
 
 /// A runtime that logs to standard error, up to a level.
-pub fn logged<R: Eprint + Clock>(rt: &R, level: LogLevel) -> Logged<&R, Stamped<&R>> {
-    Logged::new(rt, filter(level), Stamped(rt))
+pub fn logged<R: Eprint + Clock>(rt: &R, level: LogLevel) -> Logged<&R, TimestampedStderr<&R>> {
+    Logged::new(rt, filter(level), TimestampedStderr(rt))
 }

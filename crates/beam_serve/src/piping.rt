@@ -1,7 +1,7 @@
 //! A session over the standard streams.
 ghost use Rattle.std.specs.Prelude.{◌≡◌, IfErr, Option};
-ghost use Rattle.beam_remote.specs.declared.error.Why.{Why};
-ghost use Rattle.beam_tools.specs.declared.said.Said.{Said};
+ghost use Rattle.beam_remote.specs.declared.error.SessionFailure.{SessionFailure};
+ghost use Rattle.beam_tools.specs.declared.os_error.OsError.{OsError};
 
 use crate::streams::Streams;
 use beam_desk::pipe as session;
@@ -10,11 +10,11 @@ use std::io;
 
 /// Answers the commands on standard input on standard output, over a node that begins empty, up to the input's end or a fault.
 pub fn pipe<'a, R: Input + Print + AllocGlobal>(rt: &R) -> Result<(), JobFault<'a>>
-    ensures fault { IfErr result (λ f. (why : Why) × (said : Option Said) × (f ≡ JobFault.Pipe why said)) }
+    ensures fault { IfErr result (λ f. (why : SessionFailure) × (os_error : Option OsError) × (f ≡ JobFault.Pipe why os_error)) }
 {
     let mut port = Streams::new(rt.reader(), io::writer(rt));
     match session(rt.alloc(), &mut port) {
         Ok(_) => Ok(()),
-        Err(error) => Err(JobFault::Pipe(error.why, port.said())),
+        Err(error) => Err(JobFault::Pipe(error.why, port.os_error())),
     }
 }

@@ -1,76 +1,76 @@
 //! The desk of a seat.
 ghost use Rattle.std.specs.Prelude.{◌≡◌};
-ghost use Rattle.beam_sched.specs.Commanded.{answer_of};
+ghost use Rattle.beam_sched.specs.CommandAnswers.{answer_of};
 ghost use Rattle.beam_serve.specs.Answers.{response_by, response_to};
 
-use crate::noting::Noted;
+use crate::command_log::CommandLog;
 use beam_debug::outcome::Outcome;
 use beam_desk::reply;
 use beam_image::Image;
 use beam_machine::command::Response;
 use beam_machine::debug::DebugEvent;
-use beam_queue::Queues;
-use beam_receipts::room::Room;
+use beam_queue::QueueBrand;
+use beam_receipts::brand::NodeBrand;
 use beam_remote::Desk;
 use beam_sched::shared::Shared;
-use beam_sched::station::Station;
+use beam_sched::thread_context::ThreadContext;
 use beam_shared::refusal::Refusal;
 use log::Log;
 use std::marker::Model;
 use std::sync::Wait;
 
-/// A desk that has a station of a node that threads share, and a way to the node. Each event is a command of the station's seat; the lock
+/// A desk that has a thread context of a node that threads share, and a way to the node. Each event is a command of the thread context's seat; the lock
 /// is held only for that command. Contracts see the seat.
-pub struct SeatDesk<'a, B: Room + Queues, R> {
+pub struct SeatDesk<'a, B: NodeBrand + QueueBrand, R> {
     rt: &'a R,
     shared: &'a Shared<B>,
-    station: Station<B>,
+    context: ThreadContext<B>,
 }
 
-impl<'a, B: Room + Queues, R> Drop for SeatDesk<'a, B, R> {
+impl<'a, B: NodeBrand + QueueBrand, R> Drop for SeatDesk<'a, B, R> {
     fn drop(self) {
         let SeatDesk {
             rt: _rt,
             shared: _shared,
-            station: _station,
+            context: _context,
         } = self;
     }
 }
 
-impl<'a, B: Room + Queues, R> Model for SeatDesk<'a, B, R> {
+impl<'a, B: NodeBrand + QueueBrand, R> Model for SeatDesk<'a, B, R> {
     ghost use Rattle.std.specs.Coded.{codes};
     ghost use Rattle.beam_term.specs.Coding.{term_code};
-    ghost use Rattle.beam_receipts.specs.Receipts.{Share};
+    ghost use Rattle.beam_receipts.specs.Receipts.{SeatHistory};
 
-    ghost Value = { Share };
+    ghost Value = { SeatHistory };
 
     ghost coded = { Prim.hlevel (codes, term_code) };
 
-    ghost view = { λ d. d.station.seat };
+    ghost view = { λ d. d.context.seat };
 }
 
-impl<'a, B: Room + Queues, R> SeatDesk<'a, B, R> {
-    /// The desk of a station of that node.
-    pub fn new(rt: &'a R, shared: &'a Shared<B>, station: Station<B>) -> SeatDesk<'a, B, R>
-        ensures { result ≡ station.seat }
+impl<'a, B: NodeBrand + QueueBrand, R> SeatDesk<'a, B, R> {
+    /// The desk of a thread context of that node.
+    pub fn new(rt: &'a R, shared: &'a Shared<B>, context: ThreadContext<B>) -> SeatDesk<'a, B, R>
+        ensures { result ≡ context.seat }
     {
         SeatDesk {
             rt,
             shared,
-            station,
+            context,
         }
     }
 
-    /// The station, whose seat knows the commands that were accepted of it, with their replies.
-    pub fn into_station(self) -> Station<B>
+    /// The thread context, whose seat knows the commands that were accepted of it, with their replies.
+    pub fn into_context(self) -> ThreadContext<B>
         ensures { result.seat ≡ self.entry }
     {
         let SeatDesk {
             rt: _rt,
             shared: _shared,
-            station,
+            context,
         } = self;
-        station
+        context
     }
 }
 
@@ -86,7 +86,7 @@ fn refused(refusal: Refusal) -> Response
 }
 
 /// The response to a command, by the node's answer.
-fn told(answer: Result<Outcome, Refusal>) -> Response
+fn response_by(answer: Result<Outcome, Refusal>) -> Response
     ensures { result ≡ response_by (answer_of answer) }
 {
     match answer {
@@ -95,15 +95,15 @@ fn told(answer: Result<Outcome, Refusal>) -> Response
     }
 }
 
-impl<B: Room + Queues, R: Wait + Log + AllocGlobal> Desk for SeatDesk<'_, B, R> {
+impl<B: NodeBrand + QueueBrand, R: Wait + Log + AllocGlobal> Desk for SeatDesk<'_, B, R> {
     ghost use Rattle.beam_serve.specs.Answers.{SeatAnswers};
 
     ghost answers = { SeatAnswers };
 
     fn command(&mut self, event: DebugEvent<Image>) -> Response {
-        let noted = Noted::of(self.rt, self.shared, &event);
-        let answer = self.shared.command(self.rt, &mut self.station, event);
-        noted.tell(self.rt, self.shared, &answer);
-        told(answer)
+        let command_log = CommandLog::of(self.rt, self.shared, &event);
+        let answer = self.shared.command(self.rt, &mut self.context, event);
+        command_log.write(self.rt, self.shared, &answer);
+        response_by(answer)
     }
 }

@@ -3,29 +3,29 @@ ghost use Rattle.std.specs.Prelude.{◌≡◌, ◌≢◌, ◌≤◌, IfErr};
 ghost use Rattle.beam_journal.specs.Entering.{most_entries};
 ghost use Rattle.beam_tools.specs.Job.{IsOfPort};
 
-use crate::attendant::{Attendant, Terms};
-use crate::doors::{Doors, Served};
-use crate::entrance::{Ended, Entrance};
-use crate::loading::begin;
+use crate::acceptor::{Acceptor, Ended};
+use crate::connection_thread::{ConnectionThread, ServeOptions};
+use crate::endpoint::Endpoint;
+use crate::loading::load_and_start;
 use crate::logging::logged;
-use crate::place::Place;
+use crate::open_sockets::{OpenSockets, ServedConnections};
 use crate::seat_desk::SeatDesk;
-use crate::watching::Watch;
+use crate::serve_gate::ServeGate;
 use beam_journal::journal::MOST_ENTRIES;
 use beam_queue as queue;
-use beam_queue::{NotClosed, NotMade, Queues, close};
-use beam_receipts::keeper::Blank;
-use beam_receipts::room::Room;
+use beam_queue::{NotClosed, NotMade, QueueBrand, close};
+use beam_receipts::brand::NodeBrand;
+use beam_receipts::keeper::UnbrandedKeeper;
 use beam_sched::clock::SteadyClock;
 use beam_sched::schedulers::run_with_helpers;
 use beam_sched::shared::Shared;
-use beam_sched::station::Station;
-use beam_sched::stations::{Apart, stations};
+use beam_sched::thread_context::ThreadContext;
+use beam_sched::thread_contexts::{SeatsAndQueues, contexts};
 use beam_shared::node::Node;
 use beam_tools::files::{FileSystem, Files};
 use beam_tools::job::JobFault;
 use beam_tools::line::Serve;
-use beam_tools::said::Said;
+use beam_tools::os_error::OsError;
 use log::{Log, debug};
 use std::alloc::Global;
 use std::io::Error;
@@ -36,25 +36,25 @@ use std::sync::Wait;
 use std::thread::Threads;
 use std::time::{Clock, Duration};
 
-/// The stations of a node that serves a port, beside that of the calling thread.
+/// The thread contexts of a node that serves a port, beside that of the calling thread.
 #[derive(Drop)]
-struct Stations<B: Room + Queues> {
-    schedulers: Vec<Station<B>>,
-    /// The stations of the other threads that serve connections.
-    clients: Vec<Station<B>>,
+struct ThreadContexts<B: NodeBrand + QueueBrand> {
+    schedulers: Vec<ThreadContext<B>>,
+    /// The thread contexts of the other threads that serve connections.
+    clients: Vec<ThreadContext<B>>,
 }
 
-fn stations_of<'l, B: Room + Queues>(
+fn contexts_of<'l, B: NodeBrand + QueueBrand>(
     alloc: Global,
     node: &mut Node<B>,
-    queues: queue::Blank,
+    queues: queue::UnbrandedQueues,
     line: &Serve<'l>,
-) -> Result<Stations<B>, JobFault<'l>>
+) -> Result<ThreadContexts<B>, JobFault<'l>>
     requires { queues ≡ B.deques }
     ensures fault { IfErr result (IsOfPort line.now.port) }
 {
-    match stations(alloc, node, queues, usize::from(line.schedulers)) {
-        Ok((schedulers, clients)) => Ok(Stations {
+    match contexts(alloc, node, queues, usize::from(line.schedulers)) {
+        Ok((schedulers, clients)) => Ok(ThreadContexts {
             schedulers,
             clients,
         }),
@@ -64,7 +64,7 @@ fn stations_of<'l, B: Room + Queues>(
 }
 
 /// Loads the files and starts the process of the line, and prints the address.
-fn open<'l, F: Files, B: Room + Queues, R: Wait + Print + Log + AllocGlobal>(
+fn start_up<'l, F: Files, B: NodeBrand + QueueBrand, R: Wait + Print + Log + AllocGlobal>(
     rt: &R,
     alloc: Global,
     files: &mut F,
@@ -74,7 +74,7 @@ fn open<'l, F: Files, B: Room + Queues, R: Wait + Print + Log + AllocGlobal>(
 ) -> Result<(), JobFault<'l>>
     ensures fault { IfErr result (IsOfPort line.now.port) }
 {
-    begin(alloc, files, desk, line)?;
+    load_and_start(alloc, files, desk, line)?;
     if println!(rt; "listening on {address}").is_err() {
         return Err(JobFault::Unwritten);
     }
@@ -103,8 +103,8 @@ fn limit_of(line: &Serve) -> u32
     }
 }
 
-fn terms_of(line: &Serve) -> Terms {
-    Terms {
+fn options_of(line: &Serve) -> ServeOptions {
+    ServeOptions {
         idle: match line.idle {
             0 => None,
             seconds => Some(Duration::from_secs(u64::from(seconds))),
@@ -120,134 +120,136 @@ fn outcome<'l>(line: &Serve<'l>, address: SocketAddr, ended: Ended) -> Result<()
 {
     match ended {
         Ended::Served => Ok(()),
-        Ended::NetFailed(said) => Err(JobFault::Net(port_of(line, address), said)),
+        Ended::NetFailed(os_error) => Err(JobFault::Net(port_of(line, address), os_error)),
         Ended::Shut => Err(JobFault::JournalFull),
         Ended::NoWorker => Err(JobFault::NoMemory),
     }
 }
 
-/// The threads that serve connections beside the calling one, each at one of these stations, as far as there is memory. Stations that none
+/// The threads that serve connections beside the calling one, each at one of these thread contexts, as far as there is memory. ThreadContexts that none
 /// of them has stay in the list.
-fn helpers_of<'a, B: Room + Queues, R>(
+fn helpers_of<'a, B: NodeBrand + QueueBrand, R>(
     rt: &'a R,
     alloc: Global,
     shared: &'a Shared<B>,
-    entrance: &'a Entrance<'a>,
-    terms: Terms,
-    stations: &mut Vec<Station<B>>,
-) -> Vec<Attendant<'a, B, R>> {
+    acceptor: &'a Acceptor<'a>,
+    options: ServeOptions,
+    contexts: &mut Vec<ThreadContext<B>>,
+) -> Vec<ConnectionThread<'a, B, R>> {
     let mut helpers = Vec::new(alloc);
-    for number in 1..terms.clients {
+    for number in 1..options.clients {
         if helpers.reserve(1).is_err() {
             return helpers;
         }
-        let Some(station) = stations.pop() else {
+        let Some(context) = contexts.pop() else {
             return helpers;
         };
-        let desk = SeatDesk::new(rt, shared, station);
-        let _ = helpers.push(Attendant::new(rt, alloc, shared, entrance, number, desk, terms));
+        let desk = SeatDesk::new(rt, shared, context);
+        let _ = helpers.push(ConnectionThread::new(
+            rt, alloc, shared, acceptor, number, desk, options,
+        ));
     }
     helpers
 }
 
-/// Serves the connections while the schedulers run. All stations come back.
-fn connect<
+/// Serves the connections while the schedulers run. All thread contexts come back.
+fn serve_connections<
     'a,
-    B: Room + Queues + Send + Sync,
+    B: NodeBrand + QueueBrand + Send + Sync,
     R: Threads + Wait + Clock + Log + AllocGlobal + Sync,
 >(
     rt: &'a R,
     alloc: Global,
     shared: &'a Shared<B>,
-    entrance: &'a Entrance<'a>,
+    acceptor: &'a Acceptor<'a>,
     line: &Serve,
     desk: SeatDesk<'a, B, R>,
-    stations: Stations<B>,
-    apart: &mut Apart<B>,
+    contexts: ThreadContexts<B>,
+    parts: &mut SeatsAndQueues<B>,
 ) {
-    let Stations {
+    let ThreadContexts {
         schedulers,
         mut clients,
-    } = stations;
-    let terms = terms_of(line);
-    let doors = entrance.place().doors;
+    } = contexts;
+    let options = options_of(line);
+    let sockets = acceptor.endpoint().sockets;
     let clock = SteadyClock::new(rt);
-    let watch = Watch::new(rt, doors, line.journal_limit, line.stop_when_full);
-    let mut first = Attendant::new(rt, alloc, shared, entrance, 0, desk, terms);
-    let helpers = helpers_of(rt, alloc, shared, entrance, terms, &mut clients);
+    let gate = ServeGate::new(rt, sockets, line.journal_limit, line.stop_when_full);
+    let mut first = ConnectionThread::new(rt, alloc, shared, acceptor, 0, desk, options);
+    let helpers = helpers_of(rt, alloc, shared, acceptor, options, &mut clients);
     let (schedulers, helpers) = run_with_helpers(
-        rt, shared, &watch, &clock, schedulers, helpers, &mut first,
+        rt, shared, &gate, &clock, schedulers, helpers, &mut first,
     );
-    apart.put_all(schedulers);
-    apart.put_all(clients);
+    parts.put_all(schedulers);
+    parts.put_all(clients);
     for helper in helpers {
-        apart.put(helper.into_station());
+        parts.put(helper.into_context());
     }
-    apart.put(first.into_station());
+    parts.put(first.into_context());
 }
 
 /// Why a node doesn't serve any more.
-fn ended_of<R: Wait>(rt: &R, entrance: &Entrance<'_>) -> Ended {
-    match entrance.ended(rt) {
-        // The doors may have been shut while the last connections were served.
-        Some(Ended::Served) | None if entrance.place().doors.are_shut(rt) => Ended::Shut,
+fn ended_of<R: Wait>(rt: &R, acceptor: &Acceptor<'_>) -> Ended {
+    match acceptor.ended(rt) {
+        // The sockets may have been shut while the last connections were served.
+        Some(Ended::Served) | None if acceptor.endpoint().sockets.are_shut(rt) => Ended::Shut,
         Some(ended) => ended,
         None => Ended::Served,
     }
 }
 
-/// Serves the connections once the files are loaded and the process is started. All stations come back.
+/// Serves the connections once the files are loaded and the process is started. All thread contexts come back.
 fn run<
     'a,
     'l,
     F: Files,
-    B: Room + Queues + Send + Sync,
+    B: NodeBrand + QueueBrand + Send + Sync,
     R: Threads + Wait + Clock + Print + Log + AllocGlobal + Sync,
 >(
     rt: &'a R,
     alloc: Global,
     shared: &'a Shared<B>,
-    entrance: &'a Entrance<'a>,
+    acceptor: &'a Acceptor<'a>,
     files: &mut F,
     line: &Serve<'l>,
-    stations: Stations<B>,
-    apart: &mut Apart<B>,
+    contexts: ThreadContexts<B>,
+    parts: &mut SeatsAndQueues<B>,
 ) -> Result<(), JobFault<'l>>
     ensures fault { IfErr result (IsOfPort line.now.port) }
 {
-    let mut stations = stations;
-    let Some(station) = stations.clients.pop() else {
+    let mut contexts = contexts;
+    let Some(context) = contexts.clients.pop() else {
         return Err(JobFault::Mismatch);
     };
-    let mut desk = SeatDesk::new(rt, shared, station);
-    let address = entrance.place().address;
-    match open(rt, alloc, files, &mut desk, address, line) {
+    let mut desk = SeatDesk::new(rt, shared, context);
+    let address = acceptor.endpoint().address;
+    match start_up(rt, alloc, files, &mut desk, address, line) {
         Ok(()) => {
-            connect(rt, alloc, shared, entrance, line, desk, stations, apart);
-            outcome(line, address, ended_of(rt, entrance))
+            serve_connections(rt, alloc, shared, acceptor, line, desk, contexts, parts);
+            outcome(line, address, ended_of(rt, acceptor))
         }
         Err(fault) => {
-            let Stations {
+            let ThreadContexts {
                 schedulers,
                 clients,
-            } = stations;
-            apart.put_all(schedulers);
-            apart.put_all(clients);
-            apart.put(desk.into_station());
+            } = contexts;
+            parts.put_all(schedulers);
+            parts.put_all(clients);
+            parts.put(desk.into_context());
             Err(fault)
         }
     }
 }
 
-/// Closes the queues of a node, and the node. False where the lanes or the seats aren't all of the node's.
-fn is_closed<B: Room + Queues, R: Log>(
+/// Closes the queues of a node, and the node. False where the run queues or the seats aren't all of the node's.
+fn is_closed<B: NodeBrand + QueueBrand, R: Log>(
     rt: &R,
     alloc: Global,
     node: Node<B>,
-    apart: Apart<B>,
+    parts: SeatsAndQueues<B>,
 ) -> bool {
-    let (seats, lanes) = apart.into_parts();
-    let are_back = match close(alloc, lanes) {
+    let (seats, run_queues) = parts.into_parts();
+    let are_back = match close(alloc, run_queues) {
         Ok(left) => {
             debug!(rt; "{} left in the queues", left.len());
             true
@@ -263,36 +265,36 @@ fn queues_of(line: &Serve) -> usize {
     usize::from(line.schedulers) + usize::from(line.clients)
 }
 
-/// Serves the connections to a listener with a new node, and closes the node. `Mismatch` where the stations aren't all of the node's.
+/// Serves the connections to a listener with a new node, and closes the node. `Mismatch` where the thread contexts aren't all of the node's.
 fn serve_node<
     'l,
     F: Files,
-    B: Room + Queues + Send + Sync,
+    B: NodeBrand + QueueBrand + Send + Sync,
     R: Threads + Wait + Clock + Print + Log + AllocGlobal + Sync,
 >(
     rt: &R,
     alloc: Global,
-    blank: Blank,
-    queues: queue::Blank,
-    place: Place<'_>,
+    unbranded: UnbrandedKeeper,
+    queues: queue::UnbrandedQueues,
+    endpoint: Endpoint<'_>,
     files: &mut F,
     line: &Serve<'l>,
 ) -> Result<(), JobFault<'l>>
-    requires node { blank ≡ B.table }
+    requires node { unbranded ≡ B.table }
     requires queues { queues ≡ B.deques }
     ensures fault { IfErr result (IsOfPort line.now.port) }
 {
-    let mut node = Node::<B>::with_limit(alloc, blank, limit_of(line));
-    let Ok(mut apart) = Apart::with_room(alloc, queues_of(line)) else {
+    let mut node = Node::<B>::with_limit(alloc, unbranded, limit_of(line));
+    let Ok(mut parts) = SeatsAndQueues::with_room(alloc, queues_of(line)) else {
         return Err(JobFault::NoMemory);
     };
-    let stations = stations_of(alloc, &mut node, queues, line)?;
+    let contexts = contexts_of(alloc, &mut node, queues, line)?;
     let shared = Shared::new(alloc, node);
-    let entrance = Entrance::new(place, line.connections);
+    let acceptor = Acceptor::new(endpoint, line.connections);
     let ended = run(
-        rt, alloc, &shared, &entrance, files, line, stations, &mut apart,
+        rt, alloc, &shared, &acceptor, files, line, contexts, &mut parts,
     );
-    let is_closed = is_closed(rt, alloc, shared.into_node(), apart);
+    let is_closed = is_closed(rt, alloc, shared.into_node(), parts);
     match ended {
         Err(fault) => Err(fault),
         Ok(()) if is_closed => Ok(()),
@@ -303,14 +305,14 @@ fn serve_node<
 fn net_failed<'l>(line: &Serve<'l>, error: &Error) -> JobFault<'l>
     ensures { IsOfPort line.now.port result }
 {
-    JobFault::Net(line.port, Said::of(error))
+    JobFault::Net(line.port, OsError::of(error))
 }
 
 /// Listens on the port of 127.0.0.1, loads the files and starts the process of the line, prints the address, and serves the connections. As
-/// many connections are served at once as the line says, each by a thread with a station of its own; the next one waits to be taken. A
+/// many connections are served at once as the line says, each by a thread with a thread context of its own; the next one waits to be taken. A
 /// session that fails is logged as a warning, and the next connection is taken. Where the listener is gone, and with a full journal where
 /// the line asks for that, the connections that are served are shut, the workers end after the slice that they have, and the node is closed
-/// with all its stations. A thread that can't be made is logged as a warning, and the others serve.
+/// with all its thread contexts. A thread that can't be made is logged as a warning, and the others serve.
 ///
 /// - `File` where a file isn't loaded, `Start` and `LongName` where the process isn't started: no connection is taken then;
 /// - `Net` where listening or accepting fails;
@@ -330,10 +332,10 @@ pub fn serve<
 >(rt: &R, line: &Serve<'l>) -> Result<(), JobFault<'l>>
     ensures fault { IfErr result (IsOfPort line.now.port) }
 {
-    let Ok(blank) = Blank::new(rt.alloc()) else {
+    let Ok(unbranded) = UnbrandedKeeper::new(rt.alloc()) else {
         return Err(JobFault::NoMemory);
     };
-    let Ok(queues) = queue::Blank::new(rt.alloc(), queues_of(line)) else {
+    let Ok(queues) = queue::UnbrandedQueues::new(rt.alloc(), queues_of(line)) else {
         return Err(JobFault::NoMemory);
     };
     let listener = match TcpListener::bind(rt, ("127.0.0.1", line.port)) {
@@ -344,25 +346,25 @@ pub fn serve<
         Ok(address) => address,
         Err(error) => return Err(net_failed(line, &error)),
     };
-    let Ok(served) = Served::none(rt.alloc(), line.clients) else {
+    let Ok(served) = ServedConnections::none(rt.alloc(), line.clients) else {
         return Err(JobFault::NoMemory);
     };
-    let doors = match Doors::new(&listener, served) {
-        Ok(doors) => doors,
+    let sockets = match OpenSockets::new(&listener, served) {
+        Ok(sockets) => sockets,
         Err(error) => return Err(net_failed(line, &error)),
     };
-    let place = Place {
+    let endpoint = Endpoint {
         listener: &listener,
-        doors: &doors,
+        sockets: &sockets,
         address,
     };
     let log = logged(rt, line.log);
     serve_node::<FileSystem<'_, R>, Brand, _>(
         &log,
         rt.alloc(),
-        blank,
+        unbranded,
         queues,
-        place,
+        endpoint,
         &mut FileSystem(rt),
         line,
     )

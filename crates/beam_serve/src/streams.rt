@@ -1,9 +1,9 @@
 //! A device of two streams: one that is read, one that is written.
 ghost use Rattle.std.specs.Prelude.{◌≡◌, None, ⊤};
-ghost use Rattle.beam_remote.specs.Told.{one_more};
+ghost use Rattle.beam_remote.specs.DeviceHistory.{saturating_increment};
 
 use beam_remote::{DeviceFailed, Port};
-use beam_tools::said::Said;
+use beam_tools::os_error::OsError;
 use std::io::{Error, ErrorKind, Read, Write};
 
 /// Two streams: the standard ones, or both ways of a socket. For contracts it reports nothing of their bytes.
@@ -13,7 +13,7 @@ pub struct Streams<I: Read + Drop, O: Write + Drop> {
     output: O,
     failures: u64,
     // the operating system's error of the call that failed last
-    said: Option<Said>,
+    os_error: Option<OsError>,
 }
 
 impl<I: Read + Drop, O: Write + Drop> Streams<I, O> {
@@ -23,20 +23,20 @@ impl<I: Read + Drop, O: Write + Drop> Streams<I, O> {
             input,
             output,
             failures: 0,
-            said: None,
+            os_error: None,
         }
     }
 
     /// The operating system's error of the call that failed last.
-    pub fn said(&self) -> Option<Said> {
-        self.said
+    pub fn os_error(&self) -> Option<OsError> {
+        self.os_error
     }
 
     fn fail(&mut self, error: &Error) -> DeviceFailed
-        ensures { self.new.failures ≡ one_more self.old.failures }
+        ensures { self.new.failures ≡ saturating_increment self.old.failures }
     {
         self.failures = self.failures.saturating_add(1);
-        self.said = Some(Said::of(error));
+        self.os_error = Some(OsError::of(error));
         DeviceFailed
     }
 }

@@ -12,7 +12,7 @@ use Rattle.beam_machine.specs.declared.callee.After.{After}
 use Rattle.beam_machine.specs.declared.callee.After.TheVariants.{NextRow, Return}
 use Rattle.beam_machine.specs.declared.event.Event.{Event}
 use Rattle.beam_machine.specs.declared.event.Event.TheVariants as event
-use Rattle.beam_machine.specs.declared.event.Mode.{Mode}
+use Rattle.beam_machine.specs.declared.event.UpgradeMode.{UpgradeMode}
 use Rattle.beam_machine.specs.declared.event.Refused.TheVariants.{NotReady, Sticky, NotPurged, Duplicated, TooMany, BackwardClock}
 use Rattle.beam_machine.specs.declared.event.Reply.TheVariants.{Done, Changed}
 use Rattle.beam_machine.specs.declared.process.Deadline.{Deadline}
@@ -32,11 +32,11 @@ use Rattle.beam_machine.specs.Process.{Process, is_running, is_ended, is_waiting
 use Rattle.beam_machine.specs.Row.{Outcome, makes, sends, asks, sleeps, answers, arguments_of, outcome, goes_on}
 use Rattle.beam_machine.specs.Run.{run}
 use Rattle.beam_machine.specs.State.{State, process_of, with_process, live_process, receiver_of, hearing_by, with_made}
-use Rattle.beam_laws.specs.Private.{having}
+use Rattle.beam_laws.specs.Private.{with_name_and_transit}
 use Rattle.beam_laws.proofs.Numbered.{put_here}
 use Rattle.beam_laws.proofs.Numbering.{ordered_next, next_is_free}
 use Rattle.beam_laws.proofs.Slices.{node_stays}
-use Rattle.beam_laws.specs.Private.{heard}
+use Rattle.beam_laws.specs.Private.{downs_of_end}
 use Rattle.beam_laws.proofs.Arriving.{answer_asked}
 use Rattle.beam_laws.proofs.Hearing.{nobody_ends, hears, hearing_is}
 use Rattle.beam_laws.proofs.Purging.{nobody_at}
@@ -66,7 +66,7 @@ is_waiting_status (Ended reason value) e = absurd (true≢false (sym e))
 abbrev pub RowsLawful : State → Type 0
 RowsLawful s = Enters s.code × AreShaped s.code s.processes
 
-having_ready : (code : Code) (after : After) (q : Process) (name : Option (List ℕ)) (transit : List Signal) (ms : List Monitor) → IsReady code after q → IsReady code after (record (having name transit q) { monitors = ms })
+having_ready : (code : Code) (after : After) (q : Process) (name : Option (List ℕ)) (transit : List Signal) (ms : List Monitor) → IsReady code after q → IsReady code after (record (with_name_and_transit name transit q) { monitors = ms })
 having_ready code (NextRow place) q name transit ms k =
     elim (is_ended q.status) as (λ b. IsReady code (NextRow place) (record (cond {A = Process} b q (record q { name = name; transit = transit })) { monitors = ms })) [ true ↦ k | false ↦ k ]
 having_ready code Return q name transit ms k =
@@ -78,7 +78,7 @@ hearing_shaped code pid status ps h = subst (AreShaped code) (sym (hearing_is pi
   where
     each : (ps : List Process) → AreShaped code ps → AreShaped code (map (hears pid status) ps)
     each [] h = tt
-    each (q ∷ qs) h = (signals_shaped code (heard pid status q) q h.0, each qs h.1)
+    each (q ∷ qs) h = (signals_shaped code (downs_of_end pid status q) q h.0, each qs h.1)
 
 -- a process is put, with the DOWNs of its end if it has ended
 made_shaped : (s : State) (pid : ℕ) (q : Process) → AreShaped s.code s.processes → IsShaped s.code q → AreShaped s.code (with_made s.processes pid q)
@@ -101,7 +101,7 @@ asked s pid p q native arity after e h k =
     let a : Answered = answer_of s.references ps pid native ts in
     let xs : List Signal = signals_to pid (native_sends s.references ps pid native ts) in
     let asked = answer_asked pid s.references ps native ts q (put_here s.processes pid p q e) (ap is_ended (runs after k)) in
-    let x : Process = record (having asked.0 (q.transit ++ xs) q) { monitors = asked.1 } in
+    let x : Process = record (with_name_and_transit asked.0 (q.transit ++ xs) q) { monitors = asked.1 } in
     continued (record s { processes = a.processes; references = unwrap_or a.made s.references }) pid after a.value (process_of a.processes pid) x asked.2
     h.0 (answer_apart s.code (pid - 1) s.references ps pid native ts (set_apart s.code (pid - 1) s.processes q h.1)) (having_ready s.code after q asked.0 (q.transit ++ xs) asked.1 k)
   where
@@ -204,7 +204,7 @@ each_kept s (l ∷ rest) w h =
     let this = load_kept s l w.0 h in
     each_kept (next_load s l).state rest w.1 (this.0, ordered_next s (event.Load l) h.1, this.1)
 
-atomic_kept : (s : State) (mode : Mode) (ls : List Listing) → AllByRecursion IsWellFormed ls → Framing s → Kept (next_atomic s mode ls).state
+atomic_kept : (s : State) (mode : UpgradeMode) (ls : List Listing) → AllByRecursion IsWellFormed ls → Framing s → Kept (next_atomic s mode ls).state
 atomic_kept s mode ls w h =
     either Kept (list_any (λ l. is_erlang l.name) ls) (refused s Sticky) _ (h.0, h.2)
     (either Kept (not (are_apart ls)) (refused s Duplicated) _ (h.0, h.2)

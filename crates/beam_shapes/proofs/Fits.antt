@@ -9,9 +9,9 @@ use Rattle.beam_model.specs.declared.instruction.Instruction.{Instruction}
 use Rattle.beam_model.specs.Fetch.{end_of_code}
 use Rattle.beam_model.specs.Listing.{is_row, next_row}
 use Rattle.beam_model.specs.Framed.{Shape, Assignment, may_have, finds, shape_after, targets, may_fall_through, leads, leads_on, fits, fits_if, row_at, begins_bare, entries, AreFramed}
-use Rattle.beam_shapes.specs.Forced.{Stand, assigned, LiesUnder, IsBelow, Forces, Refuses, Fails, Does, NeverLeaves, MayGo, Flows, FitsAt, IsAssignment, Settles}
-use Rattle.beam_shapes.specs.declared.error.FrameError.{FrameError}
-use Rattle.beam_shapes.specs.declared.error.FrameError.TheVariants.{FrameMismatch, NoMemory}
+use Rattle.beam_shapes.specs.Forced.{ShapeState, assigned, LiesUnder, IsBelow, Forces, Refuses, Fails, Does, NeverLeaves, MayGo, Flows, FitsAt, IsAssignment, Settles}
+use Rattle.beam_shapes.specs.declared.error.FrameCheckError.{FrameCheckError}
+use Rattle.beam_shapes.specs.declared.error.FrameCheckError.TheVariants.{FrameMismatch, NoMemory}
 use Rattle.beam_shapes.proofs.Forced.{forces_both, forces_as, forces_from, fails_both, fails_as, fails_from}
 use Rattle.beam_shapes.proofs.Listed.{does_as}
 use Rattle.beam_shapes.proofs.Looked.{goes, looked_spreads}
@@ -22,7 +22,7 @@ leaves a i next None e = e
 leaves a i next (Some s) e = refl
 
 -- a row that doesn't find its registers or its frame fits in no assignment
-pub never_fits : (code : List Instruction) (i : Instruction) (next : ℕ) (s : Shape) (k : Stand) (e : FrameError) → NeverLeaves e i s → Fails e (λ a. fits a code i next s ≡ true) k
+pub never_fits : (code : List Instruction) (i : Instruction) (next : ℕ) (s : Shape) (k : ShapeState) (e : FrameCheckError) → NeverLeaves e i s → Fails e (λ a. fits a code i next s ≡ true) k
 never_fits code i next s k FrameMismatch never = λ a below h.
     let p = and_parts (finds i s && leads a code i s) (leads_on a i next (shape_after i s)) h in
     let q = and_parts (finds i s) (leads a code i s) p.0 in
@@ -48,33 +48,33 @@ module _ (code : List Instruction) (i : Instruction) (next : ℕ) (s l : Shape) 
   joint a led on =
       and_from (finds i s && leads a code i s) (leads_on a i next (shape_after i s)) (and_from (finds i s) (leads a code i s) found led) (ap (leads_on a i next) is ∙ on)
 
-  module _ (old mid : Stand) (known : mid.known ≡ old.known) (waiting : mid.waiting ≡ old.waiting) where
+  module _ (old mid : ShapeState) (known : mid.known ≡ old.known) (waiting : mid.waiting ≡ old.waiting) where
     -- a row that can't lead to its labels doesn't fit
-    pub fails_leading : (e : FrameError) → Fails e (λ a. leads a code i s ≡ true) mid → Fails e (λ a. fits a code i next s ≡ true) old
+    pub fails_leading : (e : FrameCheckError) → Fails e (λ a. leads a code i s ≡ true) mid → Fails e (λ a. fits a code i next s ≡ true) old
     fails_leading e refusal =
         fails_as (λ a. leads a code i s ≡ true) (λ a. fits a code i next s ≡ true) old e (λ a below h. (apart a h).0)
         (fails_from (λ a. leads a code i s ≡ true) old mid e known refusal)
 
     -- a row that doesn't go to the next row fits where it leads to its labels
-    pub fits_alone : (new : Stand) → may_fall_through i ≡ false → Forces (λ a. leads a code i s ≡ true) mid new → Forces (λ a. fits a code i next s ≡ true) old new
+    pub fits_alone : (new : ShapeState) → may_fall_through i ≡ false → Forces (λ a. leads a code i s ≡ true) mid new → Forces (λ a. fits a code i next s ≡ true) old new
     fits_alone new off led =
         forces_as (λ a. leads a code i s ≡ true) (λ a. fits a code i next s ≡ true) old new (λ a below h. (apart a h).0)
         (λ h. joint (assigned old.known) h (stays (may_fall_through i) (may_have l (assigned old.known next)) off))
         (forces_from (λ a. leads a code i s ≡ true) old mid new known waiting led)
 
-    module _ (then : Stand) (on : may_fall_through i ≡ true) (led : Forces (λ a. leads a code i s ≡ true) mid then) where
+    module _ (then : ShapeState) (on : may_fall_through i ≡ true) (led : Forces (λ a. leads a code i s ≡ true) mid then) where
       both_of : (a : Assignment) → fits a code i next s ≡ true → (leads a code i s ≡ true) × (may_have l (a next) ≡ true)
       both_of a h = let p = apart a h in (p.0, goes (may_fall_through i) (may_have l (a next)) on p.1)
 
       -- a row that goes to the next row fits where the next row may have the shape too
-      pub fits_on : (new : Stand) → Forces (λ a. may_have l (a next) ≡ true) then new → Forces (λ a. fits a code i next s ≡ true) old new
+      pub fits_on : (new : ShapeState) → Forces (λ a. may_have l (a next) ≡ true) then new → Forces (λ a. fits a code i next s ≡ true) old new
       fits_on new come =
           forces_as (λ a. (leads a code i s ≡ true) × (may_have l (a next) ≡ true)) (λ a. fits a code i next s ≡ true) old new (λ a below h. both_of a h)
           (λ h. joint (assigned old.known) h.0 (goes_back (may_fall_through i) (may_have l (assigned old.known next)) h.1))
           (forces_both (λ a. leads a code i s ≡ true) (λ a. may_have l (a next) ≡ true) old then
           (forces_from (λ a. leads a code i s ≡ true) old mid then known waiting led) new come)
 
-      pub fails_on : (e : FrameError) → Fails e (λ a. may_have l (a next) ≡ true) then → Fails e (λ a. fits a code i next s ≡ true) old
+      pub fails_on : (e : FrameCheckError) → Fails e (λ a. may_have l (a next) ≡ true) then → Fails e (λ a. fits a code i next s ≡ true) old
       fails_on e refusal =
           fails_as (λ a. (leads a code i s ≡ true) × (may_have l (a next) ≡ true)) (λ a. fits a code i next s ≡ true) old e (λ a below h. both_of a h)
           (fails_both (λ a. leads a code i s ≡ true) (λ a. may_have l (a next) ≡ true) old then
@@ -113,7 +113,7 @@ fits_there : (a : Assignment) (code : List Instruction) (i : Instruction) (next 
 fits_there a code i next s None row under h = absurd (true≢false (sym under))
 fits_there a code i next s (Some t) row under h = fits_lower a code i next s t under (goes (is_row i) (fits a code i next t) row h)
 
-module _ (code : List Instruction) (at : ℕ) (s : Shape) (old : Stand) (is : Some s ≡ get_or old.known at None) (row : is_row (row_at code at) ≡ true) (long : length old.known ≡ length code + 1) where
+module _ (code : List Instruction) (at : ℕ) (s : Shape) (old : ShapeState) (is : Some s ≡ get_or old.known at None) (row : is_row (row_at code at) ≡ true) (long : length old.known ≡ length code + 1) where
   within : at ≤ length code
   within =
       ⊎_elim
@@ -131,18 +131,18 @@ module _ (code : List Instruction) (at : ℕ) (s : Shape) (old : Stand) (is : So
       ap (fits_if (assigned old.known) code (row_at code at) (next_row at code)) (sym is)
       ∙ or_right (not (is_row (row_at code at))) (fits (assigned old.known) code (row_at code at) (next_row at code) s) h
 
-  pub does_step : {T : Type 0} (r : Result T FrameError) (new : Stand) → Does r (λ a. fits a code (row_at code at) (next_row at code) s ≡ true) old new → Does r (λ a. FitsAt a code at) old new
+  pub does_step : {T : Type 0} (r : Result T FrameCheckError) (new : ShapeState) → Does r (λ a. fits a code (row_at code at) (next_row at code) s ≡ true) old new → Does r (λ a. FitsAt a code at) old new
   does_step r new one =
       does_as r (λ a. fits a code (row_at code at) (next_row at code) s ≡ true) (λ a. FitsAt a code at) old new there back one
 
 -- a later failure is one of the whole
-pub fails_later : (code : List Instruction) (first old : Stand) (e : FrameError) → ((a : Assignment) → IsBelow first.known a → IsAssignment code a → IsBelow old.known a)
+pub fails_later : (code : List Instruction) (first old : ShapeState) (e : FrameCheckError) → ((a : Assignment) → IsBelow first.known a → IsAssignment code a → IsBelow old.known a)
     → Fails e (IsAssignment code) old → Fails e (IsAssignment code) first
 fails_later code first old FrameMismatch kept refusal = λ a below h. refusal a (kept a below h) h
 fails_later code first old NoMemory kept refusal = tt
 
 -- the search after the beginnings of the functions
-pub settles_from : {T : Type 0} (r : Result T FrameError) (code : List Instruction) (old mid new : Stand) → Forces (λ a. list_all (begins_bare a code) (entries code) ≡ true) old mid
+pub settles_from : {T : Type 0} (r : Result T FrameCheckError) (code : List Instruction) (old mid new : ShapeState) → Forces (λ a. list_all (begins_bare a code) (entries code) ≡ true) old mid
     → MatchResult r (λ _. Settles code mid new) (λ e. Fails e (IsAssignment code) mid) → MatchResult r (λ _. Settles code old new) (λ e. Fails e (IsAssignment code) old)
 settles_from (Ok x) code old mid new one two = record {
   kept = λ a below h. two.kept a (one.kept a below h.0) h;
@@ -153,7 +153,7 @@ settles_from (Ok x) code old mid new one two = record {
 }
 settles_from (Err e) code old mid new one two = fails_later code old mid e (λ a below h. one.kept a below h.0) two
 
-pub fails_at : (code : List Instruction) (old mid : Stand) (at : ℕ) (e : FrameError) → mid.known ≡ old.known → Fails e (λ a. FitsAt a code at) mid → Fails e (IsAssignment code) old
+pub fails_at : (code : List Instruction) (old mid : ShapeState) (at : ℕ) (e : FrameCheckError) → mid.known ≡ old.known → Fails e (λ a. FitsAt a code at) mid → Fails e (IsAssignment code) old
 fails_at code old mid at e known refusal =
     fails_as (λ a. FitsAt a code at) (IsAssignment code) old e (λ a below h few. h.1 at few) (fails_from (λ a. FitsAt a code at) old mid e known refusal)
 
@@ -163,15 +163,15 @@ nones (suc m) zero = refl
 nones (suc m) (suc at) = nones m at
 
 -- where nothing is known yet, a refusal says that there is no assignment
-pub refused : (code : List Instruction) (k : Stand) (n : ℕ) → k.known ≡ replicate n None → Refuses (IsAssignment code) k → AreFramed code → ⊥
+pub refused : (code : List Instruction) (k : ShapeState) (n : ℕ) → k.known ≡ replicate n None → Refuses (IsAssignment code) k → AreFramed code → ⊥
 refused code k n none refusal framed =
     let nothing : (at : ℕ) → get_or k.known at None ≡ None = λ at. ap (λ (ks : List (Option Shape)). get_or ks at None) none ∙ nones n at in
     refusal framed.shapes (λ at. subst (λ (o : Option Shape). LiesUnder o (framed.shapes at)) (sym (nothing at)) tt) (framed.begin, framed.fit)
 
 -- ---- results
 
-pub does_err : {T : Type 0} (r : Result T FrameError) (y e : FrameError) (holds : Assignment → Type 0) (old new : Stand) → r ≡ Err y → y ≡ e → Fails e holds old → Does r holds old new
-does_err {T} r y e holds old new is same refusal = subst (λ (x : Result T FrameError). Does x holds old new) (sym (is ∙ ap (λ (z : FrameError). Err z) same)) refusal
+pub does_err : {T : Type 0} (r : Result T FrameCheckError) (y e : FrameCheckError) (holds : Assignment → Type 0) (old new : ShapeState) → r ≡ Err y → y ≡ e → Fails e holds old → Does r holds old new
+does_err {T} r y e holds old new is same refusal = subst (λ (x : Result T FrameCheckError). Does x holds old new) (sym (is ∙ ap (λ (z : FrameCheckError). Err z) same)) refusal
 
-pub match_err : {T : Type 0} (r : Result T FrameError) (y e : FrameError) (P : T → Type 0) (Q : FrameError → Type 0) → r ≡ Err y → y ≡ e → Q e → MatchResult r P Q
-match_err {T} r y e P Q is same refusal = subst (λ (x : Result T FrameError). MatchResult x P Q) (sym (is ∙ ap (λ (z : FrameError). Err z) same)) refusal
+pub match_err : {T : Type 0} (r : Result T FrameCheckError) (y e : FrameCheckError) (P : T → Type 0) (Q : FrameCheckError → Type 0) → r ≡ Err y → y ≡ e → Q e → MatchResult r P Q
+match_err {T} r y e P Q is same refusal = subst (λ (x : Result T FrameCheckError). MatchResult x P Q) (sym (is ∙ ap (λ (z : FrameCheckError). Err z) same)) refusal

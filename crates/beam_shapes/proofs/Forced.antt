@@ -7,27 +7,27 @@ use Rattle.std.proofs.lemmas.List.{length-append, length-set, get_or-set_same, g
 use Rattle.std.proofs.lemmas.List.Folds.{list_any-append}
 use Rattle.std.proofs.lemmas.List.Sums.{sum_by-set}
 use Rattle.beam_model.specs.Framed.{Shape, Assignment, may_have}
-use Rattle.beam_shapes.specs.Forced.{Stand, assigned, LiesUnder, IsBelow, room_of, room, Waits, Rises, Spreads, Forces, Fails}
-use Rattle.beam_shapes.specs.declared.error.FrameError.{FrameError}
-use Rattle.beam_shapes.specs.declared.error.FrameError.TheVariants.{FrameMismatch, NoMemory}
+use Rattle.beam_shapes.specs.Forced.{ShapeState, assigned, LiesUnder, IsBelow, room_of, room, Waits, Rises, Spreads, Forces, Fails}
+use Rattle.beam_shapes.specs.declared.error.FrameCheckError.{FrameCheckError}
+use Rattle.beam_shapes.specs.declared.error.FrameCheckError.TheVariants.{FrameMismatch, NoMemory}
 
 -- ---- what spreads
 
-pub spreads_none : (k : Stand) → Spreads k k
+pub spreads_none : (k : ShapeState) → Spreads k k
 spreads_none k = record {
   stay = λ at w. w;
   rise = λ at s may. may;
   same = λ at. inr refl;
 }
 
-pub spreads_both : (a b c : Stand) → Spreads a b → Spreads b c → Spreads a c
+pub spreads_both : (a b c : ShapeState) → Spreads a b → Spreads b c → Spreads a c
 spreads_both a b c one two = record {
   stay = λ at w. two.stay at (one.stay at w);
   rise = λ at s may. two.rise at s (one.rise at s may);
   same = λ at. ⊎_elim (λ w. inl w) (λ e. ⊎_elim (λ w. inl (two.stay at w)) (λ f. inr (e ∙ f)) (one.same at)) (two.same at);
 }
 
-pub spreads_from : (old mid new : Stand) → mid.known ≡ old.known → mid.waiting ≡ old.waiting → Spreads mid new → Spreads old new
+pub spreads_from : (old mid new : ShapeState) → mid.known ≡ old.known → mid.waiting ≡ old.waiting → Spreads mid new → Spreads old new
 spreads_from old mid new known waiting one = record {
   stay = λ at w. one.stay at (subst (λ (ns : List ℕ). Waits at ns) (sym waiting) w);
   rise = λ at s may. one.rise at s (subst (λ (ks : List (Option Shape)). may_have s (assigned ks at) ≡ true) (sym known) may);
@@ -41,7 +41,7 @@ waits_last : (at place : ℕ) (ns : List ℕ) → at ≡ place → Waits at (ns 
 waits_last at place ns e =
     list_any-append (nat_eq at) ns (place ∷ []) ∙ or_right (list_any (nat_eq at) ns) (list_any (nat_eq at) (place ∷ [])) (or_left (nat_eq at place) false (eq-eqb at place e))
 
-spreads_put : (old new : Stand) (place : ℕ) (after : Shape) → new.known ≡ set old.known place (Some after) → new.waiting ≡ old.waiting ++ place ∷ []
+spreads_put : (old new : ShapeState) (place : ℕ) (after : Shape) → new.known ≡ set old.known place (Some after) → new.waiting ≡ old.waiting ++ place ∷ []
     → place < length old.known → Rises (get_or old.known place None) (Some after) → Spreads old new
 spreads_put old new place after is pushed within rises =
     let here : (at : ℕ) → at ≡ place → get_or new.known at None ≡ Some after = λ at e.
@@ -65,7 +65,7 @@ spreads_put old new place after is pushed within rises =
 -- ---- what is forced
 
 -- nothing is put
-pub forces_none : (holds : Assignment → Type 0) (k : Stand) → holds (assigned k.known) → Forces holds k k
+pub forces_none : (holds : Assignment → Type 0) (k : ShapeState) → holds (assigned k.known) → Forces holds k k
 forces_none holds k so = record {
   kept = λ a below h. below;
   settled = λ same. (refl, so);
@@ -77,7 +77,7 @@ forces_none holds k so = record {
 }
 
 -- a shape is put in one place
-pub forces_put : (holds : Assignment → Type 0) (old new : Stand) (place : ℕ) (after : Shape) → new.known ≡ set old.known place (Some after) → new.waiting ≡ old.waiting ++ place ∷ []
+pub forces_put : (holds : Assignment → Type 0) (old new : ShapeState) (place : ℕ) (after : Shape) → new.known ≡ set old.known place (Some after) → new.waiting ≡ old.waiting ++ place ∷ []
     → place < length old.known → room_of (Some after) < room_of (get_or old.known place None) → Rises (get_or old.known place None) (Some after)
     → ((a : Assignment) → LiesUnder (get_or old.known place None) (a place) → holds a → may_have after (a place) ≡ true) → Forces holds old new
 forces_put holds old new place after is pushed within falls rises above =
@@ -101,9 +101,9 @@ forces_put holds old new place after is pushed within falls rises above =
       spreads = spreads_put old new place after is pushed within rises;
     }
 
-module _ (C D : Assignment → Type 0) (old mid : Stand) (one : Forces C old mid) where
+module _ (C D : Assignment → Type 0) (old mid : ShapeState) (one : Forces C old mid) where
   -- one step after another
-  pub forces_both : (new : Stand) → Forces D mid new → Forces (λ a. C a × D a) old new
+  pub forces_both : (new : ShapeState) → Forces D mid new → Forces (λ a. C a × D a) old new
   forces_both new two = record {
     kept = λ a below h. two.kept a (one.kept a below h.0) h.1;
     settled = λ same.
@@ -117,12 +117,12 @@ module _ (C D : Assignment → Type 0) (old mid : Stand) (one : Forces C old mid
     spreads = spreads_both old mid new one.spreads two.spreads;
   }
 
-  pub fails_both : (e : FrameError) → Fails e D mid → Fails e (λ a. C a × D a) old
+  pub fails_both : (e : FrameCheckError) → Fails e D mid → Fails e (λ a. C a × D a) old
   fails_both FrameMismatch two = λ a below h. two a (one.kept a below h.0) h.1
   fails_both NoMemory two = tt
 
 -- a step for one statement is a step for each equivalent one
-pub forces_as : (C D : Assignment → Type 0) (old new : Stand) → ((a : Assignment) → IsBelow old.known a → D a → C a) → (C (assigned old.known) → D (assigned old.known)) → Forces C old new → Forces D old new
+pub forces_as : (C D : Assignment → Type 0) (old new : ShapeState) → ((a : Assignment) → IsBelow old.known a → D a → C a) → (C (assigned old.known) → D (assigned old.known)) → Forces C old new → Forces D old new
 forces_as C D old new there back one = record {
   kept = λ a below h. one.kept a below (there a below h);
   settled = λ same. let p = one.settled same in (p.0, back p.1);
@@ -133,12 +133,12 @@ forces_as C D old new there back one = record {
   spreads = one.spreads;
 }
 
-pub fails_as : (C D : Assignment → Type 0) (old : Stand) (e : FrameError) → ((a : Assignment) → IsBelow old.known a → D a → C a) → Fails e C old → Fails e D old
+pub fails_as : (C D : Assignment → Type 0) (old : ShapeState) (e : FrameCheckError) → ((a : Assignment) → IsBelow old.known a → D a → C a) → Fails e C old → Fails e D old
 fails_as C D old FrameMismatch there one = λ a below h. one a below (there a below h)
 fails_as C D old NoMemory there one = tt
 
 -- a step from a state that differs only in parts of trees
-pub forces_from : (C : Assignment → Type 0) (old mid new : Stand) → mid.known ≡ old.known → mid.waiting ≡ old.waiting → Forces C mid new → Forces C old new
+pub forces_from : (C : Assignment → Type 0) (old mid new : ShapeState) → mid.known ≡ old.known → mid.waiting ≡ old.waiting → Forces C mid new → Forces C old new
 forces_from C old mid new known waiting one =
     let w = ap length waiting in let l = ap length known in let r = ap room known in record {
       kept = λ a below h. one.kept a (subst (λ (ks : List (Option Shape)). IsBelow ks a) (sym known) below) h;
@@ -150,6 +150,6 @@ forces_from C old mid new known waiting one =
       spreads = spreads_from old mid new known waiting one.spreads;
     }
 
-pub fails_from : (C : Assignment → Type 0) (old mid : Stand) (e : FrameError) → mid.known ≡ old.known → Fails e C mid → Fails e C old
+pub fails_from : (C : Assignment → Type 0) (old mid : ShapeState) (e : FrameCheckError) → mid.known ≡ old.known → Fails e C mid → Fails e C old
 fails_from C old mid FrameMismatch known one = λ a below h. one a (subst (λ (ks : List (Option Shape)). IsBelow ks a) (sym known) below) h
 fails_from C old mid NoMemory known one = tt

@@ -2,7 +2,7 @@ pub mod Firsts
 pub mod Fits
 pub mod Forced
 pub mod Grown
-pub mod Kept
+pub mod Interned
 pub mod Labels
 pub mod Listed
 pub mod Looked
@@ -11,7 +11,7 @@ pub mod Nothing
 pub mod Placed
 pub mod Put
 pub mod Registers
-pub mod Same
+pub mod UniqueTrees
 pub mod Small
 pub mod Tidy
 pub mod Unnamed

@@ -9,8 +9,8 @@ use Rattle.beam_model.specs.declared.instruction.Instruction.{Instruction}
 use Rattle.beam_model.specs.Fetch.{end_of_code}
 use Rattle.beam_model.specs.Listing.{is_row, row_of_label, next_row}
 use Rattle.beam_model.specs.Framed.{Shape, Assignment, may_have, shape_of_label, in_list, called, targets, finds, shape_after, may_fall_through, leads, leads_on, fits, fits_if, row_at, begins_bare, AreFramed}
-use Rattle.beam_shapes.specs.Forced.{Stand, assigned, Waits, Rises, Spreads, Forces, Fails, IsAssignment, MayGo, Flows, FlowsIf, FlowsAt, AreLookedAt, BeginsIf, BeginsAt, BeginBelow, BeginBare}
-use Rattle.beam_shapes.specs.declared.error.FrameError.{FrameError}
+use Rattle.beam_shapes.specs.Forced.{ShapeState, assigned, Waits, Rises, Spreads, Forces, Fails, IsAssignment, MayGo, Flows, FlowsIf, FlowsAt, AreLookedAt, BeginsIf, BeginsAt, BeginBelow, BeginBare}
+use Rattle.beam_shapes.specs.declared.error.FrameCheckError.{FrameCheckError}
 use Rattle.beam_shapes.proofs.Forced.{spreads_none, spreads_from, forces_both, forces_as, fails_both, fails_as}
 use Rattle.beam_shapes.proofs.Lower.{all_up}
 
@@ -56,11 +56,11 @@ known_waits a code at waiting None e = inr tt
 known_waits a code at waiting (Some s) e = inl e
 
 -- each place of which something is known waits
-pub looked_first : (code : List Instruction) (k : Stand) → ((at : ℕ) → list_any (nat_eq at) k.waiting ≡ is_some (assigned k.known at)) → AreLookedAt code k
+pub looked_first : (code : List Instruction) (k : ShapeState) → ((at : ℕ) → list_any (nat_eq at) k.waiting ≡ is_some (assigned k.known at)) → AreLookedAt code k
 looked_first code k waits = λ at. known_waits (assigned k.known) code at k.waiting (assigned k.known at) (waits at)
 
 -- shapes are put, and no row is looked at
-pub looked_spreads : (code : List Instruction) (old new : Stand) → Spreads old new → AreLookedAt code old → AreLookedAt code new
+pub looked_spreads : (code : List Instruction) (old new : ShapeState) → Spreads old new → AreLookedAt code old → AreLookedAt code new
 looked_spreads code old new one looked = λ at.
     ⊎_elim
     (λ (w : Waits at new.waiting). inl w)
@@ -73,14 +73,14 @@ looked_spreads code old new one looked = λ at.
     (looked at))
     (one.same at)
 
-pub looked_same : (code : List Instruction) (old new : Stand) → new.known ≡ old.known → new.waiting ≡ old.waiting → AreLookedAt code old → AreLookedAt code new
+pub looked_same : (code : List Instruction) (old new : ShapeState) → new.known ≡ old.known → new.waiting ≡ old.waiting → AreLookedAt code old → AreLookedAt code new
 looked_same code old new known waiting = looked_spreads code old new (spreads_from old new new known waiting (spreads_none new))
 
 one_eq : (at place : ℕ) → list_any (nat_eq at) (place ∷ []) ≡ true → at ≡ place
 one_eq at place e = ⊎_elim (λ (h : nat_eq at place ≡ true). eqb-true at place h) (λ (h : false ≡ true). absurd (true≢false (sym h))) (or_cases (nat_eq at place) false e)
 
 -- a row that waited is looked at
-pub looked_step : (code : List Instruction) (old mid new : Stand) (place : ℕ) → mid.known ≡ old.known → old.waiting ≡ mid.waiting ++ place ∷ [] → Spreads mid new
+pub looked_step : (code : List Instruction) (old mid new : ShapeState) (place : ℕ) → mid.known ≡ old.known → old.waiting ≡ mid.waiting ++ place ∷ [] → Spreads mid new
     → FlowsAt (assigned new.known) code place (assigned mid.known place) → AreLookedAt code old → AreLookedAt code new
 looked_step code old mid new place known waiting one flows looked = λ at.
     let there : assigned new.known at ≡ assigned mid.known at → FlowsAt (assigned new.known) code at (assigned mid.known at) → FlowsAt (assigned new.known) code at (assigned new.known at) =
@@ -103,7 +103,7 @@ looked_step code old mid new place known waiting one flows looked = λ at.
     (looked at))
     (one.same at)
 
-pub flows_step : {T : Type 0} (r : Result T FrameError) (a : Assignment) (code : List Instruction) (i : Instruction) (next : ℕ) (s : Shape) (o : Option Shape)
+pub flows_step : {T : Type 0} (r : Result T FrameCheckError) (a : Assignment) (code : List Instruction) (i : Instruction) (next : ℕ) (s : Shape) (o : Option Shape)
     → Some s ≡ o → IfOk r (λ x. Flows a code i next s) → IfOk r (λ x. FlowsIf a code i next o)
 flows_step (Ok x) a code i next s o is f = subst (λ (p : Option Shape). FlowsIf a code i next p) is (λ row. f)
 flows_step (Err e) a code i next s o is f = tt
@@ -126,14 +126,14 @@ module _ (code : List Instruction) (n : ℕ) where
       (λ (e : n ≤ at). let same : n ≡ at = omega (arith, e, less) in let P : ℕ → Type 0 = λ k. BeginsAt a code k in subst P same h.1)
       (cases_lt at n)
 
-  pub forces_row : (old mid new : Stand) → Forces (λ a. BeginBelow a code n) old mid → Forces (λ a. BeginsAt a code n) mid new → Forces (λ a. BeginBelow a code (n + 1)) old new
+  pub forces_row : (old mid new : ShapeState) → Forces (λ a. BeginBelow a code n) old mid → Forces (λ a. BeginsAt a code n) mid new → Forces (λ a. BeginBelow a code (n + 1)) old new
   forces_row old mid new one two =
       forces_as (λ a. BeginBelow a code n × BeginsAt a code n) (λ a. BeginBelow a code (n + 1)) old new
       (λ a below h. cut a (n + 1) (omega arith) h)
       (more (assigned old.known))
       (forces_both (λ a. BeginBelow a code n) (λ a. BeginsAt a code n) old mid one new two)
 
-  pub fails_row : (m : ℕ) → n < m → (old mid : Stand) (e : FrameError) → Forces (λ a. BeginBelow a code n) old mid → Fails e (λ a. BeginsAt a code n) mid → Fails e (λ a. BeginBelow a code m) old
+  pub fails_row : (m : ℕ) → n < m → (old mid : ShapeState) (e : FrameCheckError) → Forces (λ a. BeginBelow a code n) old mid → Fails e (λ a. BeginsAt a code n) mid → Fails e (λ a. BeginBelow a code m) old
   fails_row m few old mid e one two =
       fails_as (λ a. BeginBelow a code n × BeginsAt a code n) (λ a. BeginBelow a code m) old e
       (λ a below h. cut a m few h)
@@ -176,7 +176,7 @@ module _ (a : Assignment) (code : List Instruction) where
       (cases_lt at (length code))
 
 -- where no row waits and each function begins without y registers, the known shapes are an assignment
-pub looked_all : (code : List Instruction) (k : Stand) → AreLookedAt code k → k.waiting ≡ [] → BeginBare code (assigned k.known) → AreFramed code
+pub looked_all : (code : List Instruction) (k : ShapeState) → AreLookedAt code k → k.waiting ≡ [] → BeginBare code (assigned k.known) → AreFramed code
 looked_all code k looked none bare = record {
   shapes = assigned k.known;
   begin = bare.0;

@@ -10,15 +10,15 @@ use Rattle.beam_model.specs.declared.instruction.Operand.TheVariants as operand
 use Rattle.beam_model.specs.declared.opcode.Kind.{Kind}
 use Rattle.beam_model.specs.Framed.{ys_in, is_read, is_written, read_ys, written_ys, never_jumps, jumps}
 use Rattle.beam_model.specs.Opcodes.{kinds_of}
-use Rattle.beam_shapes.specs.declared.named.Part.{Part}
-use Rattle.beam_shapes.specs.declared.named.Part.TheVariants as part
-use Rattle.beam_shapes.specs.Parts.{is_of, numbers_of, numbers_in, is_some_of, may_name, may_name_some, named}
+use Rattle.beam_shapes.specs.declared.named.OperandRole.{OperandRole}
+use Rattle.beam_shapes.specs.declared.named.OperandRole.TheVariants as part
+use Rattle.beam_shapes.specs.OperandRoles.{is_of, numbers_of, numbers_in, is_some_of, may_name, may_name_some, named}
 
 none_of : (ns : List ℕ) → is_some_of ns ≡ false → ns ≡ []
 none_of [] e = refl
 none_of (n ∷ rest) e = absurd (cc e)
 
-none_in : (p : Part) (o : Operand) → may_name p o ≡ false → numbers_in p o ≡ []
+none_in : (p : OperandRole) (o : Operand) → may_name p o ≡ false → numbers_in p o ≡ []
 none_in part.Reads (operand.One a) e = none_of (numbers_of part.Reads a) e
 none_in part.Writes (operand.One a) e = none_of (numbers_of part.Writes a) e
 none_in part.Jumps (operand.One a) e = none_of (numbers_of part.Jumps a) e
@@ -40,10 +40,10 @@ module _ (may : Operand → Bool) (names : Operand → List ℕ) (none : (o : Op
       let h = or_parts (may o) (list_any may os) e in
       ap₂ (λ (xs ys : List ℕ). xs ++ ys) (none_if (test k) (names o) (none o h.0)) (none_left kinds os h.1)
 
-none_named : (p : Part) (i : Instruction) → may_name_some p i ≡ false → named p i ≡ []
+none_named : (p : OperandRole) (i : Instruction) → may_name_some p i ≡ false → named p i ≡ []
 none_named p i e = none_left (may_name p) (numbers_in p) (none_in p) (is_of p i.opcode) (kinds_of i.opcode) i.operands e
 
-pub nothing_more : (xs : List ℕ) (p : Part) (i : Instruction) → may_name_some p i ≡ false → xs ≡ xs ++ named p i
+pub nothing_more : (xs : List ℕ) (p : OperandRole) (i : Instruction) → may_name_some p i ≡ false → xs ≡ xs ++ named p i
 nothing_more xs p i e = sym (ap (λ (ys : List ℕ). xs ++ ys) (none_named p i e) ∙ append-nil xs)
 
 pub none_read : (i : Instruction) → may_name_some part.Reads i ≡ false → read_ys i ≡ []

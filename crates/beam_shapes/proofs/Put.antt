@@ -3,7 +3,7 @@ use Rattle.std.proofs.Common.{◌≡◌, ℕ, ◌<◌, true, List, [], ◌∷◌
 use Rattle.std.specs.Prelude.{option_map, is_some, false}
 use Rattle.std.proofs.lemmas.List.{length-map, map-set, get_or-map, get_or_read, get_or-set_same}
 use Rattle.beam_model.specs.Framed.{Shape, Assignment, may_have}
-use Rattle.beam_shapes.specs.Forced.{Stand, LiesUnder, room_of, Rises, Forces}
+use Rattle.beam_shapes.specs.Forced.{ShapeState, LiesUnder, room_of, Rises, Forces}
 use Rattle.beam_shapes.specs.Shown.{shown}
 use Rattle.beam_shapes.specs.Trees.{Parts}
 use Rattle.beam_shapes.specs.declared.shape.Shape.{Shape as Kept}
@@ -13,20 +13,20 @@ pub not_some : (o : Option ℕ) → is_some o ≡ false → o ≡ None
 not_some None e = refl
 not_some (Some n) e = absurd (cc e)
 
-module _ (p : Parts) (shapes : List (Option Kept)) (waiting : List ℕ) (old : Stand) (is : (record { parts = p; known = map (option_map (shown p)) shapes; waiting = waiting }) ≡ old) where
+module _ (p : Parts) (shapes : List (Option Kept)) (waiting : List ℕ) (old : ShapeState) (is : (record { parts = p; known = map (option_map (shown p)) shapes; waiting = waiting }) ≡ old) where
   pub put_known : (holds : Parts → Assignment → Type 0) (place : ℕ) (before : Option Kept) (after : Kept) → place < length old.known → before ≡ get_or shapes place before
       → room_of (Some (shown p after)) < room_of (option_map (shown p) before) → Rises (option_map (shown p) before) (Some (shown p after))
       → ((a : Assignment) → LiesUnder (option_map (shown p) before) (a place) → holds p a → may_have (shown p after) (a place) ≡ true)
       → (more : List ℕ) → more ≡ waiting ++ place ∷ []
       → Forces (holds old.parts) old (record { parts = p; known = map (option_map (shown p)) (set shapes place (Some after)); waiting = more })
   put_known holds place before after within read falls rises above more pushed =
-      let now : Stand = record { parts = p; known = map (option_map (shown p)) shapes; waiting = waiting } in
-      let new : Stand = record { parts = p; known = map (option_map (shown p)) (set shapes place (Some after)); waiting = more } in
-      let few : place < length shapes = let l = ap (λ (s : Stand). length s.known) is in let m = length-map shapes (option_map (shown p)) in omega (arith, l, m, within) in
+      let now : ShapeState = record { parts = p; known = map (option_map (shown p)) shapes; waiting = waiting } in
+      let new : ShapeState = record { parts = p; known = map (option_map (shown p)) (set shapes place (Some after)); waiting = more } in
+      let few : place < length shapes = let l = ap (λ (s : ShapeState). length s.known) is in let m = length-map shapes (option_map (shown p)) in omega (arith, l, m, within) in
       let here : option_map (shown p) before ≡ get_or now.known place None =
       ap (option_map (shown p)) (get_or_read shapes place before few read None) ∙ sym (get_or-map (option_map (shown p)) shapes place None None few) in
       let one : place < length now.known = let m = length-map shapes (option_map (shown p)) in omega (arith, m, few) in
-      let P : Stand → Type 0 = λ s. Forces (holds s.parts) s new in
+      let P : ShapeState → Type 0 = λ s. Forces (holds s.parts) s new in
       subst P is
       (forces_put (holds p) now new place (shown p after) (map-set (option_map (shown p)) shapes place (Some after)) pushed one
       (subst (λ (o : Option Shape). room_of (Some (shown p after)) < room_of o) here falls)
@@ -38,5 +38,5 @@ module _ (p : Parts) (shapes : List (Option Kept)) (waiting : List ℕ) (old : S
       → may_have s (get_or (map (option_map (shown p)) (set shapes place (Some after))) place None) ≡ true
   put_there place after s within under =
       let known = map (option_map (shown p)) shapes in
-      let one : place < length known = let l = ap (λ (s : Stand). length s.known) is in omega (arith, l, within) in
+      let one : place < length known = let l = ap (λ (s : ShapeState). length s.known) is in omega (arith, l, within) in
       ap (may_have s) (ap (λ (ks : List (Option Shape)). get_or ks place None) (map-set (option_map (shown p)) shapes place (Some after)) ∙ get_or-set_same known place (Some (shown p after)) None one) ∙ under

@@ -12,13 +12,13 @@ use Rattle.beam_shapes.specs.Shown.{shown_effect, shown_registers, shown, AreReg
 use Rattle.beam_shapes.specs.Trees.{Parts, tags_of, IsTree, Grows}
 use Rattle.beam_shapes.specs.declared.row.Effect.{Effect}
 use Rattle.beam_shapes.specs.declared.row.Effect.TheVariants as effect
-use Rattle.beam_shapes.specs.declared.shape.Registers.{Registers}
+use Rattle.beam_shapes.specs.declared.shape.YRegisters.{YRegisters}
 use Rattle.beam_shapes.specs.declared.shape.Shape.{Shape}
 use Rattle.beam_shapes.specs.declared.shape.Shape.TheVariants as shape
 use Rattle.beam_shapes.proofs.Grown.{tags_long, tags_none, tree_none, tags_stay, tree_stays}
 use Rattle.beam_shapes.proofs.Lower.{tags_decide}
 
-pub long : (p : Parts) (r : Registers) → length (shown_registers p r) ≡ 1024 - r.from
+pub long : (p : Parts) (r : YRegisters) → length (shown_registers p r) ≡ 1024 - r.from
 long p r =
     let a = length-drop r.from (tags_of p 10 r.tags) in
     let b : length (tags_of p 10 r.tags) ≡ 1024 = tags_long p 10 r.tags in omega (arith, a, b)
@@ -35,7 +35,7 @@ shown_new p count few =
     let e : 1024 - (1024 - count) ≡ count = omega (arith, few) in
     ap (drop (1024 - count)) n ∙ (drop-replicate (1024 - count) 1024 None ∙ ap (λ k. replicate k None) e)
 
-pub tag_is : (p : Parts) (r : Registers) (n : ℕ) (t : Option ℕ) → r.from + n < 1024 → t ≡ get_or (tags_of p 10 r.tags) (r.from + n) None → slice_get (shown_registers p r) n ≡ Some t
+pub tag_is : (p : Parts) (r : YRegisters) (n : ℕ) (t : Option ℕ) → r.from + n < 1024 → t ≡ get_or (tags_of p 10 r.tags) (r.from + n) None → slice_get (shown_registers p r) n ≡ Some t
 tag_is p r n t within e =
     let l = long p r in
     slice_get-get_or (shown_registers p r) n None (omega (arith, l, within)) ∙ ap (λ (o : Option ℕ). Some o) (get_or-drop r.from (tags_of p 10 r.tags) n None ∙ sym e)
@@ -44,43 +44,43 @@ first_past : (n : ℕ) (y : List (Option ℕ)) → first_in (replicate n None ++
 first_past zero y = refl
 first_past (suc n) y = first_past n y
 
-pub split : (p : Parts) (r : Registers) → AreRegisters p r → tags_of p 10 r.tags ≡ replicate r.from None ++ shown_registers p r
+pub split : (p : Parts) (r : YRegisters) → AreRegisters p r → tags_of p 10 r.tags ≡ replicate r.from None ++ shown_registers p r
 split p r are = sym (take-append-drop r.from (tags_of p 10 r.tags)) ∙ ap (λ ts. ts ++ shown_registers p r) are.2
 
-pub first_is : (p : Parts) (r : Registers) → AreRegisters p r → first_in (tags_of p 10 r.tags) ≡ first_in (shown_registers p r)
+pub first_is : (p : Parts) (r : YRegisters) → AreRegisters p r → first_in (tags_of p 10 r.tags) ≡ first_in (shown_registers p r)
 first_is p r are = ap first_in (split p r are) ∙ first_past r.from (shown_registers p r)
 
 -- one register is written
-pub put_shown : (old new : Parts) (r : Registers) (tags n : ℕ) (t : Option ℕ) → tags_of new 10 tags ≡ set (tags_of old 10 r.tags) (r.from + n) t
+pub put_shown : (old new : Parts) (r : YRegisters) (tags n : ℕ) (t : Option ℕ) → tags_of new 10 tags ≡ set (tags_of old 10 r.tags) (r.from + n) t
     → shown_registers new (record { from = r.from; tags = tags }) ≡ set (shown_registers old r) n t
 put_shown old new r tags n t e = ap (drop r.from) e ∙ drop-set-add r.from (tags_of old 10 r.tags) n t
 
-pub put_past : (p : Parts) (r : Registers) (n : ℕ) (t : Option ℕ) → 1024 - r.from ≤ n → shown_registers p r ≡ set (shown_registers p r) n t
+pub put_past : (p : Parts) (r : YRegisters) (n : ℕ) (t : Option ℕ) → 1024 - r.from ≤ n → shown_registers p r ≡ set (shown_registers p r) n t
 put_past p r n t past = let l = long p r in sym (set_past (shown_registers p r) n t (omega (arith, l, past)))
 
-pub put_are : (old new : Parts) (r : Registers) (tags n : ℕ) (t : Option ℕ) → AreRegisters old r → IsTree new 10 tags → tags_of new 10 tags ≡ set (tags_of old 10 r.tags) (r.from + n) t
+pub put_are : (old new : Parts) (r : YRegisters) (tags n : ℕ) (t : Option ℕ) → AreRegisters old r → IsTree new 10 tags → tags_of new 10 tags ≡ set (tags_of old 10 r.tags) (r.from + n) t
     → AreRegisters new (record { from = r.from; tags = tags })
 put_are old new r tags n t are tree e =
     (are.0, tree, ap (take r.from) e ∙ (take-set-le r.from (tags_of old 10 r.tags) (r.from + n) t (omega arith) ∙ are.2))
 
 -- registers stay as they are while parts are added
-pub registers_stay : (old new : Parts) → Grows old new → (r : Registers) → AreRegisters old r → AreRegisters new r × (shown_registers new r ≡ shown_registers old r)
+pub registers_stay : (old new : Parts) → Grows old new → (r : YRegisters) → AreRegisters old r → AreRegisters new r × (shown_registers new r ≡ shown_registers old r)
 registers_stay old new grown r are =
     let s = tags_stay old new grown 10 r.tags are.1 in
     ((are.0, tree_stays old new grown 10 r.tags are.1, ap (take r.from) s ∙ are.2), ap (drop r.from) s)
 
 -- ---- a shape's registers
 
-pub there_is : (p : Parts) (s : Shape) (r : Registers) (n k : ℕ) → s ≡ shape.Sized r → k ≡ 1024 - r.from → nat_lt n k ≡ is_there (shown p s) n
+pub there_is : (p : Parts) (s : Shape) (r : YRegisters) (n k : ℕ) → s ≡ shape.Sized r → k ≡ 1024 - r.from → nat_lt n k ≡ is_there (shown p s) n
 there_is p s r n k is count = ap (nat_lt n) (count ∙ sym (long p r)) ∙ ap (λ (t : Shape). is_there (shown p t) n) (sym is)
 
-pub value_past : (p : Parts) (s : Shape) (r : Registers) (n k : ℕ) → s ≡ shape.Sized r → k ≡ 1024 - r.from → k ≤ n → nat_lt n k ≡ is_value (shown p s) n
+pub value_past : (p : Parts) (s : Shape) (r : YRegisters) (n k : ℕ) → s ≡ shape.Sized r → k ≡ 1024 - r.from → k ≤ n → nat_lt n k ≡ is_value (shown p s) n
 value_past p s r n k is count past =
     let l = long p r in
     let none : slice_get (shown_registers p r) n ≡ None = slice_get_past (shown_registers p r) n (omega (arith, l, count, past)) in
     le-ltb n k past ∙ sym (ap (λ (t : Shape). is_value (shown p t) n) is ∙ ap is_value_in none)
 
-module _ (p : Parts) (e : Effect) (s : Shape) (r : Registers) (k : ℕ) (is : s ≡ shape.Sized r) (count : k ≡ 1024 - r.from) where
+module _ (p : Parts) (e : Effect) (s : Shape) (r : YRegisters) (k : ℕ) (is : s ≡ shape.Sized r) (count : k ≡ 1024 - r.from) where
   drops_is : (n : ℕ) (b : Bool) → e ≡ effect.Drops n → (k == n) ≡ b → (if b then Some book.bare else None) ≡ book.after_effect (shown_effect e) (shown p s)
   drops_is n b what test =
       ap (λ (c : Bool). if c then Some book.bare else None) (sym test ∙ ap (λ m. m == n) (count ∙ sym (long p r)))
@@ -113,7 +113,7 @@ tests_same true false f g = sym (f refl)
 tests_same false true f g = g refl
 tests_same false false f g = refl
 
-pub same_shown : (p : Parts) (r s : Registers) (b : Bool) → AreRegisters p r → AreRegisters p s → r.from ≡ s.from → (IsTrue b ↔ (tags_of p 10 r.tags ≡ tags_of p 10 s.tags))
+pub same_shown : (p : Parts) (r s : YRegisters) (b : Bool) → AreRegisters p r → AreRegisters p s → r.from ≡ s.from → (IsTrue b ↔ (tags_of p 10 r.tags ≡ tags_of p 10 s.tags))
     → b ≡ pointwise (option_eq nat_eq) (shown_registers p r) (shown_registers p s)
 same_shown p r s b one other from is =
     let d = tags_decide (shown_registers p r) (shown_registers p s) in
@@ -121,7 +121,7 @@ same_shown p r s b one other from is =
     (λ t. d.1 (ap (drop r.from) (is.0 t) ∙ ap (λ n. drop n (tags_of p 10 s.tags)) from))
     (λ e. is.1 (split p r one ∙ (ap (λ ys. replicate r.from None ++ ys) (d.0 e) ∙ (ap (λ n. replicate n None ++ shown_registers p s) from ∙ sym (split p s other)))))
 
-pub other_shown : (p : Parts) (r s : Registers) (b : Bool) → AreRegisters p r → AreRegisters p s → (r.from ≡ s.from → ⊥) → b ≡ false → b ≡ pointwise (option_eq nat_eq) (shown_registers p r) (shown_registers p s)
+pub other_shown : (p : Parts) (r s : YRegisters) (b : Bool) → AreRegisters p r → AreRegisters p s → (r.from ≡ s.from → ⊥) → b ≡ false → b ≡ pointwise (option_eq nat_eq) (shown_registers p r) (shown_registers p s)
 other_shown p r s b one other from fails =
     let d = tags_decide (shown_registers p r) (shown_registers p s) in
     fails ∙ sym (false_from_ne_true (pointwise (option_eq nat_eq) (shown_registers p r) (shown_registers p s))

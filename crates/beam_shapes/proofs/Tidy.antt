@@ -3,7 +3,7 @@ use Rattle.std.proofs.Common.{◌≡◌, ◌≢◌, ℕ, zero, suc, ◌-◌, ◌
 use Rattle.std.specs.Prelude.{slice_get}
 use Rattle.std.proofs.lemmas.Bool.{ne_eqb}
 use Rattle.beam_shapes.specs.declared.trees.Halves.{Halves}
-use Rattle.beam_shapes.specs.Trees.{Parts, no_halves, part_of, Grows, Keeps, IsAbsent, AreDistinct}
+use Rattle.beam_shapes.specs.Trees.{Parts, no_halves, part_of, Grows, IsInterned, IsAbsent, AreDistinct}
 
 some_inj : {X : Type 0} (x y : X) → Some x ≡ Some y → x ≡ y
 some_inj x y e = cc
@@ -31,8 +31,8 @@ distinct_more {X} xs y apart new i j x at_i at_j =
     (at_push xs y x j at_j))
     (at_push xs y x i at_i)
 
-pub distinct_kept : {X : Type 0} (x : X) (old new : List X) (n : ℕ) → Keeps x old new n → AreDistinct old → AreDistinct new
-distinct_kept {X} x old new n keeps apart =
+pub distinct_interned : {X : Type 0} (x : X) (old new : List X) (n : ℕ) → IsInterned x old new n → AreDistinct old → AreDistinct new
+distinct_interned {X} x old new n keeps apart =
     ⊎_elim
     (λ (e : new ≡ old). subst (λ (xs : List X). AreDistinct xs) (sym e) apart)
     (λ (e : (new ≡ old ++ x ∷ []) × IsAbsent x old). subst (λ (xs : List X). AreDistinct xs) (sym e.0) (distinct_more old x apart e.1))
@@ -42,22 +42,22 @@ absent_more : {X : Type 0} (z y : X) (xs : List X) → z ≢ y → IsAbsent z xs
 absent_more z y xs ne new i at =
     ⊎_elim (λ (a : (i < length xs) × (slice_get xs i ≡ Some z)). new i a.1) (λ (a : (i ≡ length xs) × (y ≡ z)). ne (sym a.1)) (at_push xs y z i at)
 
-pub absent_kept : {X : Type 0} (z x : X) (old new : List X) (n : ℕ) → z ≢ x → Keeps x old new n → IsAbsent z old → IsAbsent z new
-absent_kept {X} z x old new n ne keeps absent =
+pub absent_interned : {X : Type 0} (z x : X) (old new : List X) (n : ℕ) → z ≢ x → IsInterned x old new n → IsAbsent z old → IsAbsent z new
+absent_interned {X} z x old new n ne keeps absent =
     ⊎_elim
     (λ (e : new ≡ old). subst (λ (xs : List X). IsAbsent z xs) (sym e) absent)
     (λ (e : (new ≡ old ++ x ∷ []) × IsAbsent x old). subst (λ (xs : List X). IsAbsent z xs) (sym e.0) (absent_more z x old ne absent))
     keeps.3
 
 -- a kept part has its number
-pub kept_part : {X : Type 0} (x : X) (old new : List X) (n : ℕ) → Keeps x old new n → part_of new n ≡ Some x
-kept_part x old new n keeps =
+pub interned_part : {X : Type 0} (x : X) (old new : List X) (n : ℕ) → IsInterned x old new n → part_of new n ≡ Some x
+interned_part x old new n keeps =
     let some : (n == 0) ≡ false = ne_eqb n 0 (λ (e : n ≡ 0). let a = keeps.0 in omega (arith, a, e)) in
     ap (λ (b : Bool). if b then None else slice_get new (n - 1)) some ∙ keeps.1
 
 -- keeping a part only adds to the list
-pub kept_grows : {X : Type 0} (x : X) (old new : List X) (n : ℕ) → Keeps x old new n → (more : List X) × (new ≡ old ++ more)
-kept_grows x old new n keeps =
+pub interned_grows : {X : Type 0} (x : X) (old new : List X) (n : ℕ) → IsInterned x old new n → (more : List X) × (new ≡ old ++ more)
+interned_grows x old new n keeps =
     ⊎_elim (λ (e : new ≡ old). ([], e ∙ sym (append-nil old))) (λ (e : (new ≡ old ++ x ∷ []) × IsAbsent x old). (x ∷ [], e.0)) keeps.3
 
 pub grows_halves : (p : Parts) (labels : List ℕ) (halves new : List Halves) → record { labels = labels; halves = halves } ≡ p → (more : List Halves) × (new ≡ halves ++ more) → Grows p (record { labels = labels; halves = new })

@@ -7,11 +7,11 @@ use Rattle.beam_model.specs.declared.instruction.Instruction.{Instruction}
 use Rattle.beam_model.specs.Framed.{Shape, any, Assignment, may_have, shape_of_label, frame_effect, row_at, begins_bare, entries, in_list, called, targets, finds, shape_after, leads_on, fits_at}
 use Rattle.beam_shapes.specs.Shown.{IsSmall}
 use Rattle.beam_shapes.specs.Trees.{Parts}
-use Rattle.beam_shapes.specs.declared.error.FrameError.{FrameError}
-use Rattle.beam_shapes.specs.declared.error.FrameError.TheVariants.{FrameMismatch, NoMemory}
+use Rattle.beam_shapes.specs.declared.error.FrameCheckError.{FrameCheckError}
+use Rattle.beam_shapes.specs.declared.error.FrameCheckError.TheVariants.{FrameMismatch, NoMemory}
 
 -- parts of trees, for each place the shape that is forced there, and places to look at again
-pub record Stand : Type 0 where
+pub record ShapeState : Type 0 where
   pub parts : Parts
   pub known : List (Option Shape)
   pub waiting : List ℕ
@@ -45,14 +45,14 @@ abbrev pub Rises : Option Shape → Option Shape → Type 0
 Rises before after = (s : Shape) → may_have s before ≡ true → may_have s after ≡ true
 
 -- shapes are joined into places, and each place in which one changed waits
-pub record Spreads (old new : Stand) : Type 0 where
+pub record Spreads (old new : ShapeState) : Type 0 where
   pub stay : (at : ℕ) → Waits at old.waiting → Waits at new.waiting
   pub rise : (at : ℕ) → Rises (assigned old.known at) (assigned new.known at)
   pub same : (at : ℕ) → Waits at new.waiting ⊎ (assigned new.known at ≡ assigned old.known at)
 
 -- a step that puts shapes which are forced in each assignment of which `holds` is true; where it puts nothing, `holds` is true of the
 -- known shapes
-pub record Forces (holds : Assignment → Type 0) (old new : Stand) : Type 0 where
+pub record Forces (holds : Assignment → Type 0) (old new : ShapeState) : Type 0 where
   pub kept : (a : Assignment) → IsBelow old.known a → holds a → IsBelow new.known a
   pub settled : length new.waiting ≡ length old.waiting → (new.known ≡ old.known) × holds (assigned old.known)
   pub more : length old.waiting ≤ length new.waiting
@@ -62,14 +62,14 @@ pub record Forces (holds : Assignment → Type 0) (old new : Stand) : Type 0 whe
   pub spreads : Spreads old new
 
 -- a statement that is false of every assignment above the known shapes
-abbrev pub Refuses : (Assignment → Type 0) → Stand → Type 0
+abbrev pub Refuses : (Assignment → Type 0) → ShapeState → Type 0
 Refuses holds old = (a : Assignment) → IsBelow old.known a → holds a → ⊥
 
-abbrev pub Fails : FrameError → (Assignment → Type 0) → Stand → Type 0
+abbrev pub Fails : FrameCheckError → (Assignment → Type 0) → ShapeState → Type 0
 Fails FrameMismatch holds old = Refuses holds old
 Fails NoMemory holds old = Unit {0}
 
-abbrev pub Does : {T : Type 0} → Result T FrameError → (Assignment → Type 0) → Stand → Stand → Type 0
+abbrev pub Does : {T : Type 0} → Result T FrameCheckError → (Assignment → Type 0) → ShapeState → ShapeState → Type 0
 Does (Ok _) holds old new = Forces holds old new
 Does (Err e) holds old new = Fails e holds old
 
@@ -85,7 +85,7 @@ Unites None before s = may_have s before ≡ true
 Unites (Some after) before s = (may_have s (Some after) ≡ true) × Rises before (Some after)
 
 -- no shape lies above both, so the search refuses
-abbrev pub AreApart : FrameError → Option Shape → Shape → Type 0
+abbrev pub AreApart : FrameCheckError → Option Shape → Shape → Type 0
 AreApart FrameMismatch before s = (o : Option Shape) → LiesUnder before o → may_have s o ≡ true → ⊥
 AreApart NoMemory before s = Unit {0}
 
@@ -98,7 +98,7 @@ abbrev pub Leaves : Instruction → Shape → Shape → Type 0
 Leaves i s left_shape = (finds i s ≡ true) × (shape_after i s ≡ Some left_shape)
 
 -- the row doesn't find its registers or the frame that it needs
-abbrev pub NeverLeaves : FrameError → Instruction → Shape → Type 0
+abbrev pub NeverLeaves : FrameCheckError → Instruction → Shape → Type 0
 NeverLeaves FrameMismatch i s = (finds i s && is_some (shape_after i s)) ≡ false
 NeverLeaves NoMemory i s = Unit {0}
 
@@ -125,7 +125,7 @@ abbrev pub FlowsAt : Assignment → List Instruction → ℕ → Option Shape �
 FlowsAt a code at o = FlowsIf a code (row_at code at) (next_row at code) o
 
 -- each row that doesn't wait was looked at with the known shape of its place, and the shapes to which it leads are known
-abbrev pub AreLookedAt : List Instruction → Stand → Type 0
+abbrev pub AreLookedAt : List Instruction → ShapeState → Type 0
 AreLookedAt code k = (at : ℕ) → Waits at k.waiting ⊎ FlowsAt (assigned k.known) code at (assigned k.known at)
 
 -- the function that a row calls begins without y registers, if the row is reached
@@ -149,7 +149,7 @@ abbrev pub AreSmall : List Instruction → Type 0
 AreSmall code = (at : ℕ) → IsSmall (frame_effect (row_at code at))
 
 -- no row waits, and the shapes that were put are below each assignment
-pub record Settles (code : List Instruction) (old new : Stand) : Type 0 where
+pub record Settles (code : List Instruction) (old new : ShapeState) : Type 0 where
   pub kept : (a : Assignment) → IsBelow old.known a → IsAssignment code a → IsBelow new.known a
   pub none : new.waiting ≡ []
   pub long : length new.known ≡ length old.known

@@ -1,5 +1,5 @@
 pub mod Forced
-pub mod Parts
+pub mod OperandRoles
 pub mod Shown
 pub mod Tabled
 pub mod Trees

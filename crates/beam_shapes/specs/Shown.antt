@@ -4,7 +4,7 @@ use Rattle.beam_model.specs.Framed as book
 use Rattle.beam_shapes.specs.Trees.{Parts, tags_of, IsTree}
 use Rattle.beam_shapes.specs.declared.row.Effect.{Effect}
 use Rattle.beam_shapes.specs.declared.row.Effect.TheVariants as effect
-use Rattle.beam_shapes.specs.declared.shape.Registers.{Registers}
+use Rattle.beam_shapes.specs.declared.shape.YRegisters.{YRegisters}
 use Rattle.beam_shapes.specs.declared.shape.Shape.{Shape}
 use Rattle.beam_shapes.specs.declared.shape.Shape.TheVariants as shape
 
@@ -21,7 +21,7 @@ IsSmall (book.allocates n) = n ≤ 1024
 IsSmall _ = Unit {0}
 
 -- the y registers: the tags in their tree, from a place on
-abbrev pub shown_registers : Parts → Registers → List (Option ℕ)
+abbrev pub shown_registers : Parts → YRegisters → List (Option ℕ)
 shown_registers p r = drop r.from (tags_of p 10 r.tags)
 
 abbrev pub shown : Parts → Shape → book.Shape
@@ -30,7 +30,7 @@ shown p (shape.Sized r) = book.sized (shown_registers p r)
 shown p shape.Any = book.any
 
 -- the tree of the registers is there, and no tag stands before that place
-abbrev pub AreRegisters : Parts → Registers → Type 0
+abbrev pub AreRegisters : Parts → YRegisters → Type 0
 AreRegisters p r = (r.from ≤ 1024) × IsTree p 10 r.tags × (take r.from (tags_of p 10 r.tags) ≡ replicate r.from None)
 
 abbrev pub IsShape : Parts → Shape → Type 0

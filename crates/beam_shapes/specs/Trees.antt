@@ -36,8 +36,8 @@ abbrev pub IsAbsent : {X : Type 0} → X → List X → Type 0
 IsAbsent x xs = (i : ℕ) → slice_get xs i ≢ Some x
 
 -- a part has a number, and was added to the list if it was new
-abbrev pub Keeps : {X : Type 0} → X → List X → List X → ℕ → Type 0
-Keeps x old new n = (0 < n) × (slice_get new (n - 1) ≡ Some x) × (n ≤ length new) × ((new ≡ old) ⊎ ((new ≡ old ++ x ∷ []) × IsAbsent x old))
+abbrev pub IsInterned : {X : Type 0} → X → List X → List X → ℕ → Type 0
+IsInterned x old new n = (0 < n) × (slice_get new (n - 1) ≡ Some x) × (n ≤ length new) × ((new ≡ old) ⊎ ((new ≡ old ++ x ∷ []) × IsAbsent x old))
 
 abbrev pub AreDistinct : {X : Type 0} → List X → Type 0
 AreDistinct {X} xs = (i j : ℕ) (x : X) → slice_get xs i ≡ Some x → slice_get xs j ≡ Some x → i ≡ j

@@ -4,20 +4,20 @@ use std::alloc::AllocError;
 
 /// A fault of a listing, or want of memory.
 #[derive(Clone, Copy)]
-pub enum FrameError {
+pub enum FrameCheckError {
     /// A row doesn't find its y registers or the frame that it needs.
     FrameMismatch,
     /// Memory was refused.
     NoMemory,
 }
 
-impl From<AllocError> for FrameError {
+impl From<AllocError> for FrameCheckError {
     ghost use Rattle.std.specs.Prelude.{◌≡◌};
-    ghost use Rattle.beam_shapes.specs.declared.error.FrameError.TheVariants.{NoMemory};
+    ghost use Rattle.beam_shapes.specs.declared.error.FrameCheckError.TheVariants.{NoMemory};
 
     ghost from_gives = { λ _ e. e ≡ NoMemory };
 
-    fn from(_refused: AllocError) -> FrameError {
-        FrameError::NoMemory
+    fn from(_refused: AllocError) -> FrameCheckError {
+        FrameCheckError::NoMemory
     }
 }

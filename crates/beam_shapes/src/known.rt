@@ -7,8 +7,8 @@ ghost use Rattle.beam_shapes.specs.Forced.{assigned, Does, Leaves, NeverLeaves};
 ghost use Rattle.beam_shapes.specs.Shown.{shown, IsShape, IsKnown, IsSmall};
 ghost use Rattle.beam_shapes.specs.Trees.{Grows};
 
-use crate::error::FrameError;
-use crate::lack::{Lack, find_lack};
+use crate::error::FrameCheckError;
+use crate::mismatch::{Mismatch, mismatch_of};
 use crate::shape::{Shape, joined, left};
 use crate::trees::Trees;
 use beam_model::instruction::Instruction;
@@ -16,15 +16,15 @@ use std::alloc::{AllocError, Global};
 use std::marker::Model;
 
 /// For each place the shape that is known there, with the parts of its tags, and places whose shape changed.
-pub struct Known {
+pub struct KnownShapes {
     trees: Trees,
     shapes: Vec<Option<Shape>>,
     waiting: Vec<usize>,
 }
 
-impl Drop for Known {
+impl Drop for KnownShapes {
     fn drop(self) {
-        let Known {
+        let KnownShapes {
             trees: _trees,
             shapes: _shapes,
             waiting: _waiting,
@@ -32,12 +32,12 @@ impl Drop for Known {
     }
 }
 
-impl Model for Known {
+impl Model for KnownShapes {
     ghost use Rattle.std.specs.Prelude.{ℕ, map, option_map, slice_index_or, None};
-    ghost use Rattle.beam_shapes.specs.Forced.{Stand};
+    ghost use Rattle.beam_shapes.specs.Forced.{ShapeState};
     ghost use Rattle.beam_shapes.specs.Shown.{shown, IsKnown};
 
-    ghost Value = { Stand };
+    ghost Value = { ShapeState };
 
     ghost view = { λ k. record { parts = k.trees; known = map (option_map (shown k.trees)) k.shapes.items; waiting = k.waiting.items } };
 
@@ -57,14 +57,14 @@ fn known_places(alloc: Global, shapes: &[Option<Shape>]) -> Result<Vec<usize>, A
     Ok(places)
 }
 
-impl Known {
+impl KnownShapes {
     /// No known shape at any of `places` places, with room for `tags` tags.
-    pub fn new(alloc: Global, places: usize, tags: usize) -> Result<Known, AllocError>
+    pub fn new(alloc: Global, places: usize, tags: usize) -> Result<KnownShapes, AllocError>
         ensures { IfOk result (λ k. (k.known ≡ replicate places None) × (k.waiting ≡ [])) }
     {
         let shapes = vec![in alloc; None; places]?;
         let trees = Trees::new(alloc, tags)?;
-        Ok(Known {
+        Ok(KnownShapes {
             trees,
             shapes,
             waiting: Vec::new(alloc),
@@ -118,7 +118,7 @@ impl Known {
     }
 
     /// Joins a shape with which a place is reached into the place. `FrameMismatch` if no shape is above this one and the known one.
-    pub fn come(&mut self, place: usize, shape: Shape) -> Result<(), FrameError>
+    pub fn come(&mut self, place: usize, shape: Shape) -> Result<(), FrameCheckError>
         requires place { place < length self.old.known }
         requires shape { IsShape self.old.parts shape }
         ensures parts { self.new.parts ≡ self.old.parts }
@@ -130,14 +130,14 @@ impl Known {
             return Ok(());
         };
         let Ok(()) = self.waiting.push(place) else {
-            return Err(FrameError::NoMemory);
+            return Err(FrameCheckError::NoMemory);
         };
         self.shapes[place] = Some(after);
         Ok(())
     }
 
     /// Joins the shape without y registers into a place at which a function begins. `FrameMismatch` if the place can't have it.
-    pub fn begin(&mut self, place: usize) -> Result<(), FrameError>
+    pub fn begin(&mut self, place: usize) -> Result<(), FrameCheckError>
         requires { place < length self.old.known }
         ensures parts { self.new.parts ≡ self.old.parts }
         ensures begin { Does result (λ a. is_bare (a place) ≡ true) self.old self.new }
@@ -145,25 +145,25 @@ impl Known {
         match self.shapes[place] {
             None => {}
             Some(Shape::Bare) => return Ok(()),
-            Some(_) => return Err(FrameError::FrameMismatch),
+            Some(_) => return Err(FrameCheckError::FrameMismatch),
         }
         let Ok(()) = self.waiting.push(place) else {
-            return Err(FrameError::NoMemory);
+            return Err(FrameCheckError::NoMemory);
         };
         self.shapes[place] = Some(Shape::Bare);
         Ok(())
     }
 
     /// What a row lacks in a frame of this shape. None where it finds its registers and the frame that it needs.
-    pub fn lack(
+    pub fn mismatch(
         &self,
         alloc: Global,
         instruction: &Instruction,
         shape: Shape,
-    ) -> Result<Option<Lack>, AllocError>
+    ) -> Result<Option<Mismatch>, AllocError>
         requires { IsShape self.now.parts shape }
     {
-        find_lack(alloc, &self.trees, instruction, shape)
+        mismatch_of(alloc, &self.trees, instruction, shape)
     }
 
     /// The shape after a row, from the shape before it. `FrameMismatch` if the row doesn't find its registers or the frame that it needs.
@@ -172,7 +172,7 @@ impl Known {
         alloc: Global,
         instruction: &Instruction,
         shape: Shape,
-    ) -> Result<Shape, FrameError>
+    ) -> Result<Shape, FrameCheckError>
         requires shape { IsShape self.old.parts shape }
         requires making { IsSmall (frame_effect instruction.now) }
         ensures grows { Grows self.old.parts self.new.parts }

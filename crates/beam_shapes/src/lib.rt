@@ -3,10 +3,10 @@
 #![tactic(auto)]
 
 mod error;
+pub mod first_mismatch;
 mod known;
 pub mod label_rows;
-pub mod lack;
-pub mod misfit;
+pub mod mismatch;
 mod named;
 mod row;
 mod rows;

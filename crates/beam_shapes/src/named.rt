@@ -2,7 +2,7 @@
 ghost use Rattle.std.specs.Prelude.{◌≡◌, ◌++◌, IfOk, OnOk};
 ghost use Rattle.std.specs.List.{flat_map};
 ghost use Rattle.beam_model.specs.Framed.{is_read, is_written, is_jump, in_list};
-ghost use Rattle.beam_shapes.specs.Parts.{is_of, numbers_of, numbers_in, may_name, may_name_some, named};
+ghost use Rattle.beam_shapes.specs.OperandRoles.{is_of, numbers_of, numbers_in, may_name, may_name_some, named};
 
 use beam_genop::kinds;
 use beam_model::instruction::{Argument, Instruction, Operand};
@@ -11,7 +11,7 @@ use std::alloc::{AllocError, Global};
 
 /// Which operands are looked for.
 #[derive(Clone, Copy)]
-pub enum Part {
+pub enum OperandRole {
     /// y registers that the row reads.
     Reads,
     /// y registers that it writes.
@@ -55,70 +55,78 @@ fn is_jump(opcode: Opcode, kind: Kind) -> bool
     }
 }
 
-fn is_of(part: Part, opcode: Opcode, kind: Kind) -> bool
-    ensures { result ≡ is_of part opcode kind }
+fn is_of(role: OperandRole, opcode: Opcode, kind: Kind) -> bool
+    ensures { result ≡ is_of role opcode kind }
 {
-    match part {
-        Part::Reads => is_read(opcode, kind),
-        Part::Writes => is_written(opcode, kind),
-        Part::Jumps => is_jump(opcode, kind),
+    match role {
+        OperandRole::Reads => is_read(opcode, kind),
+        OperandRole::Writes => is_written(opcode, kind),
+        OperandRole::Jumps => is_jump(opcode, kind),
     }
 }
 
 /// The number that an argument names.
 #[inline(always)]
-fn number_of(part: Part, argument: &Argument) -> Option<u32>
-    ensures { in_list result ≡ numbers_of part argument.now }
+fn number_of(role: OperandRole, argument: &Argument) -> Option<u32>
+    ensures { in_list result ≡ numbers_of role argument.now }
 {
-    match (part, argument) {
-        (Part::Jumps, Argument::Label(label)) if *label > 0 => Some(*label),
-        (Part::Reads | Part::Writes, Argument::Y(number)) => Some(*number),
+    match (role, argument) {
+        (OperandRole::Jumps, Argument::Label(label)) if *label > 0 => Some(*label),
+        (OperandRole::Reads | OperandRole::Writes, Argument::Y(number)) => Some(*number),
         _ => None,
     }
 }
 
 /// Appends the number that an argument names, if it names one.
-fn push_argument(part: Part, argument: &Argument, found: &mut Vec<u32>) -> Result<(), AllocError>
-    ensures { OnOk result (found.new.items ≡ found.old.items ++ numbers_of part argument.now) }
+fn push_argument(
+    role: OperandRole,
+    argument: &Argument,
+    found: &mut Vec<u32>,
+) -> Result<(), AllocError>
+    ensures { OnOk result (found.new.items ≡ found.old.items ++ numbers_of role argument.now) }
 {
-    if let Some(number) = number_of(part, argument) {
+    if let Some(number) = number_of(role, argument) {
         found.push(number)?;
     }
     Ok(())
 }
 
 fn push_arguments(
-    part: Part,
+    role: OperandRole,
     arguments: &[Argument],
     found: &mut Vec<u32>,
 ) -> Result<(), AllocError>
-    ensures { OnOk result (found.new.items ≡ found.old.items ++ flat_map (numbers_of part) arguments.now) }
+    ensures { OnOk result (found.new.items ≡ found.old.items ++ flat_map (numbers_of role) arguments.now) }
 {
     let mut rest = arguments;
     while let Some((argument, others)) = rest.split_first() {
-        push_argument(part, argument, found)?;
+        push_argument(role, argument, found)?;
         rest = others;
     }
     Ok(())
 }
 
-fn push_operand(part: Part, operand: &Operand, found: &mut Vec<u32>) -> Result<(), AllocError>
-    ensures { OnOk result (found.new.items ≡ found.old.items ++ numbers_in part operand.now) }
+fn push_operand(
+    role: OperandRole,
+    operand: &Operand,
+    found: &mut Vec<u32>,
+) -> Result<(), AllocError>
+    ensures { OnOk result (found.new.items ≡ found.old.items ++ numbers_in role operand.now) }
 {
     match operand {
-        Operand::One(argument) => push_argument(part, argument, found),
+        Operand::One(argument) => push_argument(role, argument, found),
         Operand::Import(_) => Ok(()),
-        Operand::List(arguments) => push_arguments(part, arguments.as_slice(), found),
+        Operand::List(arguments) => push_arguments(role, arguments.as_slice(), found),
     }
 }
 
 /// Whether an operand may name something, whatever its kind is.
 #[inline(always)]
-fn may_name(part: Part, operand: &Operand) -> bool
-    ensures { result ≡ may_name part operand.now }
+fn may_name(role: OperandRole, operand: &Operand) -> bool
+    ensures { result ≡ may_name role operand.now }
 {
     match operand {
-        Operand::One(argument) => number_of(part, argument).is_some(),
+        Operand::One(argument) => number_of(role, argument).is_some(),
         Operand::Import(_) => false,
         Operand::List(_) => true,
     }
@@ -126,31 +134,35 @@ fn may_name(part: Part, operand: &Operand) -> bool
 
 /// Whether the operands of a row may name something, whatever their kinds are.
 #[inline(always)]
-pub fn may_name_some(part: Part, instruction: &Instruction) -> bool
-    ensures { result ≡ may_name_some part instruction.now }
+pub fn may_name_some(role: OperandRole, instruction: &Instruction) -> bool
+    ensures { result ≡ may_name_some role instruction.now }
 {
     let operands = instruction.operands.as_slice();
-    operands.iter().any(|operand| may_name(part, operand))
+    operands.iter().any(|operand| may_name(role, operand))
 }
 
 /// Appends the numbers that the operands of a row name, from the left.
 pub fn push_named(
-    part: Part,
+    role: OperandRole,
     instruction: &Instruction,
     found: &mut Vec<u32>,
 ) -> Result<(), AllocError>
-    ensures { OnOk result (found.new.items ≡ found.old.items ++ named part instruction.now) }
+    ensures { OnOk result (found.new.items ≡ found.old.items ++ named role instruction.now) }
 {
-    if may_name_some(part, instruction) {
-        push_each(part, instruction, found)
+    if may_name_some(role, instruction) {
+        push_each(role, instruction, found)
     } else {
         Ok(())
     }
 }
 
 /// Appends the numbers that the operands of a row name, from the left: the general way, which looks at each operand.
-fn push_each(part: Part, instruction: &Instruction, found: &mut Vec<u32>) -> Result<(), AllocError>
-    ensures { OnOk result (found.new.items ≡ found.old.items ++ named part instruction.now) }
+fn push_each(
+    role: OperandRole,
+    instruction: &Instruction,
+    found: &mut Vec<u32>,
+) -> Result<(), AllocError>
+    ensures { OnOk result (found.new.items ≡ found.old.items ++ named role instruction.now) }
 {
     let mut kinds = kinds(instruction.opcode);
     let mut rest = instruction.operands.as_slice();
@@ -158,8 +170,8 @@ fn push_each(part: Part, instruction: &Instruction, found: &mut Vec<u32>) -> Res
         let Some((operand, others)) = rest.split_first() else {
             break;
         };
-        if is_of(part, instruction.opcode, *kind) {
-            push_operand(part, operand, found)?;
+        if is_of(role, instruction.opcode, *kind) {
+            push_operand(role, operand, found)?;
         }
         kinds = other_kinds;
         rest = others;
@@ -168,10 +180,14 @@ fn push_each(part: Part, instruction: &Instruction, found: &mut Vec<u32>) -> Res
 }
 
 /// What the operands of a row name, from the left.
-pub fn named(alloc: Global, part: Part, instruction: &Instruction) -> Result<Vec<u32>, AllocError>
-    ensures { IfOk result (λ found. found.items ≡ named part instruction.now) }
+pub fn named(
+    alloc: Global,
+    role: OperandRole,
+    instruction: &Instruction,
+) -> Result<Vec<u32>, AllocError>
+    ensures { IfOk result (λ found. found.items ≡ named role instruction.now) }
 {
     let mut found = Vec::new(alloc);
-    push_named(part, instruction, &mut found)?;
+    push_named(role, instruction, &mut found)?;
     Ok(found)
 }

@@ -35,7 +35,7 @@ fn number(operand: &Operand) -> u32
 }
 
 /// Whether a native is there, and never returns.
-fn exits_by(native: Option<Native>) -> bool
+fn calls_exit_by(native: Option<Native>) -> bool
     ensures { result ≡ calls_exit_by native }
 {
     match native {
@@ -45,12 +45,12 @@ fn exits_by(native: Option<Native>) -> bool
 }
 
 /// Whether a call is of a native that never returns.
-fn exits(operand: &Operand) -> bool
+fn calls_exit(operand: &Operand) -> bool
     ensures { result ≡ calls_exit operand.now }
 {
     match operand {
         Operand::Import(import) => {
-            is_erlang(&import.module) && exits_by(native_named(&import.function, import.arity))
+            is_erlang(&import.module) && calls_exit_by(native_named(&import.function, import.arity))
         }
         _ => false,
     }
@@ -64,7 +64,7 @@ pub fn effect_of(instruction: &Instruction) -> Effect
         (Opcode::Deallocate, [size, ..]) => Effect::Drops(number(size)),
         (Opcode::CallLast, [_, _, size, ..]) => Effect::Drops(number(size)),
         (Opcode::CallExtLast, [_, function, size, ..]) => {
-            if exits(function) {
+            if calls_exit(function) {
                 Effect::Keeps
             } else {
                 Effect::Drops(number(size))
@@ -248,7 +248,7 @@ fn may_go_wrong(opcode: Opcode) -> bool
 }
 
 /// Whether a built-in function may fail without a label to go to instead, by the operands of `bif1` and `bif2`.
-fn fails(operands: &[Operand]) -> bool
+fn bif_may_fail(operands: &[Operand]) -> bool
     ensures { result ≡ bif_may_fail operands.now }
 {
     match operands {
@@ -258,7 +258,7 @@ fn fails(operands: &[Operand]) -> bool
 }
 
 /// Whether a built-in function may fail without a label to go to instead, by the operands of `gc_bif1` and `gc_bif2`.
-fn fails_collecting(operands: &[Operand]) -> bool
+fn gc_bif_may_fail(operands: &[Operand]) -> bool
     ensures { result ≡ gc_bif_may_fail operands.now }
 {
     match operands {
@@ -268,12 +268,12 @@ fn fails_collecting(operands: &[Operand]) -> bool
 }
 
 /// Whether a row calls a built-in function that may fail, without a label to go to instead.
-fn fails_by(instruction: &Instruction) -> bool
+fn may_fail_by(instruction: &Instruction) -> bool
     ensures { result ≡ may_fail_by instruction.now.opcode instruction.now.operands }
 {
     match instruction.opcode {
-        Opcode::Bif1 | Opcode::Bif2 => fails(instruction.operands.as_slice()),
-        Opcode::GcBif1 | Opcode::GcBif2 => fails_collecting(instruction.operands.as_slice()),
+        Opcode::Bif1 | Opcode::Bif2 => bif_may_fail(instruction.operands.as_slice()),
+        Opcode::GcBif1 | Opcode::GcBif2 => gc_bif_may_fail(instruction.operands.as_slice()),
         _ => false,
     }
 }
@@ -299,7 +299,7 @@ pub fn may_raise(instruction: &Instruction) -> bool
     is_call(instruction.opcode)
         || is_error(instruction.opcode)
         || may_go_wrong(instruction.opcode)
-        || fails_by(instruction)
+        || may_fail_by(instruction)
         || is_wrong_by(instruction)
 }
 
@@ -327,7 +327,7 @@ fn may_return(operand: &Operand) -> bool
 }
 
 /// Whether the row may go to the next one.
-pub fn goes_on(instruction: &Instruction) -> bool
+pub fn may_fall_through(instruction: &Instruction) -> bool
     ensures { result ≡ may_fall_through instruction.now }
 {
     match instruction.opcode {

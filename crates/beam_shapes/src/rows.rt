@@ -11,15 +11,15 @@ use std::alloc::{AllocError, Global};
 use std::marker::Model;
 
 /// Instructions, with the rows to which their labels lead.
-pub struct Code<'a> {
+pub struct LabelledCode<'a> {
     instructions: &'a [Instruction],
     rows: LabelRows,
     end: Instruction,
 }
 
-impl<'a> Drop for Code<'a> {
+impl<'a> Drop for LabelledCode<'a> {
     fn drop(self) {
-        let Code {
+        let LabelledCode {
             instructions: _instructions,
             rows: _rows,
             end: _end,
@@ -27,7 +27,7 @@ impl<'a> Drop for Code<'a> {
     }
 }
 
-impl<'a> Model for Code<'a> {
+impl<'a> Model for LabelledCode<'a> {
     ghost use Rattle.std.specs.Prelude.{◌≡◌, List};
     ghost use Rattle.std.specs.Coded.{codes};
     ghost use Rattle.beam_term.specs.Coding.{term_code};
@@ -54,8 +54,11 @@ fn count_of_labels(instructions: &[Instruction]) -> usize
         .count()
 }
 
-impl<'a> Code<'a> {
-    pub fn new(alloc: Global, instructions: &'a [Instruction]) -> Result<Code<'a>, AllocError>
+impl<'a> LabelledCode<'a> {
+    pub fn new(
+        alloc: Global,
+        instructions: &'a [Instruction],
+    ) -> Result<LabelledCode<'a>, AllocError>
         ensures { IfOk result (λ code. code ≡ instructions.now) }
     {
         let size = count_of_labels(instructions) + 1;
@@ -64,7 +67,7 @@ impl<'a> Code<'a> {
             opcode: Opcode::IntCodeEnd,
             operands: Operands::new(alloc, Vec::new(alloc))?,
         };
-        Ok(Code {
+        Ok(LabelledCode {
             instructions,
             rows,
             end,

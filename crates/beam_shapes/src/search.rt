@@ -9,11 +9,11 @@ ghost use Rattle.beam_model.specs.Framed.{begins_bare, shape_of_label, first_tag
 ghost use Rattle.beam_shapes.specs.Forced.{assigned, Does, Forces, Fails, MayGo, Settles, FitsAt, Flows, FlowsAt, BeginsAt, BeginBelow, BeginBare, IsAssignment, AreSmall};
 ghost use Rattle.beam_shapes.specs.Shown.{shown, IsShape};
 
-use crate::error::FrameError;
-use crate::known::Known;
-use crate::named::{Part, may_name_some, push_named};
-use crate::row::{called, goes_on, may_raise, never_jumps};
-use crate::rows::Code;
+use crate::error::FrameCheckError;
+use crate::known::KnownShapes;
+use crate::named::{OperandRole, may_name_some, push_named};
+use crate::row::{called, may_fall_through, may_raise, never_jumps};
+use crate::rows::LabelledCode;
 use crate::shape::Shape;
 use beam_model::instruction::Instruction;
 use beam_model::listing::Listing;
@@ -21,7 +21,12 @@ use beam_model::opcode::Opcode;
 use std::alloc::{AllocError, Global};
 
 /// Joins the shape with which a row goes to a label into the label's row.
-fn go_to(code: &Code, known: &mut Known, label: u32, shape: Shape) -> Result<(), FrameError>
+fn go_to(
+    code: &LabelledCode,
+    known: &mut KnownShapes,
+    label: u32,
+    shape: Shape,
+) -> Result<(), FrameCheckError>
     requires places { length known.old.known ≡ length code.now + 1 }
     requires shape { IsShape known.old.parts shape }
     ensures parts { known.new.parts ≡ known.old.parts }
@@ -30,24 +35,28 @@ fn go_to(code: &Code, known: &mut Known, label: u32, shape: Shape) -> Result<(),
 {
     match code.row_of(label) {
         Some(row) => known.come(row, shape),
-        None => Err(FrameError::FrameMismatch),
+        None => Err(FrameCheckError::FrameMismatch),
     }
 }
 
 /// Lets a function begin at a label, without y registers.
-fn begin(code: &Code, known: &mut Known, label: u32) -> Result<(), FrameError>
+fn begin(code: &LabelledCode, known: &mut KnownShapes, label: u32) -> Result<(), FrameCheckError>
     requires { length known.old.known ≡ length code.now + 1 }
     ensures parts { known.new.parts ≡ known.old.parts }
     ensures does { Does result (λ a. begins_bare a code.now label ≡ true) known.old known.new }
 {
     match code.row_of(label) {
         Some(row) => known.begin(row),
-        None => Err(FrameError::FrameMismatch),
+        None => Err(FrameCheckError::FrameMismatch),
     }
 }
 
 /// Lets a function begin at a label, if there is one.
-fn begin_if(code: &Code, known: &mut Known, label: Option<u32>) -> Result<(), FrameError>
+fn begin_if(
+    code: &LabelledCode,
+    known: &mut KnownShapes,
+    label: Option<u32>,
+) -> Result<(), FrameCheckError>
     requires { length known.old.known ≡ length code.now + 1 }
     ensures parts { known.new.parts ≡ known.old.parts }
     ensures does { Does result (λ a. list_all (begins_bare a code.now) (in_list label) ≡ true) known.old known.new }
@@ -59,7 +68,12 @@ fn begin_if(code: &Code, known: &mut Known, label: Option<u32>) -> Result<(), Fr
 }
 
 /// Joins the shape with which a row goes to these labels into each label's row.
-fn go_to_all(code: &Code, known: &mut Known, labels: &[u32], shape: Shape) -> Result<(), FrameError>
+fn go_to_all(
+    code: &LabelledCode,
+    known: &mut KnownShapes,
+    labels: &[u32],
+    shape: Shape,
+) -> Result<(), FrameCheckError>
     requires places { length known.old.known ≡ length code.now + 1 }
     requires shape { IsShape known.old.parts shape }
     ensures parts { known.new.parts ≡ known.old.parts }
@@ -76,7 +90,7 @@ fn go_to_all(code: &Code, known: &mut Known, labels: &[u32], shape: Shape) -> Re
 
 /// The label to which an exception of a row goes, if the row may raise one.
 #[inline(always)]
-fn exception_label(known: &Known, instruction: &Instruction, shape: Shape) -> Option<u32>
+fn exception_label(known: &KnownShapes, instruction: &Instruction, shape: Shape) -> Option<u32>
     requires { IsShape known.now.parts shape }
     ensures { in_list result ≡ (if may_raise instruction.now then in_list (first_tag (shown known.now.parts shape)) else []) }
 {
@@ -92,11 +106,11 @@ fn exception_label(known: &Known, instruction: &Instruction, shape: Shape) -> Op
 fn push_jumps(instruction: &Instruction, labels: &mut Vec<u32>) -> Result<(), AllocError>
     ensures { OnOk result (labels.new.items ≡ labels.old.items ++ jumps instruction.now) }
 {
-    if may_name_some(Part::Jumps, instruction) {
+    if may_name_some(OperandRole::Jumps, instruction) {
         if never_jumps(instruction) {
             Ok(())
         } else {
-            push_named(Part::Jumps, instruction, labels)
+            push_named(OperandRole::Jumps, instruction, labels)
         }
     } else {
         Ok(())
@@ -106,7 +120,7 @@ fn push_jumps(instruction: &Instruction, labels: &mut Vec<u32>) -> Result<(), Al
 /// The labels to which a row may go with the shape that it finds.
 fn targets(
     alloc: Global,
-    known: &Known,
+    known: &KnownShapes,
     instruction: &Instruction,
     shape: Shape,
 ) -> Result<Vec<u32>, AllocError>
@@ -124,11 +138,11 @@ fn targets(
 /// Joins the shape that a row finds into the rows of the labels to which it may go.
 fn lead(
     alloc: Global,
-    code: &Code,
-    known: &mut Known,
+    code: &LabelledCode,
+    known: &mut KnownShapes,
     instruction: &Instruction,
     shape: Shape,
-) -> Result<(), FrameError>
+) -> Result<(), FrameCheckError>
     requires places { length known.old.known ≡ length code.now + 1 }
     requires shape { IsShape known.old.parts shape }
     ensures parts { known.new.parts ≡ known.old.parts }
@@ -144,11 +158,11 @@ fn lead(
 /// Looks at the row at a position, with the shape that it finds, and joins the shapes that it forces.
 fn fit(
     alloc: Global,
-    code: &Code,
-    known: &mut Known,
+    code: &LabelledCode,
+    known: &mut KnownShapes,
     at: usize,
     shape: Shape,
-) -> Result<(), FrameError>
+) -> Result<(), FrameCheckError>
     requires places { length known.old.known ≡ length code.now + 1 }
     requires shape { IsShape known.old.parts shape }
     requires small { AreSmall code.now }
@@ -158,7 +172,7 @@ fn fit(
     let instruction = code.row_at(at);
     let left = known.left(alloc, instruction, shape)?;
     lead(alloc, code, known, instruction, shape)?;
-    if goes_on(instruction) {
+    if may_fall_through(instruction) {
         known.come(code.next_row(at), left)?;
     }
     Ok(())
@@ -167,10 +181,10 @@ fn fit(
 /// Looks at the row at a position, with the shape that is known there.
 pub(crate) fn step(
     alloc: Global,
-    code: &Code,
-    known: &mut Known,
+    code: &LabelledCode,
+    known: &mut KnownShapes,
     at: usize,
-) -> Result<(), FrameError>
+) -> Result<(), FrameCheckError>
     requires places { length known.old.known ≡ length code.now + 1 }
     requires small { AreSmall code.now }
     ensures does { Does result (λ a. FitsAt a code.now at) known.old known.new }
@@ -186,7 +200,7 @@ pub(crate) fn step(
 }
 
 /// Lets each function begin, without y registers.
-pub(crate) fn begin_all(code: &Code, known: &mut Known) -> Result<(), FrameError>
+pub(crate) fn begin_all(code: &LabelledCode, known: &mut KnownShapes) -> Result<(), FrameCheckError>
     requires { length known.old.known ≡ length code.now + 1 }
     ensures { Does result (λ a. list_all (begins_bare a code.now) (entries code.now) ≡ true) known.old known.new }
 {
@@ -209,7 +223,11 @@ fn entry(instruction: &Instruction, others: &[Instruction]) -> Option<u32>
 }
 
 /// Lets the function begin that a row calls, if the row is reached.
-fn begin_called(code: &Code, known: &mut Known, at: usize) -> Result<(), FrameError>
+fn begin_called(
+    code: &LabelledCode,
+    known: &mut KnownShapes,
+    at: usize,
+) -> Result<(), FrameCheckError>
     requires { length known.old.known ≡ length code.now + 1 }
     ensures { Does result (λ a. BeginsAt a code.now at) known.old known.new }
 {
@@ -224,7 +242,7 @@ fn begin_called(code: &Code, known: &mut Known, at: usize) -> Result<(), FrameEr
 }
 
 /// Lets each function begin that a row calls.
-fn begin_all_called(code: &Code, known: &mut Known) -> Result<(), FrameError>
+fn begin_all_called(code: &LabelledCode, known: &mut KnownShapes) -> Result<(), FrameCheckError>
     requires { length known.old.known ≡ length code.now + 1 }
     ensures { Does result (λ a. BeginBelow a code.now (length code.now)) known.old known.new }
 {
@@ -235,7 +253,7 @@ fn begin_all_called(code: &Code, known: &mut Known) -> Result<(), FrameError>
 }
 
 /// Lets each function, and each function that a row calls, begin again: `FrameMismatch` if another shape came there meanwhile.
-fn begin_again(code: &Code, known: &mut Known) -> Result<(), FrameError>
+fn begin_again(code: &LabelledCode, known: &mut KnownShapes) -> Result<(), FrameCheckError>
     requires { length known.old.known ≡ length code.now + 1 }
     ensures { Does result (BeginBare code.now) known.old known.new }
 {
@@ -244,7 +262,11 @@ fn begin_again(code: &Code, known: &mut Known) -> Result<(), FrameError>
 }
 
 /// Looks at each row whose shape changed, until none waits.
-fn settle(alloc: Global, code: &Code, known: &mut Known) -> Result<(), FrameError>
+fn settle(
+    alloc: Global,
+    code: &LabelledCode,
+    known: &mut KnownShapes,
+) -> Result<(), FrameCheckError>
     requires places { length known.old.known ≡ length code.now + 1 }
     requires small { AreSmall code.now }
     ensures { MatchResult result (λ _. Settles code.now known.old known.new) (λ e. Fails e (IsAssignment code.now) known.old) }
@@ -256,7 +278,7 @@ fn settle(alloc: Global, code: &Code, known: &mut Known) -> Result<(), FrameErro
 }
 
 /// Finds the shapes that are forced from the beginnings of the functions on.
-fn flow(alloc: Global, code: &Code, known: &mut Known) -> Result<(), FrameError>
+fn flow(alloc: Global, code: &LabelledCode, known: &mut KnownShapes) -> Result<(), FrameCheckError>
     requires places { length known.old.known ≡ length code.now + 1 }
     requires small { AreSmall code.now }
     ensures { MatchResult result (λ _. Settles code.now known.old known.new) (λ e. Fails e (IsAssignment code.now) known.old) }
@@ -267,7 +289,7 @@ fn flow(alloc: Global, code: &Code, known: &mut Known) -> Result<(), FrameError>
 
 /// Finds an assignment, or `FrameMismatch` if there is none. A row is looked at if it has a shape at first, and whenever its shape changes:
 /// the places to which it leads stay lawful as shapes grow. Only the beginnings of functions are tested again, since those may change.
-fn find(alloc: Global, code: &Code, known: &mut Known) -> Result<(), FrameError>
+fn find(alloc: Global, code: &LabelledCode, known: &mut KnownShapes) -> Result<(), FrameCheckError>
     requires places { length known.old.known ≡ length code.now + 1 }
     requires small { AreSmall code.now }
     ensures { MatchResult result (λ _. AreFramed code.now) (λ e. Fails e (IsAssignment code.now) known.old) }
@@ -290,11 +312,11 @@ pub fn frames(alloc: Global, listing: &Listing) -> Result<bool, AllocError>
     ensures framed { IfOk result (λ ok. ok ≡ true → IsFramed listing.now) }
     ensures unframed { IfOk result (λ ok. ok ≡ false → IsFramed listing.now → ⊥) }
 {
-    let code = Code::new(alloc, &listing.instructions)?;
-    let mut known = Known::new(alloc, listing.instructions.len() + 1, code.tags())?;
+    let code = LabelledCode::new(alloc, &listing.instructions)?;
+    let mut known = KnownShapes::new(alloc, listing.instructions.len() + 1, code.tags())?;
     match find(alloc, &code, &mut known) {
         Ok(()) => Ok(true),
-        Err(FrameError::FrameMismatch) => Ok(false),
-        Err(FrameError::NoMemory) => Err(AllocError),
+        Err(FrameCheckError::FrameMismatch) => Ok(false),
+        Err(FrameCheckError::NoMemory) => Err(AllocError),
     }
 }

@@ -8,8 +8,8 @@ ghost use Rattle.beam_shapes.specs.Forced.{Joins, Unites, AreApart, Leaves, Neve
 ghost use Rattle.beam_shapes.specs.Shown.{shown_effect, shown_registers, shown, AreRegisters, IsShape, IsKnown, IsSmall};
 ghost use Rattle.beam_shapes.specs.Trees.{Parts, Grows};
 
-use crate::error::FrameError;
-use crate::named::{Part, may_name_some, named};
+use crate::error::FrameCheckError;
+use crate::named::{OperandRole, may_name_some, named};
 use crate::row::{Effect, effect_of, tag};
 use crate::trees::{PLACES, Trees};
 use beam_model::instruction::Instruction;
@@ -17,7 +17,7 @@ use std::alloc::{AllocError, Global};
 
 /// y registers: their tags stand in a tree, from a place on to its end.
 #[derive(Clone, Copy)]
-pub struct Registers {
+pub struct YRegisters {
     from: u32,
     tags: u32,
 }
@@ -28,19 +28,19 @@ pub enum Shape {
     /// It has no y registers.
     Bare,
     /// It has these y registers.
-    Sized(Registers),
+    Sized(YRegisters),
     /// No catch tag stands in it, and nothing else is known.
     Any,
 }
 
-impl Registers {
+impl YRegisters {
     /// `count` registers without tags.
-    fn new(count: u32) -> Registers
+    fn new(count: u32) -> YRegisters
         requires { count ≤ 1024 }
         ensures registers { (p : Parts) → AreRegisters p result }
         ensures shown { (p : Parts) → shown_registers p result ≡ replicate count None }
     {
-        Registers {
+        YRegisters {
             from: PLACES - count,
             tags: 0,
         }
@@ -72,7 +72,7 @@ impl Registers {
         trees.first(self.tags)
     }
 
-    fn put(self, trees: &mut Trees, number: u32, tag: Option<u32>) -> Result<Registers, AllocError>
+    fn put(self, trees: &mut Trees, number: u32, tag: Option<u32>) -> Result<YRegisters, AllocError>
         requires { AreRegisters trees.old self }
         ensures grows { Grows trees.old trees.new }
         ensures registers { IfOk result (λ r. AreRegisters trees.new r) }
@@ -82,14 +82,14 @@ impl Registers {
             return Ok(self);
         }
         let tags = trees.put(self.tags, self.from + number, tag)?;
-        Ok(Registers {
+        Ok(YRegisters {
             from: self.from,
             tags,
         })
     }
 
     /// The registers without the first `count`.
-    fn without(self, trees: &mut Trees, count: u32) -> Result<Registers, AllocError>
+    fn without(self, trees: &mut Trees, count: u32) -> Result<YRegisters, AllocError>
         requires registers { AreRegisters trees.old self }
         requires count { self.from + count ≤ 1024 }
         ensures grows { Grows trees.old trees.new }
@@ -98,10 +98,10 @@ impl Registers {
     {
         let from = self.from + count;
         let tags = trees.clear(self.tags, from)?;
-        Ok(Registers { from, tags })
+        Ok(YRegisters { from, tags })
     }
 
-    fn are_same(self, trees: &Trees, others: Registers) -> bool
+    fn are_same(self, trees: &Trees, others: YRegisters) -> bool
         requires one { AreRegisters trees.now self }
         requires other { AreRegisters trees.now others }
         ensures { result ≡ pointwise (option_eq nat_eq) (shown_registers trees.now self) (shown_registers trees.now others) }
@@ -225,7 +225,7 @@ impl Shape {
             (Effect::Keeps, shape) => Ok(Some(shape)),
             (Effect::WantsBare, Shape::Bare) => Ok(Some(Shape::Bare)),
             (Effect::Allocates(count), Shape::Bare) => {
-                Ok(Some(Shape::Sized(Registers::new(count))))
+                Ok(Some(Shape::Sized(YRegisters::new(count))))
             }
             (Effect::Drops(count), Shape::Sized(registers)) => {
                 if registers.count() == count {
@@ -278,7 +278,7 @@ pub fn joined(
     trees: &Trees,
     before: Option<Shape>,
     shape: Shape,
-) -> Result<Option<Shape>, FrameError>
+) -> Result<Option<Shape>, FrameCheckError>
     requires before { IsKnown trees.now before }
     requires shape { IsShape trees.now shape }
     ensures shape { IfOk result (λ after. IsKnown trees.now after) }
@@ -294,10 +294,10 @@ pub fn joined(
         return Ok(None);
     }
     if known.first_tag(trees).is_some() {
-        return Err(FrameError::FrameMismatch);
+        return Err(FrameCheckError::FrameMismatch);
     }
     if shape.first_tag(trees).is_some() {
-        return Err(FrameError::FrameMismatch);
+        return Err(FrameCheckError::FrameMismatch);
     }
     Ok(Some(Shape::Any))
 }
@@ -308,7 +308,7 @@ fn left_unnamed(
     trees: &mut Trees,
     instruction: &Instruction,
     shape: Shape,
-) -> Result<Shape, FrameError>
+) -> Result<Shape, FrameCheckError>
     requires shape { IsShape trees.old shape }
     requires making { IsSmall (book.frame_effect instruction.now) }
     requires reads { book.read_ys instruction.now ≡ [] }
@@ -320,11 +320,11 @@ fn left_unnamed(
         (λ e. NeverLeaves e instruction.now (shown trees.old shape)) }
 {
     if tag(instruction).is_some() {
-        return Err(FrameError::FrameMismatch);
+        return Err(FrameCheckError::FrameMismatch);
     }
     match shape.made(trees, effect_of(instruction))? {
         Some(made) => Ok(made),
-        None => Err(FrameError::FrameMismatch),
+        None => Err(FrameCheckError::FrameMismatch),
     }
 }
 
@@ -335,7 +335,7 @@ pub fn left(
     trees: &mut Trees,
     instruction: &Instruction,
     shape: Shape,
-) -> Result<Shape, FrameError>
+) -> Result<Shape, FrameCheckError>
     requires shape { IsShape trees.old shape }
     requires making { IsSmall (book.frame_effect instruction.now) }
     ensures grows { Grows trees.old trees.new }
@@ -345,20 +345,20 @@ pub fn left(
         (λ e. NeverLeaves e instruction.now (shown trees.old shape)) }
 {
     // Read and written registers are named by the same kinds of operands, so one look serves for both.
-    if !may_name_some(Part::Reads, instruction) {
+    if !may_name_some(OperandRole::Reads, instruction) {
         return left_unnamed(trees, instruction, shape);
     }
-    let reads = named(alloc, Part::Reads, instruction)?;
-    let writes = named(alloc, Part::Writes, instruction)?;
+    let reads = named(alloc, OperandRole::Reads, instruction)?;
+    let writes = named(alloc, OperandRole::Writes, instruction)?;
     let tag = tag(instruction);
     if !shape.are_values(trees, &reads) || !shape.are_there(trees, &writes) {
-        return Err(FrameError::FrameMismatch);
+        return Err(FrameCheckError::FrameMismatch);
     }
     if tag.is_some() && writes.is_empty() {
-        return Err(FrameError::FrameMismatch);
+        return Err(FrameCheckError::FrameMismatch);
     }
     match shape.made(trees, effect_of(instruction))? {
         Some(made) => Ok(made.put_all(trees, &writes, tag)?),
-        None => Err(FrameError::FrameMismatch),
+        None => Err(FrameCheckError::FrameMismatch),
     }
 }

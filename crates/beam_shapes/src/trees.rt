@@ -1,7 +1,7 @@
 //! Trees whose places hold the label of a catch tag or nothing. They share their parts.
 ghost use Rattle.std.specs.Prelude.{◌≡◌, ◌+◌, ◌-◌, ◌^◌, ◌<◌, ◌≤◌, Option, None, set, get_or, [], length, drop, replicate, ◌++◌, ◌↔◌, IfOk, OnErr, IsTrue};
 ghost use Rattle.beam_model.specs.Framed.{first_in};
-ghost use Rattle.beam_shapes.specs.Trees.{part_of, halves_of, tags_of, IsTree, Grows, Keeps};
+ghost use Rattle.beam_shapes.specs.Trees.{part_of, halves_of, tags_of, IsTree, Grows, IsInterned};
 
 use indexmap::IndexSet;
 use std::alloc::{AllocError, Global};
@@ -47,8 +47,8 @@ impl Model for Trees {
 }
 
 /// The number of a label, which is added if it is new. `AllocError` if memory is refused or 2^32 - 1 labels are there.
-fn keep_label(labels: &mut IndexSet<u32>, label: u32) -> Result<u32, AllocError>
-    ensures kept { IfOk result (λ n. Keeps label labels.old.keys labels.new.keys n) }
+fn intern_label(labels: &mut IndexSet<u32>, label: u32) -> Result<u32, AllocError>
+    ensures kept { IfOk result (λ n. IsInterned label labels.old.keys labels.new.keys n) }
     ensures err { OnErr result (labels.new.keys ≡ labels.old.keys) }
 {
     if labels.len() >= u32::MAX as usize {
@@ -61,8 +61,8 @@ fn keep_label(labels: &mut IndexSet<u32>, label: u32) -> Result<u32, AllocError>
 }
 
 /// The number of halves, which are added if they are new. `AllocError` if memory is refused or 2^32 - 1 halves are there.
-fn keep_halves(halves: &mut IndexSet<Halves>, both: Halves) -> Result<u32, AllocError>
-    ensures kept { IfOk result (λ n. Keeps both halves.old.keys halves.new.keys n) }
+fn intern_halves(halves: &mut IndexSet<Halves>, both: Halves) -> Result<u32, AllocError>
+    ensures kept { IfOk result (λ n. IsInterned both halves.old.keys halves.new.keys n) }
     ensures err { OnErr result (halves.new.keys ≡ halves.old.keys) }
 {
     if halves.len() >= u32::MAX as usize {
@@ -116,7 +116,7 @@ impl Trees {
         if left == 0 && right == 0 {
             return Ok(0);
         }
-        let tree = keep_halves(&mut self.halves, Halves { left, right })?;
+        let tree = intern_halves(&mut self.halves, Halves { left, right })?;
         Ok(tree)
     }
 
@@ -127,7 +127,7 @@ impl Trees {
     {
         match tag {
             Some(label) => {
-                let tree = keep_label(&mut self.labels, label)?;
+                let tree = intern_label(&mut self.labels, label)?;
                 Ok(tree)
             }
             None => Ok(0),

@@ -23,7 +23,7 @@ use Rattle.beam_machine.specs.View.{View}
 use Rattle.beam_laws.proofs.Ending.{alive_is}
 use Rattle.beam_codesrv.specs.Homes.{number_of}
 use Rattle.beam_codesrv.specs.Numbers as codesrv
-use Rattle.beam_laws.specs.Kin.{Kin, same_number, same_numbers}
+use Rattle.beam_laws.specs.EarlierCode.{IsEarlierCode, same_number, same_numbers}
 use Rattle.beam_laws.specs.Origin.{Origin}
 use Rattle.beam_laws.specs.Out.{IsOut}
 use Rattle.beam_laws.specs.Slice.{slice_of, rows_at_end, rows_of_event}
@@ -33,10 +33,10 @@ use Rattle.beam_laws.proofs.Kinship.{is_same, same_itself}
 use Rattle.beam_laws.proofs.SpotEnds.{ends_at_limit, ends_after_row, ends_before_node_row, ends_at_spot}
 use Rattle.beam_debug.specs.Installing.{AreSlices}
 use Rattle.beam_step.specs.Slices.{RowsComeTo, capped}
-use Rattle.beam_shared.specs.declared.outs.OutEntry.{OutEntry}
+use Rattle.beam_shared.specs.declared.checked_out.CheckoutEntry.{CheckoutEntry}
 use Rattle.beam_shared.specs.Committing.{event_of}
-use Rattle.beam_shared.specs.Finished.{Context, Finished, IsFinished, context_of}
-use Rattle.beam_shared.specs.Kept.{context_in, IsHanded}
+use Rattle.beam_shared.specs.FinishedSlice.{CodeContext, FinishedSlice, IsFinishedSlice, context_of}
+use Rattle.beam_shared.specs.Invariant.{context_in, IsHanded}
 use Rattle.beam_shared.specs.Returned.{is_alike, same_places}
 
 -- ---- a slice's rows
@@ -56,7 +56,7 @@ slice_by o n rows true few is =
     let short : rows.count < n = is.short in
     (rows.count, omega (arith, few, short), is.done)
 
-pub comes_of_slice : (f : Finished) → IsFinished f → (limit : ℕ) × (limit ≤ 4000) × (f.rows ≡ slice_of f.origin limit)
+pub comes_of_slice : (f : FinishedSlice) → IsFinishedSlice f → (limit : ℕ) × (limit ≤ 4000) × (f.rows ≡ slice_of f.origin limit)
 comes_of_slice f (limit, comes) = slice_by f.origin (capped limit) f.rows f.cut (capped_few limit) comes
 
 few_by : (o : Origin) (n : ℕ) (end : End) → (slice_of o n).end ≡ end → (slice_of o n).count ≤ n
@@ -147,7 +147,7 @@ ended_places [] [] r none left = left
 ended_places [] (b ∷ rest) r none left = left ∙ grind (arith, nat_tests)
 ended_places (a ∷ rest) others r none left = absurd (omega (arith, none))
 
-alike_is : (d : Debugged) (context : Context) → Kin context.code d.node → is_alike d context ≡ true → context_in d ≡ context
+alike_is : (d : Debugged) (context : CodeContext) → IsEarlierCode context.code d.node → is_alike d context ≡ true → context_in d ≡ context
 alike_is d context kin e =
     let parts = both (codesrv.same_numbers context.code d.node.code) (same_places context.spots d.spots) e in
     let code : context.code ≡ d.node.code = is_same context.code d.node kin (sym (same_code context.code d.node.code) ∙ parts.0) in
@@ -158,7 +158,7 @@ itself_alike : (d : Debugged) → is_alike d (context_in d) ≡ true
 itself_alike d =
     ap (λ b. b && same_places d.spots d.spots) (same_code d.node.code d.node.code ∙ same_itself d.node.code) ∙ places_itself d.spots
 
-not_alike : (d : Debugged) (context : Context) → is_alike d context ≡ false → context_in d ≢ context
+not_alike : (d : Debugged) (context : CodeContext) → is_alike d context ≡ false → context_in d ≢ context
 not_alike d context e same =
     let is : is_alike d context ≡ true = subst (λ c. is_alike d c ≡ true) same (itself_alike d) in
     absurd (cc (is, e))
@@ -166,28 +166,28 @@ not_alike d context e same =
 some_is : (a b : Origin) (o : Option Origin) → o ≡ Some a → o ≡ Some b → a ≡ b
 some_is a b o e f = cc (e, f)
 
-module _ (d : Debugged) (changes : ℕ) (handed : List Origin) (e : OutEntry) (o : Origin) (i : IsHanded d changes handed e)
+module _ (d : Debugged) (changes : ℕ) (handed : List Origin) (e : CheckoutEntry) (o : Origin) (i : IsHanded d changes handed e)
     (there : slice_get handed e.serial ≡ Some o) where
   own : i.origin ≡ o
   own = some_is i.origin o (slice_get handed e.serial) i.handed_out there
 
-  same_by : (context : Context) (unchanged alike : Bool) → context ≡ context_of o → (e.changes == changes) ≡ unchanged → is_alike d context ≡ alike
+  same_by : (context : CodeContext) (unchanged alike : Bool) → context ≡ context_of o → (e.changes == changes) ≡ unchanged → is_alike d context ≡ alike
       → (unchanged || alike) ≡ true → context_in d ≡ context
   same_by context true alike over same tells holds =
       let now : e.changes ≡ changes = grind (arith, nat_tests, same) in
       i.context now ∙ (ap context_of own ∙ sym over)
   same_by context false alike over same tells holds =
-      let kin : Kin context.code d.node = subst (λ (c : Context). Kin c.code d.node) (ap context_of own ∙ sym over) i.kin in
+      let kin : IsEarlierCode context.code d.node = subst (λ (c : CodeContext). IsEarlierCode c.code d.node) (ap context_of own ∙ sym over) i.kin in
       alike_is d context kin (tells ∙ holds)
 
-  pub context_same : (context : Context) (b : Bool) → context ≡ context_of o → b ≡ ((e.changes == changes) || is_alike d context) → b ≡ true → context_in d ≡ context
+  pub context_same : (context : CodeContext) (b : Bool) → context ≡ context_of o → b ≡ ((e.changes == changes) || is_alike d context) → b ≡ true → context_in d ≡ context
   context_same context b over is holds = same_by context (e.changes == changes) (is_alike d context) over refl refl (sym is ∙ holds)
 
-  differs_by : (context : Context) (unchanged alike : Bool) → is_alike d context ≡ alike → (unchanged || alike) ≡ false → context_in d ≢ context
+  differs_by : (context : CodeContext) (unchanged alike : Bool) → is_alike d context ≡ alike → (unchanged || alike) ≡ false → context_in d ≢ context
   differs_by context true alike tells fails = absurd (cc fails)
   differs_by context false alike tells fails = not_alike d context (tells ∙ fails)
 
-  pub context_differs : (context : Context) (b : Bool) → b ≡ ((e.changes == changes) || is_alike d context) → b ≡ false → context_in d ≢ context
+  pub context_differs : (context : CodeContext) (b : Bool) → b ≡ ((e.changes == changes) || is_alike d context) → b ≡ false → context_in d ≢ context
   context_differs context b is fails = differs_by context (e.changes == changes) (is_alike d context) refl (sym is ∙ fails)
 
   slices_by : (pid : ℕ) (rows : Private) (limit : ℕ) (q : Option Process) → o.pid ≡ pid → live_process d.node.processes pid ≡ q → is_some q ≡ true
@@ -195,9 +195,9 @@ module _ (d : Debugged) (changes : ℕ) (handed : List Origin) (e : OutEntry) (o
   slices_by pid rows limit None of at lives same done some = absurd (cc lives)
   slices_by pid rows limit (Some p) of at lives same done some =
       let found = alive_is (process_of d.node.processes pid) p at in
-      let code : d.node.code ≡ o.code = ap (λ (c : Context). c.code) same in
-      let spots : d.spots ≡ o.spots = ap (λ (c : Context). c.spots) same in
-      let kin : Kin o.code d.node = subst (λ (x : Origin). Kin x.code d.node) own i.kin in
+      let code : d.node.code ≡ o.code = ap (λ (c : CodeContext). c.code) same in
+      let spots : d.spots ≡ o.spots = ap (λ (c : CodeContext). c.spots) same in
+      let kin : IsEarlierCode o.code d.node = subst (λ (x : Origin). IsEarlierCode x.code d.node) own i.kin in
       record {
         origin = o;
         own = of;

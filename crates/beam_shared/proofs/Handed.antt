@@ -7,10 +7,10 @@ use Rattle.beam_machine.specs.Debug.{Debugged, DebugAnswer}
 use Rattle.beam_machine.specs.DebugRun.{DebugAnswers}
 use Rattle.beam_laws.specs.Origin.{Origin}
 use Rattle.beam_laws.specs.Out.{is_busy}
-use Rattle.beam_laws.proofs.Answered.{answered_out, answered_kin}
-use Rattle.beam_shared.specs.declared.outs.OutEntry.{OutEntry}
+use Rattle.beam_laws.proofs.PreservedByAnswers.{answered_out, answered_kin}
+use Rattle.beam_shared.specs.declared.checked_out.CheckoutEntry.{CheckoutEntry}
 use Rattle.beam_shared.specs.Refusals.{must_wait}
-use Rattle.beam_shared.specs.Kept.{out_by, context_in, IsHanded, AreHanded}
+use Rattle.beam_shared.specs.Invariant.{checked_out_of, context_in, IsHanded, AreHanded}
 
 either : (a b : Bool) → (a || b) ≡ false → (a ≡ false) × (b ≡ false)
 either false b e = (refl, e)
@@ -18,7 +18,7 @@ either true b e = absurd (cc (e))
 
 -- ---- an event of others
 
-still_handed : (d x : Debugged) (changes later : ℕ) (handed : List Origin) (entry : OutEntry) (e : DebugEvent Listing) (a : DebugAnswer)
+still_handed : (d x : Debugged) (changes later : ℕ) (handed : List Origin) (entry : CheckoutEntry) (e : DebugEvent Listing) (a : DebugAnswer)
     → DebugAnswers d e a x → changes ≤ later → (later ≡ changes → context_in x ≡ context_in d) → is_busy entry.pid e ≡ false
     → IsHanded d changes handed entry → IsHanded x later handed entry
 still_handed d x changes later handed entry e a answers more same free i = record {
@@ -35,12 +35,12 @@ still_handed d x changes later handed entry e a answers more same free i = recor
       same none ∙ i.context then;
 }
 
-pub still_all : (d x : Debugged) (changes later : ℕ) (handed : List Origin) (entries : List OutEntry) (e : DebugEvent Listing) (a : DebugAnswer)
-    → DebugAnswers d e a x → changes ≤ later → (later ≡ changes → context_in x ≡ context_in d) → must_wait (map out_by entries) e ≡ false
+pub still_all : (d x : Debugged) (changes later : ℕ) (handed : List Origin) (entries : List CheckoutEntry) (e : DebugEvent Listing) (a : DebugAnswer)
+    → DebugAnswers d e a x → changes ≤ later → (later ≡ changes → context_in x ≡ context_in d) → must_wait (map checked_out_of entries) e ≡ false
     → AreHanded d changes handed entries → AreHanded x later handed entries
 still_all d x changes later handed [] e a answers more same free h = tt
 still_all d x changes later handed (entry ∷ rest) e a answers more same free h =
-    let both = either (is_busy entry.pid e) (must_wait (map out_by rest) e) free in (
+    let both = either (is_busy entry.pid e) (must_wait (map checked_out_of rest) e) free in (
       still_handed d x changes later handed entry e a answers more same both.0 h.0,
       still_all d x changes later handed rest e a answers more same both.1 h.1,
     )
@@ -56,7 +56,7 @@ pub got_last : {X : Type 0} (xs : List X) (x : X) → slice_get (xs ++ x ∷ [])
 got_last [] x = refl
 got_last (y ∷ xs) x = got_last xs x
 
-known_still : (d : Debugged) (changes : ℕ) (handed : List Origin) (o : Origin) (entry : OutEntry) → IsHanded d changes handed entry → IsHanded d changes (handed ++ o ∷ []) entry
+known_still : (d : Debugged) (changes : ℕ) (handed : List Origin) (o : Origin) (entry : CheckoutEntry) → IsHanded d changes handed entry → IsHanded d changes (handed ++ o ∷ []) entry
 known_still d changes handed o entry i = record {
   origin = i.origin;
   handed_out = got_more handed (o ∷ []) entry.serial i.origin i.handed_out;
@@ -67,12 +67,12 @@ known_still d changes handed o entry i = record {
   context = i.context;
 }
 
-pub known_all : (d : Debugged) (changes : ℕ) (handed : List Origin) (o : Origin) (entries : List OutEntry) → AreHanded d changes handed entries
+pub known_all : (d : Debugged) (changes : ℕ) (handed : List Origin) (o : Origin) (entries : List CheckoutEntry) → AreHanded d changes handed entries
     → AreHanded d changes (handed ++ o ∷ []) entries
 known_all d changes handed o [] h = tt
 known_all d changes handed o (entry ∷ rest) h = (known_still d changes handed o entry h.0, known_all d changes handed o rest h.1)
 
-pub and_one : (d : Debugged) (changes : ℕ) (handed : List Origin) (entries : List OutEntry) (entry : OutEntry) → AreHanded d changes handed entries
+pub and_one : (d : Debugged) (changes : ℕ) (handed : List Origin) (entries : List CheckoutEntry) (entry : CheckoutEntry) → AreHanded d changes handed entries
     → IsHanded d changes handed entry → AreHanded d changes handed (entries ++ entry ∷ [])
 and_one d changes handed [] entry h i = (i, tt)
 and_one d changes handed (first ∷ rest) entry h i = (h.0, and_one d changes handed rest entry h.1 i)

@@ -26,7 +26,7 @@ use Rattle.beam_rows.specs.Finds.{AlwaysFinds}
 use Rattle.beam_rows.proofs.Finding.{framed_finds}
 use Rattle.beam_shape_laws.specs.Shaped.{IsFramedNode}
 use Rattle.beam_shape_laws.proofs.Nodes.{debug_framed}
-use Rattle.beam_shared.specs.Node.{Out, has_any, all_arrived, awaits, delivered_if, origin_in, serial_of}
+use Rattle.beam_shared.specs.Node.{CheckedOut, has_any, all_arrived, process_has_incoming, delivered_if, origin_in, serial_of}
 use Rattle.beam_shared.specs.Refusals.{refusal_in, refusal_of}
 use Rattle.beam_shared.proofs.Refusing.{by_tests}
 
@@ -119,44 +119,44 @@ module _ (d : Debugged) (pid : ℕ) (p : Process) (there : live_process d.node.p
 ok_is : (x y : DebugReply View) (a : DebugAnswer) → a ≡ Ok x → a ≡ Ok y → x ≡ y
 ok_is x y a e f = cc (e, f)
 
-pub said_done : (d x : Debugged) (pid : ℕ) (reply : DebugReply View) → awaits (live_process d.node.processes pid) ≡ true
+pub said_done : (d x : Debugged) (pid : ℕ) (reply : DebugReply View) → process_has_incoming (live_process d.node.processes pid) ≡ true
     → debug_next d (NodeEvent (Deliver pid)) ≡ record { answer = Ok reply; state = x } → reply ≡ NodeReply Done
 said_done d x pid reply some e = by (live_process d.node.processes pid) refl some
   where
-    by : (o : Option Process) → live_process d.node.processes pid ≡ o → awaits o ≡ true → reply ≡ NodeReply Done
+    by : (o : Option Process) → live_process d.node.processes pid ≡ o → process_has_incoming o ≡ true → reply ≡ NodeReply Done
     by None there some = absurd (cc some)
     by (Some p) there some = ok_is reply (NodeReply Done) (debug_next d (NodeEvent (Deliver pid))).answer (ap (λ (n : DebugNext). n.answer) e) (is_done d pid p there some)
 
 -- ---- a process that may go
 
-may_by : (d : Debugged) (out : List Out) (pid : ℕ) (p : Process) (busy held : Bool) → is_some (serial_of pid out) ≡ busy → is_among pid d.held ≡ held
-    → by_tests busy held (is_running p.status || has_any p.transit) ≡ None → (is_some (serial_of pid out) ≡ false) × (is_among pid d.held ≡ false)
-may_by d out pid p true held b h e = absurd (cc e)
-may_by d out pid p false true b h e = absurd (cc e)
-may_by d out pid p false false b h e = (b, h)
+may_by : (d : Debugged) (checked_out : List CheckedOut) (pid : ℕ) (p : Process) (busy held : Bool) → is_some (serial_of pid checked_out) ≡ busy → is_among pid d.held ≡ held
+    → by_tests busy held (is_running p.status || has_any p.transit) ≡ None → (is_some (serial_of pid checked_out) ≡ false) × (is_among pid d.held ≡ false)
+may_by d checked_out pid p true held b h e = absurd (cc e)
+may_by d checked_out pid p false true b h e = absurd (cc e)
+may_by d checked_out pid p false false b h e = (b, h)
 
-may_go : (d : Debugged) (out : List Out) (pid : ℕ) (o : Option Process) → refusal_in d out pid o ≡ None → (is_some (serial_of pid out) ≡ false) × (is_among pid d.held ≡ false)
-may_go d out pid None e = absurd (cc e)
-may_go d out pid (Some p) e = may_by d out pid p (is_some (serial_of pid out)) (is_among pid d.held) refl refl e
+may_be_checked_out : (d : Debugged) (checked_out : List CheckedOut) (pid : ℕ) (o : Option Process) → refusal_in d checked_out pid o ≡ None → (is_some (serial_of pid checked_out) ≡ false) × (is_among pid d.held ≡ false)
+may_be_checked_out d checked_out pid None e = absurd (cc e)
+may_be_checked_out d checked_out pid (Some p) e = may_by d checked_out pid p (is_some (serial_of pid checked_out)) (is_among pid d.held) refl refl e
 
-pub not_out : (d : Debugged) (out : List Out) (pid : ℕ) → refusal_of d out pid ≡ None → is_some (serial_of pid out) ≡ false
-not_out d out pid e = (may_go d out pid (live_process d.node.processes pid) e).0
+pub not_out : (d : Debugged) (checked_out : List CheckedOut) (pid : ℕ) → refusal_of d checked_out pid ≡ None → is_some (serial_of pid checked_out) ≡ false
+not_out d checked_out pid e = (may_be_checked_out d checked_out pid (live_process d.node.processes pid) e).0
 
 some_is : (a b : Origin) → Some a ≡ Some b → a ≡ b
 some_is a b e = cc e
 
-out_in : (d : Debugged) (out : List Out) (pid : ℕ) (o : Origin) (q : Option Process) → live_process d.node.processes pid ≡ q → origin_in d pid q ≡ Some o
-    → refusal_of d out pid ≡ None → IsOut (delivered_if d pid (awaits q)) o
-out_in d out pid o None there is may = absurd (cc is)
-out_in d out pid o (Some p) there is may =
+out_in : (d : Debugged) (checked_out : List CheckedOut) (pid : ℕ) (o : Origin) (q : Option Process) → live_process d.node.processes pid ≡ q → origin_in d pid q ≡ Some o
+    → refusal_of d checked_out pid ≡ None → IsOut (delivered_if d pid (process_has_incoming q)) o
+out_in d checked_out pid o None there is may = absurd (cc is)
+out_in d checked_out pid o (Some p) there is may =
     let own : Origin = record { pid = pid; process = all_arrived p (has_any p.transit); passes = is_among pid d.passing; code = d.node.code; spots = d.spots } in
     subst (IsOut (delivered_if d pid (has_any p.transit))) (some_is own o is)
-    (is_out d pid p there own refl refl refl (may_go d out pid (live_process d.node.processes pid) may).1)
+    (is_out d pid p there own refl refl refl (may_be_checked_out d checked_out pid (live_process d.node.processes pid) may).1)
 
-pub handed_out : (d x : Debugged) (out : List Out) (pid : ℕ) (o : Origin) (b : Bool) → origin_in d pid (live_process d.node.processes pid) ≡ Some o → refusal_of d out pid ≡ None
-    → awaits (live_process d.node.processes pid) ≡ b → x ≡ delivered_if d pid b → IsOut x o
-handed_out d x out pid o b is may awaited e =
-    subst (λ y. IsOut y o) (sym (e ∙ ap (delivered_if d pid) (sym awaited))) (out_in d out pid o (live_process d.node.processes pid) refl is may)
+pub handed_out : (d x : Debugged) (checked_out : List CheckedOut) (pid : ℕ) (o : Origin) (b : Bool) → origin_in d pid (live_process d.node.processes pid) ≡ Some o → refusal_of d checked_out pid ≡ None
+    → process_has_incoming (live_process d.node.processes pid) ≡ b → x ≡ delivered_if d pid b → IsOut x o
+handed_out d x checked_out pid o b is may incoming e =
+    subst (λ y. IsOut y o) (sym (e ∙ ap (delivered_if d pid) (sym incoming))) (out_in d checked_out pid o (live_process d.node.processes pid) refl is may)
 
 -- ---- each row of what is handed out finds what it names
 
@@ -173,11 +173,11 @@ origin_finds d pid o is framed = finds_in d pid o (live_process d.node.processes
 
 -- ---- the signals in transit to the process are delivered
 
-pub done_now : (d x : Debugged) (pid : ℕ) → awaits (live_process d.node.processes pid) ≡ true → x ≡ (debug_next d (NodeEvent (Deliver pid))).state
+pub done_now : (d x : Debugged) (pid : ℕ) → process_has_incoming (live_process d.node.processes pid) ≡ true → x ≡ (debug_next d (NodeEvent (Deliver pid))).state
     → debug_next d (NodeEvent (Deliver pid)) ≡ record { answer = Ok (NodeReply Done); state = x }
 done_now d x pid some e = by (live_process d.node.processes pid) refl some
   where
-    by : (o : Option Process) → live_process d.node.processes pid ≡ o → awaits o ≡ true → debug_next d (NodeEvent (Deliver pid)) ≡ record { answer = Ok (NodeReply Done); state = x }
+    by : (o : Option Process) → live_process d.node.processes pid ≡ o → process_has_incoming o ≡ true → debug_next d (NodeEvent (Deliver pid)) ≡ record { answer = Ok (NodeReply Done); state = x }
     by None there some = absurd (cc some)
     by (Some p) there some =
         ap (λ a. record { answer = a; state = (debug_next d (NodeEvent (Deliver pid))).state }) (is_done d pid p there some)

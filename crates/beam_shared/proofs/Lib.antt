@@ -9,5 +9,5 @@ pub mod Seating
 pub mod Totals
 pub mod Unchanged
 pub mod Returning
-pub mod Rooms
+pub mod Capacities
 pub mod CommittedRows

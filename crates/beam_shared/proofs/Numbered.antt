@@ -11,7 +11,7 @@ use Rattle.beam_machine.specs.State.{State, empty}
 use Rattle.beam_laws.specs.Numbers.{Ordered}
 use Rattle.beam_laws.proofs.Debugging.{run_erased}
 use Rattle.beam_laws.proofs.Numbering.{ordered_next}
-use Rattle.beam_laws.specs.Kin.{Kin}
+use Rattle.beam_laws.specs.EarlierCode.{IsEarlierCode}
 use Rattle.beam_laws.proofs.Kinship.{own_kin}
 
 abbrev IsOrdered : State → Type 0
@@ -25,9 +25,9 @@ none_ordered : IsOrdered empty
 none_ordered n = (omega arith, λ l. refl)
 
 -- the code of a state to which a journal leads is kin to itself
-pub kin_there : (d : Debugged) (es : List Entry) → replay es ≡ d → Kin d.node.code d.node
+pub kin_there : (d : Debugged) (es : List Entry) → replay es ≡ d → IsEarlierCode d.node.code d.node
 kin_there d es e =
     let events = map (λ (e : Entry). e.event) es in
     let ordered : IsOrdered (debug_run (undisturbed empty) events).state.node =
     subst IsOrdered (run_erased (undisturbed empty) events) (ordered_run empty (erase (undisturbed empty) events) none_ordered) in
-    subst (λ (x : Debugged). Kin x.node.code x.node) e (own_kin (replay es).node ordered)
+    subst (λ (x : Debugged). IsEarlierCode x.node.code x.node) e (own_kin (replay es).node ordered)

@@ -98,7 +98,7 @@ pub nothing_changed : (d new : Debugged) (e : DebugEvent Listing) (r : Refused) 
 nothing_changed d new e NoMemory h = h
 nothing_changed d new e r h = (its_own d new e r h).1
 
-pub it_refuses_command : (n : Node) (new : Debugged) (e : DebugEvent Listing) (r : Refused) → length n.journal ≢ n.limit → must_wait n.out e ≡ false
+pub it_refuses_command : (n : Node) (new : Debugged) (e : DebugEvent Listing) (r : Refused) → length n.journal ≢ n.limit → must_wait n.checked_out e ≡ false
     → DebugAnswers n.state e (Err r) new → RefusesCommand n e (OfNode r)
 it_refuses_command n new e NoMemory few free h = (few, free)
 it_refuses_command n new e r few free h = (few, free, (its_own n.state new e r h).0)

@@ -5,22 +5,22 @@ use Rattle.beam_machine.specs.declared.event.Refused.TheVariants.{NotReady, Stop
 use Rattle.beam_machine.specs.Debug.{Debugged, is_among}
 use Rattle.beam_machine.specs.Process.{Process, is_running}
 use Rattle.beam_machine.specs.State.{live_process}
-use Rattle.beam_shared.specs.declared.outs.OutEntry.{OutEntry}
+use Rattle.beam_shared.specs.declared.checked_out.CheckoutEntry.{CheckoutEntry}
 use Rattle.beam_shared.specs.declared.refusal.Refusal.{Refusal}
 use Rattle.beam_shared.specs.declared.refusal.Refusal.TheVariants.{Node as OfNode, Busy}
 use Rattle.beam_shared.specs.Node.{has_any}
 use Rattle.beam_shared.specs.Refusals.{refusal_in, refusal_of}
-use Rattle.beam_shared.specs.Kept.{out_by, entry_of}
+use Rattle.beam_shared.specs.Invariant.{checked_out_of, entry_of}
 use Rattle.beam_shared.proofs.Entries.{is_found}
 
 abbrev pub by_tests : Bool → Bool → Bool → Option Refusal
 by_tests busy held goes = cond {A = Option Refusal} busy (Some Busy) (cond {A = Option Refusal} held (Some (OfNode Stopped)) (cond {A = Option Refusal} goes None (Some (OfNode NotReady))))
 
-pub refusal_is : (d : Debugged) (entries : List OutEntry) (pid : ℕ) (p : Process) (busy held goes : Bool) → live_process d.node.processes pid ≡ Some p
+pub refusal_is : (d : Debugged) (entries : List CheckoutEntry) (pid : ℕ) (p : Process) (busy held goes : Bool) → live_process d.node.processes pid ≡ Some p
     → is_some (entry_of pid entries) ≡ busy → is_among pid d.held ≡ held → is_running p.status || has_any p.transit ≡ goes
-    → refusal_of d (map out_by entries) pid ≡ by_tests busy held goes
+    → refusal_of d (map checked_out_of entries) pid ≡ by_tests busy held goes
 refusal_is d entries pid p busy held goes there b h g =
-    ap (refusal_in d (map out_by entries) pid) there
+    ap (refusal_in d (map checked_out_of entries) pid) there
     ∙ (ap (λ x. by_tests x (is_among pid d.held) (is_running p.status || has_any p.transit)) (is_found pid entries ∙ b)
     ∙ (ap (λ x. by_tests busy x (is_running p.status || has_any p.transit)) h
     ∙ ap (by_tests busy held) g))

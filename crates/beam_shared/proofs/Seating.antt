@@ -6,17 +6,17 @@ use Rattle.std.proofs.lemmas.Option.{slice_get_within, slice_get_read}
 use Rattle.std.proofs.lemmas.Bool.Decides.{nat_tests}
 use Rattle.std.proofs.lemmas.List.{length-set, length-replicate, set-get_or}
 use Rattle.beam_machine.specs.Journal.{Entry}
-use Rattle.beam_receipts.specs.Receipts.{Share, of_seat}
+use Rattle.beam_receipts.specs.Receipts.{SeatHistory, of_seat}
 use Rattle.beam_shared.specs.Seats.{Agree, AreBelow, AreDistinct}
 
 -- the numbers of the first seats are noted; each is there once, was given, and its seat keeps exactly the journal's entries of that number
-pub record AreNoted (given : ℕ) (journal : List Entry) (seats : List Share) (seen : List Bool) (at : ℕ) : Type 0 where
+pub record AreNoted (given : ℕ) (journal : List Entry) (seats : List SeatHistory) (seen : List Bool) (at : ℕ) : Type 0 where
   pub size : length seen ≡ 4096
-  pub noted : (i : ℕ) (s : Share) → i < at → slice_get seats i ≡ Some s → get_or seen s.number false ≡ true
-  pub known : (n : ℕ) → get_or seen n false ≡ true → (i : ℕ) × (s : Share) × (i < at) × (slice_get seats i ≡ Some s) × (s.number ≡ n)
-  pub distinct : (i j : ℕ) (s t : Share) → i < at → j < at → slice_get seats i ≡ Some s → slice_get seats j ≡ Some t → s.number ≡ t.number → i ≡ j
-  pub agree : (i : ℕ) (s : Share) → i < at → slice_get seats i ≡ Some s → s.kept ≡ of_seat s.number journal
-  pub below : (i : ℕ) (s : Share) → i < at → slice_get seats i ≡ Some s → s.number < given
+  pub noted : (i : ℕ) (s : SeatHistory) → i < at → slice_get seats i ≡ Some s → get_or seen s.number false ≡ true
+  pub known : (n : ℕ) → get_or seen n false ≡ true → (i : ℕ) × (s : SeatHistory) × (i < at) × (slice_get seats i ≡ Some s) × (s.number ≡ n)
+  pub distinct : (i j : ℕ) (s t : SeatHistory) → i < at → j < at → slice_get seats i ≡ Some s → slice_get seats j ≡ Some t → s.number ≡ t.number → i ≡ j
+  pub agree : (i : ℕ) (s : SeatHistory) → i < at → slice_get seats i ≡ Some s → s.kept ≡ of_seat s.number journal
+  pub below : (i : ℕ) (s : SeatHistory) → i < at → slice_get seats i ≡ Some s → s.number < given
 
 last_or : (i at : ℕ) → i < at + 1 → (i < at) ⊎ (i ≡ at)
 last_or i at l = by (nat_lt i at) refl
@@ -39,14 +39,14 @@ compared m n = by (nat_lt m n) (nat_lt n m) refl refl
     by false true e f = other (grind (arith, nat_tests, f))
     by false false e f = same (grind (arith, nat_tests, e, f))
 
-some_is : (t s : Share) → Some t ≡ Some s → t ≡ s
+some_is : (t s : SeatHistory) → Some t ≡ Some s → t ≡ s
 some_is t s e = cc e
 
 -- ---- one more seat
 
-module _ (given : ℕ) (journal : List Entry) (seats : List Share) (seen : List Bool) (at : ℕ) (s : Share) (h : AreNoted given journal seats seen at) (here : slice_get seats at ≡ Some s)
+module _ (given : ℕ) (journal : List Entry) (seats : List SeatHistory) (seen : List Bool) (at : ℕ) (s : SeatHistory) (h : AreNoted given journal seats seen at) (here : slice_get seats at ≡ Some s)
     (few : s.number < 4096) (free : get_or seen s.number false ≡ false) where
-  is_one : (t : Share) (i : ℕ) → i ≡ at → slice_get seats i ≡ Some t → t ≡ s
+  is_one : (t : SeatHistory) (i : ℕ) → i ≡ at → slice_get seats i ≡ Some t → t ≡ s
   is_one t i e found = some_is t s (sym found ∙ (ap (slice_get seats) e ∙ here))
 
   own_noted : (n : ℕ) → n ≡ s.number → get_or (set seen s.number true) n false ≡ true
@@ -58,33 +58,33 @@ module _ (given : ℕ) (journal : List Entry) (seats : List Share) (seen : List 
   still_noted n (same one) was = own_noted n one
   still_noted n (other apart) was = get_or-set_other seen s.number n true false apart ∙ was
 
-  noted_by : (i : ℕ) (t : Share) → (i < at) ⊎ (i ≡ at) → slice_get seats i ≡ Some t → get_or (set seen s.number true) t.number false ≡ true
+  noted_by : (i : ℕ) (t : SeatHistory) → (i < at) ⊎ (i ≡ at) → slice_get seats i ≡ Some t → get_or (set seen s.number true) t.number false ≡ true
   noted_by i t (inl l) found = still_noted t.number (compared t.number s.number) (h.noted i t l found)
-  noted_by i t (inr e) found = own_noted t.number (ap (λ (x : Share). x.number) (is_one t i e found))
+  noted_by i t (inr e) found = own_noted t.number (ap (λ (x : SeatHistory). x.number) (is_one t i e found))
 
   known_by : (n : ℕ) → Compared n s.number → get_or (set seen s.number true) n false ≡ true
-      → (i : ℕ) × (t : Share) × (i < at + 1) × (slice_get seats i ≡ Some t) × (t.number ≡ n)
+      → (i : ℕ) × (t : SeatHistory) × (i < at + 1) × (slice_get seats i ≡ Some t) × (t.number ≡ n)
   known_by n (same one) e = (at, s, omega arith, here, sym one)
   known_by n (other apart) e =
       let old = h.known n (sym (get_or-set_other seen s.number n true false apart) ∙ e) in
       (old.0, old.1, omega (arith, old.2), old.3, old.4)
 
-  not_before : (i : ℕ) (t : Share) → i < at → slice_get seats i ≡ Some t → t.number ≡ s.number → ⊥
+  not_before : (i : ℕ) (t : SeatHistory) → i < at → slice_get seats i ≡ Some t → t.number ≡ s.number → ⊥
   not_before i t l found one = true≢false (sym (h.noted i t l found) ∙ (ap (λ n. get_or seen n false) one ∙ free))
 
-  distinct_by : (i j : ℕ) (t u : Share) → (i < at) ⊎ (i ≡ at) → (j < at) ⊎ (j ≡ at) → slice_get seats i ≡ Some t → slice_get seats j ≡ Some u → t.number ≡ u.number → i ≡ j
+  distinct_by : (i j : ℕ) (t u : SeatHistory) → (i < at) ⊎ (i ≡ at) → (j < at) ⊎ (j ≡ at) → slice_get seats i ≡ Some t → slice_get seats j ≡ Some u → t.number ≡ u.number → i ≡ j
   distinct_by i j t u (inl l) (inl m) x y e = h.distinct i j t u l m x y e
-  distinct_by i j t u (inl l) (inr m) x y e = absurd (not_before i t l x (e ∙ ap (λ (x : Share). x.number) (is_one u j m y)))
-  distinct_by i j t u (inr l) (inl m) x y e = absurd (not_before j u m y (sym e ∙ ap (λ (x : Share). x.number) (is_one t i l x)))
+  distinct_by i j t u (inl l) (inr m) x y e = absurd (not_before i t l x (e ∙ ap (λ (x : SeatHistory). x.number) (is_one u j m y)))
+  distinct_by i j t u (inr l) (inl m) x y e = absurd (not_before j u m y (sym e ∙ ap (λ (x : SeatHistory). x.number) (is_one t i l x)))
   distinct_by i j t u (inr l) (inr m) x y e = l ∙ sym m
 
-  agree_by : (i : ℕ) (t : Share) → s.kept ≡ of_seat s.number journal → (i < at) ⊎ (i ≡ at) → slice_get seats i ≡ Some t → t.kept ≡ of_seat t.number journal
+  agree_by : (i : ℕ) (t : SeatHistory) → s.kept ≡ of_seat s.number journal → (i < at) ⊎ (i ≡ at) → slice_get seats i ≡ Some t → t.kept ≡ of_seat t.number journal
   agree_by i t kept (inl l) found = h.agree i t l found
-  agree_by i t kept (inr e) found = subst (λ (x : Share). x.kept ≡ of_seat x.number journal) (sym (is_one t i e found)) kept
+  agree_by i t kept (inr e) found = subst (λ (x : SeatHistory). x.kept ≡ of_seat x.number journal) (sym (is_one t i e found)) kept
 
-  below_by : (i : ℕ) (t : Share) → s.number < given → (i < at) ⊎ (i ≡ at) → slice_get seats i ≡ Some t → t.number < given
+  below_by : (i : ℕ) (t : SeatHistory) → s.number < given → (i < at) ⊎ (i ≡ at) → slice_get seats i ≡ Some t → t.number < given
   below_by i t less (inl l) found = h.below i t l found
-  below_by i t less (inr e) found = subst (λ (x : Share). x.number < given) (sym (is_one t i e found)) less
+  below_by i t less (inr e) found = subst (λ (x : SeatHistory). x.number < given) (sym (is_one t i e found)) less
 
   pub one_more : s.kept ≡ of_seat s.number journal → s.number < given → AreNoted given journal seats (set seen s.number true) (at + 1)
   one_more kept less = record {
@@ -103,7 +103,7 @@ none_is zero m = refl
 none_is (suc n) zero = refl
 none_is (suc n) (suc m) = none_is n m
 
-pub none_noted : (given : ℕ) (journal : List Entry) (seats : List Share) → AreNoted given journal seats (replicate 4096 false) 0
+pub none_noted : (given : ℕ) (journal : List Entry) (seats : List SeatHistory) → AreNoted given journal seats (replicate 4096 false) 0
 none_noted given journal seats = record {
   size = length-replicate 4096 false;
   noted = λ i s l found. absurd (omega (arith, l));
@@ -113,32 +113,32 @@ none_noted given journal seats = record {
   below = λ i s l found. absurd (omega (arith, l));
 }
 
-pub noted_twice : (given : ℕ) (journal : List Entry) (seats : List Share) (seen : List Bool) (at : ℕ) (s : Share) → AreNoted given journal seats seen at → slice_get seats at ≡ Some s
+pub noted_twice : (given : ℕ) (journal : List Entry) (seats : List SeatHistory) (seen : List Bool) (at : ℕ) (s : SeatHistory) → AreNoted given journal seats seen at → slice_get seats at ≡ Some s
     → get_or seen s.number false ≡ true → AreDistinct seats → ⊥
 noted_twice given journal seats seen at s h here e distinct =
     let old = h.known s.number e in
     let same : old.0 ≡ at = distinct old.0 at old.1 s old.3 here old.4 in
     omega (arith, old.2, same)
 
-pub all_distinct : (given : ℕ) (journal : List Entry) (seats : List Share) (seen : List Bool) (at : ℕ) → AreNoted given journal seats seen at → length seats ≤ at → AreDistinct seats
+pub all_distinct : (given : ℕ) (journal : List Entry) (seats : List SeatHistory) (seen : List Bool) (at : ℕ) → AreNoted given journal seats seen at → length seats ≤ at → AreDistinct seats
 all_distinct given journal seats seen at h all i j s t x y e =
     let l = slice_get_within seats i s x in
     let m = slice_get_within seats j t y in
     h.distinct i j s t (omega (arith, l, all)) (omega (arith, m, all)) x y e
 
-pub all_agree : (given : ℕ) (journal : List Entry) (seats : List Share) (seen : List Bool) (at : ℕ) → AreNoted given journal seats seen at → length seats ≤ at → Agree journal seats
+pub all_agree : (given : ℕ) (journal : List Entry) (seats : List SeatHistory) (seen : List Bool) (at : ℕ) → AreNoted given journal seats seen at → length seats ≤ at → Agree journal seats
 all_agree given journal seats seen at h all i s x =
     let l = slice_get_within seats i s x in
     h.agree i s (omega (arith, l, all)) x
 
-pub all_below : (given : ℕ) (journal : List Entry) (seats : List Share) (seen : List Bool) (at : ℕ) → AreNoted given journal seats seen at → length seats ≤ at → AreBelow given seats
+pub all_below : (given : ℕ) (journal : List Entry) (seats : List SeatHistory) (seen : List Bool) (at : ℕ) → AreNoted given journal seats seen at → length seats ≤ at → AreBelow given seats
 all_below given journal seats seen at h all i s x =
     let l = slice_get_within seats i s x in
     h.below i s (omega (arith, l, all)) x
 
 -- ---- a seat that is read from the list, compared, written back and read again
 
-module _ (seats : List Share) (at : ℕ) (old new read : Share) (within : at < length seats) (value : old ≡ get_or seats at old) (same : new ≡ old)
+module _ (seats : List SeatHistory) (at : ℕ) (old new read : SeatHistory) (within : at < length seats) (value : old ≡ get_or seats at old) (same : new ≡ old)
     (again : read ≡ get_or (set seats at new) at read) where
   pub written_back : set seats at new ≡ seats
   written_back = ap (set seats at) (same ∙ value) ∙ set-get_or seats at old

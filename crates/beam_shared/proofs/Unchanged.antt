@@ -13,7 +13,7 @@ use Rattle.beam_machine.specs.View.{View}
 use Rattle.beam_laws.specs.Debugger.{AreSpotsLive}
 use Rattle.beam_laws.specs.Changes.{may_change}
 use Rattle.beam_laws.proofs.Unchanging.{code_stays, spots_stay}
-use Rattle.beam_shared.specs.Kept.{context_in}
+use Rattle.beam_shared.specs.Invariant.{context_in}
 
 cut_changes : (e : DebugEvent Listing) (reply : DebugReply View) → may_change (debug_cut_event e (Ok reply)) ≡ may_change e
 cut_changes (NodeEvent (event.Steps at n)) (Node (Ran count after)) = refl

@@ -5,7 +5,7 @@ use Rattle.beam_machine.specs.declared.debug.DebugEvent.{DebugEvent}
 use Rattle.beam_machine.specs.declared.event.Event.{Event}
 use Rattle.beam_model.specs.Listing.{Listing}
 use Rattle.beam_laws.specs.Changes.{may_change}
-use Rattle.beam_shared.specs.Finished.{Context}
+use Rattle.beam_shared.specs.FinishedSlice.{CodeContext}
 
 abbrev pub is_of_code : Event Listing → Bool
 is_of_code event = may_change (NodeEvent event)
@@ -15,5 +15,5 @@ abbrev pub changes_after : DebugEvent Listing → ℕ → ℕ
 changes_after event n = if may_change event then n + 1 else n
 
 -- a change of code or of break spots drops the copy that was shared
-abbrev pub context_after : DebugEvent Listing → Option Context → Option Context
+abbrev pub context_after : DebugEvent Listing → Option CodeContext → Option CodeContext
 context_after event context = if may_change event then None else context

@@ -12,14 +12,14 @@ use Rattle.beam_model.specs.Listing.{Listing}
 use Rattle.beam_laws.specs.Origin.{Origin}
 use Rattle.beam_laws.specs.Slice.{slice_of, rows_of_event}
 use Rattle.beam_core.specs.Installing.{AreQuiet}
-use Rattle.beam_shared.specs.declared.dropped.Dropped.{Dropped}
-use Rattle.beam_shared.specs.declared.dropped.Dropped.TheVariants.{Stranger, Gone, StaleCode, JournalFull, NoMemory}
-use Rattle.beam_shared.specs.Finished.{Context, Finished, context_of}
-use Rattle.beam_shared.specs.Kept.{context_in}
-use Rattle.beam_shared.specs.Node.{Node, Out, serial_of}
+use Rattle.beam_shared.specs.declared.drop_reason.DropReason.{DropReason}
+use Rattle.beam_shared.specs.declared.drop_reason.DropReason.TheVariants.{Stranger, Gone, StaleCode, JournalFull, NoMemory}
+use Rattle.beam_shared.specs.FinishedSlice.{CodeContext, FinishedSlice, context_of}
+use Rattle.beam_shared.specs.Invariant.{context_in}
+use Rattle.beam_shared.specs.Node.{Node, CheckedOut, serial_of}
 
 -- the number of a reason
-abbrev pub number_of : Dropped → ℕ
+abbrev pub number_of : DropReason → ℕ
 number_of StaleCode = 1
 number_of Gone = 2
 number_of Stranger = 3
@@ -36,23 +36,23 @@ is_serial serial None = false
 
 -- whether the process is out by the checkout of number `serial`
 abbrev pub is_open : Node → ℕ → ℕ → Bool
-is_open n pid serial = is_serial serial (serial_of pid n.out)
+is_open n pid serial = is_serial serial (serial_of pid n.checked_out)
 
 abbrev pub is_live : Node → ℕ → Bool
 is_live n pid = is_some (live_process n.state.node.processes pid)
 
 -- the process is out by that checkout and hasn't ended, and code and break spots are those of the checkout
-abbrev pub MayCommit : Node → ℕ → ℕ → Context → Type 0
+abbrev pub MayCommit : Node → ℕ → ℕ → CodeContext → Type 0
 MayCommit n pid serial context = (is_open n pid serial ≡ true) × (is_live n pid ≡ true) × (context_in n.state ≡ context)
 
 -- why rows that may be committed can't be entered
-abbrev pub DropsEntry : Node → Private → Dropped → Type 0
+abbrev pub DropsEntry : Node → Private → DropReason → Type 0
 DropsEntry n rows JournalFull = length n.journal ≡ n.limit
 DropsEntry n rows NoMemory = (length n.journal ≢ n.limit) × (AreQuiet rows → ⊥)
 DropsEntry n rows _ = ⊥
 
 -- why rows don't take effect
-abbrev pub DropsRows : Node → ℕ → ℕ → Context → Private → Dropped → Type 0
+abbrev pub DropsRows : Node → ℕ → ℕ → CodeContext → Private → DropReason → Type 0
 DropsRows n pid serial context rows Stranger = is_open n pid serial ≡ false
 DropsRows n pid serial context rows Gone = (is_open n pid serial ≡ true) × (is_live n pid ≡ false)
 DropsRows n pid serial context rows StaleCode =
@@ -60,35 +60,35 @@ DropsRows n pid serial context rows StaleCode =
 DropsRows n pid serial context rows dropped =
     MayCommit n pid serial context × (rows_of_event rows ≢ 0) × DropsEntry n rows dropped
 
-abbrev pub DropsFor : Node → Finished → Dropped → Type 0
+abbrev pub DropsFor : Node → FinishedSlice → DropReason → Type 0
 DropsFor n f = DropsRows n f.origin.pid f.serial (context_of f.origin) f.rows
 
 -- ---- the node after it
 
-abbrev pub without_out : ℕ → List Out → List Out
-without_out pid out = filter (λ o. not (o.pid == pid)) out
+abbrev pub without_checkout : ℕ → List CheckedOut → List CheckedOut
+without_checkout pid checked_out = filter (λ o. not (o.pid == pid)) checked_out
 
 -- the node after a process was taken in, without its rows
-abbrev pub taken_in : Node → ℕ → Node
-taken_in n pid = record n { out = without_out pid n.out }
+abbrev pub checked_in : Node → ℕ → Node
+checked_in n pid = record n { checked_out = without_checkout pid n.checked_out }
 
 -- the node after a process was taken in and its rows took effect, with this reply
 abbrev pub advanced : Node → ℕ → Private → DebugReply View → Node
 advanced n pid rows reply = record n {
   state = (debug_next n.state (event_of pid rows)).state;
   journal = n.journal ++ record { event = event_of pid rows; seat = None; reply = reply } ∷ [];
-  out = without_out pid n.out;
+  checked_out = without_checkout pid n.checked_out;
 }
 
 -- rows took effect with this reply; rows that are none aren't entered
 abbrev pub Commits : Node → ℕ → Private → Option (DebugReply View) → Node → Type 0
-Commits n pid rows None new = (rows_of_event rows ≡ 0) × (new ≡ taken_in n pid)
+Commits n pid rows None new = (rows_of_event rows ≡ 0) × (new ≡ checked_in n pid)
 Commits n pid rows (Some reply) new =
     (rows_of_event rows ≢ 0) × (length n.journal ≢ n.limit)
     × ((debug_next n.state (event_of pid rows)).answer ≡ Ok reply) × (new ≡ advanced n pid rows reply)
 
 -- rows that come back to a node from the checkout of number `serial`, executed over this code and these break spots
-pub record AreBack (n : Node) (pid : ℕ) (serial : ℕ) (context : Context) (rows : Private) : Type 0 where
+pub record AreBack (n : Node) (pid : ℕ) (serial : ℕ) (context : CodeContext) (rows : Private) : Type 0 where
   pub origin : Origin
   pub handed : slice_get n.handed serial ≡ Some origin
   pub own : origin.pid ≡ pid

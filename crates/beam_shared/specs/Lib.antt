@@ -1,7 +1,7 @@
 pub mod Node
 pub mod Refusals
-pub mod Finished
-pub mod Kept
+pub mod FinishedSlice
+pub mod Invariant
 pub mod Seats
 pub mod Commands
 pub mod Returned

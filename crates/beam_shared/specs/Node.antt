@@ -19,7 +19,7 @@ use Rattle.beam_laws.specs.Origin.{Origin}
 use Rattle.beam_journal.specs.Entering.{entry_of}
 
 -- a process that is out, to be run apart from the node, and the number of its checkout
-pub record Out : Type 0 where
+pub record CheckedOut : Type 0 where
   pub pid : ℕ
   pub serial : ℕ
 
@@ -28,19 +28,19 @@ pub record Node : Type 0 where
   pub journal : List Entry
   pub seats : ℕ  -- how many seats were given
   pub handed : List Origin  -- all that was handed out, in its order: checkout n is the one at position n
-  pub out : List Out
+  pub checked_out : List CheckedOut
   pub limit : ℕ  -- how many entries the journal can have
 
 -- the node with no code, no processes and no entries, and with this limit
 abbrev pub new_node : ℕ → Node
-new_node limit = record { state = undisturbed empty; journal = []; seats = 0; handed = []; out = []; limit = limit }
+new_node limit = record { state = undisturbed empty; journal = []; seats = 0; handed = []; checked_out = []; limit = limit }
 
 -- the most seats of a node
 abbrev pub most_seats : ℕ
 most_seats = 4096
 
 -- the number of the checkout of a process that is out
-abbrev pub serial_of : ℕ → List Out → Option ℕ
+abbrev pub serial_of : ℕ → List CheckedOut → Option ℕ
 serial_of pid [] = None
 serial_of pid (o ∷ rest) = if o.pid == pid then Some o.serial else serial_of pid rest
 
@@ -50,12 +50,12 @@ abbrev pub has_any : List Signal → Bool
 has_any signals = not (length signals == 0)
 
 -- whether a signal is in transit to a process that hasn't ended
-abbrev pub awaits : Option Process → Bool
-awaits (Some p) = has_any p.transit
-awaits None = false
+abbrev pub process_has_incoming : Option Process → Bool
+process_has_incoming (Some p) = has_any p.transit
+process_has_incoming None = false
 
-abbrev pub is_awaited : Node → ℕ → Bool
-is_awaited n pid = awaits (live_process n.state.node.processes pid)
+abbrev pub has_incoming : Node → ℕ → Bool
+has_incoming n pid = process_has_incoming (live_process n.state.node.processes pid)
 
 -- the signals in transit to a process are delivered first, by an event that no seat sent
 abbrev pub deliveries : ℕ → Bool → List Entry
@@ -68,7 +68,7 @@ delivered_if d pid false = d
 
 -- the state in which a process is handed out
 abbrev pub delivered_to : Node → ℕ → Debugged
-delivered_to n pid = delivered_if n.state pid (is_awaited n pid)
+delivered_to n pid = delivered_if n.state pid (has_incoming n pid)
 
 -- a process after all signals in transit to it have arrived
 abbrev pub all_arrived : Process → Bool → Process
@@ -93,9 +93,9 @@ origin n pid = origin_in n.state pid (live_process n.state.node.processes pid)
 abbrev pub handed_out : Node → ℕ → Origin → Node
 handed_out n pid o = record n {
   state = delivered_to n pid;
-  journal = n.journal ++ deliveries pid (is_awaited n pid);
+  journal = n.journal ++ deliveries pid (has_incoming n pid);
   handed = n.handed ++ o ∷ [];
-  out = n.out ++ record { pid = pid; serial = length n.handed } ∷ [];
+  checked_out = n.checked_out ++ record { pid = pid; serial = length n.handed } ∷ [];
 }
 
 -- ---- a command of a seat

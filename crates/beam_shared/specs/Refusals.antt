@@ -11,7 +11,7 @@ use Rattle.beam_machine.specs.State.{live_process}
 use Rattle.beam_laws.specs.Out.{is_busy}
 use Rattle.beam_shared.specs.declared.refusal.Refusal.{Refusal}
 use Rattle.beam_shared.specs.declared.refusal.Refusal.TheVariants.{Node as OfNode, Busy, JournalFull}
-use Rattle.beam_shared.specs.Node.{Node, Out, serial_of, has_any, is_awaited}
+use Rattle.beam_shared.specs.Node.{Node, CheckedOut, serial_of, has_any, has_incoming}
 
 -- the number of a refusal
 abbrev pub number_of : Refusal → ℕ
@@ -26,24 +26,24 @@ abbrev pub most_checkouts : ℕ
 most_checkouts = 2 ^ 64 - 1
 
 -- why a process can't be handed out: it was never started or has ended; it is out; it is held; it waits, and no signal is in transit to it
-abbrev pub refusal_in : Debugged → List Out → ℕ → Option Process → Option Refusal
-refusal_in d out pid None = Some (OfNode NoProcess)
-refusal_in d out pid (Some p) =
-    if is_some (serial_of pid out) then Some Busy
+abbrev pub refusal_in : Debugged → List CheckedOut → ℕ → Option Process → Option Refusal
+refusal_in d checked_out pid None = Some (OfNode NoProcess)
+refusal_in d checked_out pid (Some p) =
+    if is_some (serial_of pid checked_out) then Some Busy
     else if is_among pid d.held then Some (OfNode Stopped)
     else if is_running p.status || has_any p.transit then None
     else Some (OfNode NotReady)
 
-abbrev pub refusal_of : Debugged → List Out → ℕ → Option Refusal
-refusal_of d out pid = refusal_in d out pid (live_process d.node.processes pid)
+abbrev pub refusal_of : Debugged → List CheckedOut → ℕ → Option Refusal
+refusal_of d checked_out pid = refusal_in d checked_out pid (live_process d.node.processes pid)
 
 abbrev pub why_not : Node → ℕ → Option Refusal
-why_not n pid = refusal_of n.state n.out pid
+why_not n pid = refusal_of n.state n.checked_out pid
 
 -- why a checkout is refused. A process that may go isn't handed out if a delivery is to be entered in a full journal, if memory is refused,
 -- or if all numbers of checkouts were given
 abbrev pub RefusesCheckout : Node → ℕ → Refusal → Type 0
-RefusesCheckout n pid JournalFull = (why_not n pid ≡ None) × (is_awaited n pid ≡ true) × (length n.journal ≡ n.limit)
+RefusesCheckout n pid JournalFull = (why_not n pid ≡ None) × (has_incoming n pid ≡ true) × (length n.journal ≡ n.limit)
 RefusesCheckout n pid (OfNode NoMemory) = why_not n pid ≡ None
 RefusesCheckout n pid (OfNode TooMany) = (why_not n pid ≡ None) × (length n.handed ≡ most_checkouts)
 RefusesCheckout n pid refusal = why_not n pid ≡ Some refusal
@@ -51,13 +51,13 @@ RefusesCheckout n pid refusal = why_not n pid ≡ Some refusal
 -- ---- commands
 
 -- whether an event waits: it is a process's own, and the process is out
-abbrev pub must_wait : List Out → DebugEvent Listing → Bool
-must_wait out event = list_any (λ o. is_busy o.pid event) out
+abbrev pub must_wait : List CheckedOut → DebugEvent Listing → Bool
+must_wait checked_out event = list_any (λ o. is_busy o.pid event) checked_out
 
 -- why a command is refused; the answer may be `NoMemory` in place of the node's
 abbrev pub RefusesCommand : Node → DebugEvent Listing → Refusal → Type 0
 RefusesCommand n event JournalFull = length n.journal ≡ n.limit
-RefusesCommand n event Busy = (length n.journal ≢ n.limit) × (must_wait n.out event ≡ true)
-RefusesCommand n event (OfNode NoMemory) = (length n.journal ≢ n.limit) × (must_wait n.out event ≡ false)
+RefusesCommand n event Busy = (length n.journal ≢ n.limit) × (must_wait n.checked_out event ≡ true)
+RefusesCommand n event (OfNode NoMemory) = (length n.journal ≢ n.limit) × (must_wait n.checked_out event ≡ false)
 RefusesCommand n event (OfNode refused) =
-    (length n.journal ≢ n.limit) × (must_wait n.out event ≡ false) × ((debug_next n.state event).answer ≡ Err refused)
+    (length n.journal ≢ n.limit) × (must_wait n.checked_out event ≡ false) × ((debug_next n.state event).answer ≡ Err refused)

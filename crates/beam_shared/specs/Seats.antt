@@ -1,24 +1,24 @@
 -- The seats of a shared node, and what they add up to. (This node's own.)
 use Rattle.std.specs.Prelude.{◌≡◌, ◌<◌, ℕ, List, length, count_by, is_some, slice_get, sum_by, Some}
 use Rattle.beam_machine.specs.Journal.{Entry}
-use Rattle.beam_receipts.specs.Receipts.{AreOfGiven, Share, of_seat, sum_below}
+use Rattle.beam_receipts.specs.Receipts.{AreOfGiven, SeatHistory, of_seat, sum_below}
 use Rattle.beam_shared.specs.Node.{Node}
 
 -- no two of these seats have one number
-abbrev pub AreDistinct : List Share → Type 0
-AreDistinct seats = (i j : ℕ) (s t : Share) → slice_get seats i ≡ Some s → slice_get seats j ≡ Some t → s.number ≡ t.number → i ≡ j
+abbrev pub AreDistinct : List SeatHistory → Type 0
+AreDistinct seats = (i j : ℕ) (s t : SeatHistory) → slice_get seats i ≡ Some s → slice_get seats j ≡ Some t → s.number ≡ t.number → i ≡ j
 
 -- these are all the node's seats, each once
-abbrev pub AreAll : Node → List Share → Type 0
+abbrev pub AreAll : Node → List SeatHistory → Type 0
 AreAll n seats = (length seats ≡ n.seats) × AreDistinct seats
 
 -- each seat's number is below the count of seats given
-abbrev pub AreBelow : ℕ → List Share → Type 0
-AreBelow given seats = (i : ℕ) (s : Share) → slice_get seats i ≡ Some s → s.number < given
+abbrev pub AreBelow : ℕ → List SeatHistory → Type 0
+AreBelow given seats = (i : ℕ) (s : SeatHistory) → slice_get seats i ≡ Some s → s.number < given
 
 -- each seat keeps exactly the journal's entries of its number, in their order
-abbrev pub Agree : List Entry → List Share → Type 0
-Agree journal seats = (i : ℕ) (s : Share) → slice_get seats i ≡ Some s → s.kept ≡ of_seat s.number journal
+abbrev pub Agree : List Entry → List SeatHistory → Type 0
+Agree journal seats = (i : ℕ) (s : SeatHistory) → slice_get seats i ≡ Some s → s.kept ≡ of_seat s.number journal
 
 -- ---- counts
 
@@ -31,7 +31,7 @@ abbrev pub commands_of : ℕ → List Entry → ℕ
 commands_of number journal = length (of_seat number journal)
 
 -- how many commands these seats keep together
-abbrev pub commands_kept : List Share → ℕ
+abbrev pub commands_kept : List SeatHistory → ℕ
 commands_kept seats = sum_by (λ s. length s.kept) seats
 
 -- each command in the journal is of a seat that the node gave

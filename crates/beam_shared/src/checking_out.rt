@@ -7,23 +7,23 @@ ghost use Rattle.beam_machine.specs.Process.{is_ended, is_running};
 ghost use Rattle.beam_machine.specs.State.{live_process};
 ghost use Rattle.beam_rows.specs.Finds.{AlwaysFinds};
 ghost use Rattle.beam_shared.specs.declared.refusal.Refusal.TheVariants.{Node as OfNode};
-ghost use Rattle.beam_shared.specs.Node.{all_arrived, awaits, deliveries, delivered_if, has_any, handed_out, is_awaited, origin};
+ghost use Rattle.beam_shared.specs.Node.{all_arrived, process_has_incoming, deliveries, delivered_if, has_any, handed_out, has_incoming, origin};
 ghost use Rattle.beam_shared.specs.Refusals.{RefusesCheckout, most_checkouts, refusal_of, why_not};
-ghost use Rattle.beam_shared.specs.Kept.{context_in, origin_by, out_by};
+ghost use Rattle.beam_shared.specs.Invariant.{context_in, origin_by, checked_out_of};
 
+use crate::checked_out::{CheckoutEntry, entry_of};
 use crate::checkout::Checkout;
-use crate::context::Context;
-use crate::entering::{enter_alone, make_room};
+use crate::code_context::CodeContext;
+use crate::entering::{enter_without_seat, make_room};
 use crate::node::Node;
-use crate::outs::{OutEntry, entry_of};
 use crate::refusal::Refusal;
 use beam_debug::debugger::Debugger;
 use beam_journal::journal::Journal;
 use beam_machine::debug::DebugEvent;
 use beam_machine::event::{Event, Refused};
 use beam_proc::process::Process;
+use beam_receipts::brand::{GhostOrigin, NodeBrand};
 use beam_receipts::keeper::Keeper;
-use beam_receipts::room::{CheckedOut, Room};
 use beam_receipts::ticket::TicketReceipt;
 use beam_step::work::Work;
 use std::alloc::AllocError;
@@ -49,28 +49,32 @@ pub(crate) fn live(debugger: &Debugger, pid: u32) -> Option<&Process>
 }
 
 /// Whether a process runs, or has a signal in transit to it.
-fn can_go(process: &Process) -> bool
+fn is_runnable(process: &Process) -> bool
     ensures { result ≡ is_running process.now.status || has_any process.now.transit }
 {
     process.is_running() || process.has_transit()
 }
 
 /// The process of that number, if it can be handed out, or why it can't.
-fn may_go<'a>(debugger: &'a Debugger, out: &[OutEntry], pid: u32) -> Result<&'a Process, Refusal>
+fn process_to_check_out<'a>(
+    debugger: &'a Debugger,
+    checked_out: &[CheckoutEntry],
+    pid: u32,
+) -> Result<&'a Process, Refusal>
     ensures ok { IfOk result (λ process. live_process debugger.now.state.node.processes pid ≡ Some process.now) }
-    ensures may { OnOk result (refusal_of debugger.now.state (map out_by out.now) pid ≡ None) }
-    ensures err { IfErr result (λ refusal. refusal_of debugger.now.state (map out_by out.now) pid ≡ Some refusal) }
+    ensures may { OnOk result (refusal_of debugger.now.state (map checked_out_of checked_out.now) pid ≡ None) }
+    ensures err { IfErr result (λ refusal. refusal_of debugger.now.state (map checked_out_of checked_out.now) pid ≡ Some refusal) }
 {
     let Some(process) = live(debugger, pid) else {
         return Err(Refusal::Node(Refused::NoProcess));
     };
-    if entry_of(pid, out).is_some() {
+    if entry_of(pid, checked_out).is_some() {
         return Err(Refusal::Busy);
     }
     if debugger.is_held(pid) {
         return Err(Refusal::Node(Refused::Stopped));
     }
-    if can_go(process) {
+    if is_runnable(process) {
         Ok(process)
     } else {
         Err(Refusal::Node(Refused::NotReady))
@@ -78,8 +82,8 @@ fn may_go<'a>(debugger: &'a Debugger, out: &[OutEntry], pid: u32) -> Result<&'a 
 }
 
 /// Whether a signal is in transit to a process that hasn't ended.
-fn is_awaited(debugger: &Debugger, pid: u32) -> bool
-    ensures { result ≡ awaits (live_process debugger.now.state.node.processes pid) }
+fn has_incoming(debugger: &Debugger, pid: u32) -> bool
+    ensures { result ≡ process_has_incoming (live_process debugger.now.state.node.processes pid) }
 {
     match live(debugger, pid) {
         Some(process) => process.has_transit(),
@@ -88,60 +92,60 @@ fn is_awaited(debugger: &Debugger, pid: u32) -> bool
 }
 
 /// Delivers the signals in transit to a process, if there are any, by an event that no seat sent and for which there is room.
-fn deliver<B: Room>(
+fn deliver<B: NodeBrand>(
     debugger: &mut Debugger,
     journal: &mut Journal,
     keeper: &mut Keeper<B>,
     pid: u32,
-    is_awaited: bool,
+    has_incoming: bool,
 ) -> Result<(), Refusal>
     requires replays { replay journal.old.entries ≡ debugger.old.state }
-    requires awaited { awaits (live_process debugger.old.state.node.processes pid) ≡ is_awaited }
-    requires room { 0 < journal.old.room }
-    requires few { is_awaited ≡ true → length journal.old.entries ≢ journal.old.limit }
-    ensures state { OnOk result (debugger.new.state ≡ delivered_if debugger.old.state pid is_awaited) }
-    ensures entered { OnOk result (journal.new.entries ≡ journal.old.entries ++ deliveries pid is_awaited) }
-    ensures keeper { OnOk result (keeper.new ≡ record keeper.old { journal = keeper.old.journal ++ deliveries pid is_awaited }) }
+    requires incoming { process_has_incoming (live_process debugger.old.state.node.processes pid) ≡ has_incoming }
+    requires capacity { 0 < journal.old.capacity }
+    requires few { has_incoming ≡ true → length journal.old.entries ≢ journal.old.limit }
+    ensures state { OnOk result (debugger.new.state ≡ delivered_if debugger.old.state pid has_incoming) }
+    ensures entered { OnOk result (journal.new.entries ≡ journal.old.entries ++ deliveries pid has_incoming) }
+    ensures keeper { OnOk result (keeper.new ≡ record keeper.old { journal = keeper.old.journal ++ deliveries pid has_incoming }) }
     ensures replays { replay journal.new.entries ≡ debugger.new.state }
-    ensures room { journal.old.room ≤ journal.new.room + 1 }
+    ensures capacity { journal.old.capacity ≤ journal.new.capacity + 1 }
     ensures limit { journal.new.limit ≡ journal.old.limit }
-    ensures held_room { debugger.old.room ≤ debugger.new.room }
+    ensures held_capacity { debugger.old.capacity ≤ debugger.new.capacity }
     ensures refused { IfErr result (λ refusal. refusal ≡ OfNode NoMemory) }
     ensures err { OnErr result ((debugger.new.state ≡ debugger.old.state) × (journal.new ≡ journal.old) × (keeper.new ≡ keeper.old)) }
 {
-    if !is_awaited {
+    if !has_incoming {
         return Ok(());
     }
     let event = DebugEvent::Node(Event::Deliver { pid });
     let reply = debugger.apply(&event)?;
-    enter_alone::<B, Brand>(journal, keeper, event, &reply);
+    enter_without_seat::<B, Brand>(journal, keeper, event, &reply);
     Ok(())
 }
 
 /// The ticket of a process that is handed out.
-fn hand_out<B: Room, O: CheckedOut>(
+fn hand_out<B: NodeBrand, O: GhostOrigin>(
     keeper: &mut Keeper<B>,
     pid: u32,
     work: &Work,
-    context: &Context,
+    context: &CodeContext,
 ) -> TicketReceipt<B>
     requires { O.origin ≡ origin_by pid work.now context.now }
-    ensures ticket { result ≡ record { serial = length keeper.old.outs; origin = origin_by pid work.now context.now } }
-    ensures keeper { keeper.new ≡ record keeper.old { outs = keeper.old.outs ++ origin_by pid work.now context.now ∷ [] } }
+    ensures ticket { result ≡ record { serial = length keeper.old.checkouts; origin = origin_by pid work.now context.now } }
+    ensures keeper { keeper.new ≡ record keeper.old { checkouts = keeper.old.checkouts ++ origin_by pid work.now context.now ∷ [] } }
 {
     keeper.check_out::<O>()
 }
 
-impl<B: Room> Node<B> {
+impl<B: NodeBrand> Node<B> {
     /// Code and break spots as they are: the shared copy, or a new one after a change.
-    fn context(&mut self) -> Result<Context, AllocError>
+    fn context(&mut self) -> Result<CodeContext, AllocError>
         ensures same { self.new ≡ self.old }
         ensures context { IfOk result (λ context. context ≡ context_in self.old.state) }
     {
         if let Some(context) = &self.context {
             return context.share();
         }
-        let context = Context::new(
+        let context = CodeContext::new(
             self.alloc,
             self.debugger.core().table(),
             self.debugger.spots(),
@@ -154,11 +158,11 @@ impl<B: Room> Node<B> {
     fn work_of(&self, pid: u32) -> Result<Work, Refusal>
         ensures ok { IfOk result (λ work. origin self.now pid ≡ Some (origin_by pid work (context_in self.now.state))) }
         ensures may { OnOk result (why_not self.now pid ≡ None) }
-        ensures few { OnOk result (is_awaited self.now pid ≡ true → length self.now.journal ≢ self.now.limit) }
+        ensures few { OnOk result (has_incoming self.now pid ≡ true → length self.now.journal ≢ self.now.limit) }
         ensures fewer { OnOk result (length self.now.handed < most_checkouts) }
         ensures refused { IfErr result (λ refusal. RefusesCheckout self.now pid refusal) }
     {
-        let process = may_go(&self.debugger, &self.out, pid)?;
+        let process = process_to_check_out(&self.debugger, &self.checked_out, pid)?;
         if process.has_transit() && self.journal.is_full() {
             return Err(Refusal::JournalFull);
         }
@@ -172,18 +176,23 @@ impl<B: Room> Node<B> {
     }
 
     /// Each row of a process as it is to be handed out finds what it names, as each row of the node does.
-    fn finds(&self, pid: u32, work: &Work, context: &Context)
+    fn finds(&self, pid: u32, work: &Work, context: &CodeContext)
         requires { origin self.now pid ≡ Some (origin_by pid work.now context.now) }
         ensures { AlwaysFinds context.now.code work.now.process }
     {
-        self.debugger.core().stands();
+        self.debugger.core().recall_invariant();
     }
 
     /// Hands out a process that may go, as this work, over this context.
-    fn hand_out(&mut self, pid: u32, work: Work, context: Context) -> Result<Checkout<B>, Refusal>
+    fn hand_out(
+        &mut self,
+        pid: u32,
+        work: Work,
+        context: CodeContext,
+    ) -> Result<Checkout<B>, Refusal>
         requires origin { origin self.old pid ≡ Some (origin_by pid work context) }
         requires may { why_not self.old pid ≡ None }
-        requires few { is_awaited self.old pid ≡ true → length self.old.journal ≢ self.old.limit }
+        requires few { has_incoming self.old pid ≡ true → length self.old.journal ≢ self.old.limit }
         requires fewer { length self.old.handed < most_checkouts }
         requires context { context ≡ context_in self.old.state }
         requires finds { AlwaysFinds context.code work.process }
@@ -192,20 +201,20 @@ impl<B: Room> Node<B> {
         ensures refused { IfErr result (λ refusal. refusal ≡ OfNode NoMemory) }
         ensures err { OnErr result (self.new ≡ self.old) }
     {
-        self.debugger.stands();
-        let is_awaited = is_awaited(&self.debugger, pid);
-        self.out.reserve(1)?;
+        self.debugger.recall_invariant();
+        let has_incoming = has_incoming(&self.debugger, pid);
+        self.checked_out.reserve(1)?;
         self.debugger.reserve(pid)?;
-        make_room(&self.out, &mut self.journal, 2)?;
+        make_room(&self.checked_out, &mut self.journal, 2)?;
         deliver(
             &mut self.debugger,
             &mut self.journal,
             &mut self.keeper,
             pid,
-            is_awaited,
+            has_incoming,
         )?;
         let ticket = hand_out::<B, Brand>(&mut self.keeper, pid, &work, &context);
-        self.out.push_reserved(OutEntry {
+        self.checked_out.push_reserved(CheckoutEntry {
             pid,
             serial: ticket.serial(),
             changes: self.changes,

@@ -1,10 +1,10 @@
 //! A process that is handed out.
 ghost use Rattle.std.specs.Prelude.{◌≡◌};
-ghost use Rattle.beam_shared.specs.Finished.{ComesOf};
+ghost use Rattle.beam_shared.specs.FinishedSlice.{ComesFrom};
 
-use crate::context::Context;
-use crate::finished::Finished;
-use beam_receipts::room::Room;
+use crate::code_context::CodeContext;
+use crate::finished_slice::FinishedSlice;
+use beam_receipts::brand::NodeBrand;
 use beam_receipts::ticket::TicketReceipt;
 use beam_step::run_private;
 use beam_step::work::Work;
@@ -12,14 +12,14 @@ use std::marker::Model;
 
 /// A process that is handed out, to be run apart from the node, with its ticket, and code and break spots as they are. Each of its rows
 /// finds what it names, as each row of the node does. If it is dropped the process stays out.
-pub struct Checkout<B: Room> {
+pub struct Checkout<B: NodeBrand> {
     pub(crate) pid: u32,
-    pub(crate) context: Context,
+    pub(crate) context: CodeContext,
     pub(crate) work: Work,
     pub(crate) ticket: TicketReceipt<B>,
 }
 
-impl<B: Room> Drop for Checkout<B> {
+impl<B: NodeBrand> Drop for Checkout<B> {
     fn drop(self) {
         let Checkout {
             pid: _pid,
@@ -30,13 +30,13 @@ impl<B: Room> Drop for Checkout<B> {
     }
 }
 
-impl<B: Room> Model for Checkout<B> {
+impl<B: NodeBrand> Model for Checkout<B> {
     ghost use Rattle.std.specs.Prelude.{◌≡◌};
     ghost use Rattle.std.specs.Coded.{codes};
     ghost use Rattle.beam_term.specs.Coding.{term_code};
     ghost use Rattle.beam_receipts.specs.Receipts.{Checkout as TheCheckout};
     ghost use Rattle.beam_rows.specs.Finds.{AlwaysFinds};
-    ghost use Rattle.beam_shared.specs.Finished.{context_of};
+    ghost use Rattle.beam_shared.specs.FinishedSlice.{context_of};
 
     ghost Value = { TheCheckout };
 
@@ -49,7 +49,7 @@ impl<B: Room> Model for Checkout<B> {
         × AlwaysFinds c.ticket.origin.code c.ticket.origin.process };
 }
 
-impl<B: Room> Checkout<B> {
+impl<B: NodeBrand> Checkout<B> {
     /// The number of the process.
     pub fn pid(&self) -> u32
         ensures { result ≡ self.now.origin.pid }
@@ -60,10 +60,10 @@ impl<B: Room> Checkout<B> {
     /// Runs the process, apart from the node and under no lock: at most `limit` rows that concern it alone, and at most 4,000. They end
     /// before a row that asks something of the node, before the row of a break spot, after a row by which it waits or ends, or for want of
     /// memory, which never ends them before a quiet row.
-    pub fn run(self, limit: u32) -> Finished<B>
+    pub fn run(self, limit: u32) -> FinishedSlice<B>
         ensures serial { result.serial ≡ self.serial }
         ensures origin { result.origin ≡ self.origin }
-        ensures rows { ComesOf limit result }
+        ensures rows { ComesFrom limit result }
     {
         let Checkout {
             pid,
@@ -72,7 +72,7 @@ impl<B: Room> Checkout<B> {
             ticket,
         } = self;
         let slice = run_private(context.code(), context.spots(), work, limit);
-        Finished {
+        FinishedSlice {
             pid,
             context,
             slice,

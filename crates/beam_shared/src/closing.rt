@@ -4,16 +4,16 @@ ghost use Rattle.beam_machine.specs.Journal.{IsLawful, replay};
 ghost use Rattle.beam_shared.specs.Node.{most_seats};
 ghost use Rattle.beam_shared.specs.Seats.{Agree, AreAll, AreBelow, AreDistinct, commands_in, commands_kept};
 
-use crate::mismatch::Mismatch;
 use crate::node::{MOST_SEATS, Node};
+use crate::seat_mismatch::SeatMismatch;
 use beam_journal::journal::Journal;
+use beam_receipts::brand::NodeBrand;
 use beam_receipts::keeper::Keeper;
-use beam_receipts::room::Room;
 use beam_receipts::seat::SeatReceipt;
 
 /// Whether all seats' numbers differ. Makes known that each number is below the count of seats given, and that each seat kept exactly the
 /// journal's entries of its number.
-fn are_distinct<B: Room>(keeper: &mut Keeper<B>, seats: &mut Vec<SeatReceipt<B>>) -> bool
+fn are_distinct<B: NodeBrand>(keeper: &mut Keeper<B>, seats: &mut Vec<SeatReceipt<B>>) -> bool
     requires { keeper.old.given ≤ most_seats }
     ensures is { IsTrue result ↔ AreDistinct seats.old.items }
     ensures below { IsTrue result → AreBelow keeper.old.given seats.old.items }
@@ -23,7 +23,7 @@ fn are_distinct<B: Room>(keeper: &mut Keeper<B>, seats: &mut Vec<SeatReceipt<B>>
 {
     let mut seen = [false; MOST_SEATS as usize];
     for at in 0..seats.len() {
-        keeper.known(&mut seats[at]);
+        keeper.check_seat(&mut seats[at]);
         let number = seats[at].number() as usize;
         if seen[number] {
             return false;
@@ -33,12 +33,12 @@ fn are_distinct<B: Room>(keeper: &mut Keeper<B>, seats: &mut Vec<SeatReceipt<B>>
     true
 }
 
-impl<B: Room> Node<B> {
+impl<B: NodeBrand> Node<B> {
     /// Closes the node and gives its journal, if these are all of its seats, each once. The journal is lawful and replays to the node's
     /// state. Each seat kept the commands that were accepted of it, with their replies: exactly the journal's entries of that seat, in
     /// their order. Each seat's number is below the count of seats given, and together they kept as many commands as the journal has.
     /// Otherwise the node and the seats come back. It takes time for the seats, at most 4,096, and not for the journal.
-    pub fn close(self, seats: Vec<SeatReceipt<B>>) -> Result<Journal, Mismatch<B>>
+    pub fn close(self, seats: Vec<SeatReceipt<B>>) -> Result<Journal, SeatMismatch<B>>
         ensures journal { IfOk result (λ journal. journal.entries ≡ self.journal) }
         ensures lawful { OnOk result (IsLawful self.journal) }
         ensures replays { OnOk result (replay self.journal ≡ self.state) }
@@ -56,7 +56,7 @@ impl<B: Room> Node<B> {
         {
             Ok(node.into_journal())
         } else {
-            Err(Mismatch { node, seats })
+            Err(SeatMismatch { node, seats })
         }
     }
 }

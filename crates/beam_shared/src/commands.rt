@@ -1,7 +1,7 @@
 //! Commands of seats.
 ghost use Rattle.std.specs.Prelude.{◌≡◌, ◌≢◌, ◌<◌, ◌-◌, ◌^◌, ◌++◌, ◌∷◌, [], false, length, Some, Ok, IfOk, IfErr, OnErr, OnOk};
 ghost use Rattle.beam_laws.specs.Changes.{may_change};
-ghost use Rattle.beam_debug.specs.Answers.{said};
+ghost use Rattle.beam_debug.specs.Answers.{reply_of};
 ghost use Rattle.beam_debug.specs.Loud.{DebugLoudly};
 ghost use Rattle.beam_journal.specs.Entering.{Accepts, entry_of};
 ghost use Rattle.beam_receipts.specs.Receipts.{of_seat};
@@ -9,16 +9,16 @@ ghost use Rattle.beam_shared.specs.Commands.{changes_after, context_after, is_of
 ghost use Rattle.beam_shared.specs.Node.{accepted};
 ghost use Rattle.beam_shared.specs.Refusals.{RefusesCommand, must_wait};
 
-use crate::context::Context;
-use crate::entering::{enter, make_room};
+use crate::checked_out::must_wait;
+use crate::code_context::CodeContext;
+use crate::entering::{enter_for_seat, make_room};
 use crate::node::Node;
-use crate::outs::must_wait;
 use crate::refusal::Refusal;
 use beam_debug::outcome::Outcome;
 use beam_image::Image;
 use beam_machine::debug::DebugEvent;
 use beam_machine::event::Event;
-use beam_receipts::room::Room;
+use beam_receipts::brand::NodeBrand;
 use beam_receipts::seat::SeatReceipt;
 use std::marker::Brand;
 
@@ -50,7 +50,7 @@ fn may_change(event: &DebugEvent<Image>) -> bool
 }
 
 /// Counts a change of code or of break spots, and drops the copy of them that was shared.
-fn note_change(event: &DebugEvent<Image>, changes: &mut u64, context: &mut Option<Context>)
+fn note_change(event: &DebugEvent<Image>, changes: &mut u64, context: &mut Option<CodeContext>)
     requires { changes.old < 2 ^ 64 - 1 }
     ensures changes { changes.new ≡ changes_after event.now changes.old }
     ensures context { context.new ≡ context_after event.now context.old }
@@ -61,7 +61,7 @@ fn note_change(event: &DebugEvent<Image>, changes: &mut u64, context: &mut Optio
     }
 }
 
-impl<B: Room> Node<B> {
+impl<B: NodeBrand> Node<B> {
     /// Gives the node an event, as a seat's command, and enters it with its reply. `JournalFull` at the journal's limit; then `Busy` for an
     /// event of a process itself, which are rows, deliveries and timeouts, while the process is out; then as the node refuses it. A refusal
     /// changes nothing, and nothing is entered. Where memory is refused in the middle of rows, the reply says so, and the rows that were
@@ -73,30 +73,30 @@ impl<B: Room> Node<B> {
     ) -> Result<Outcome, Refusal>
         ensures kept { seat.old.kept ≡ of_seat seat.old.number self.old.journal }
         ensures given { seat.old.number < self.old.seats }
-        ensures reply { IfOk result (λ reply. Accepts self.old.state event (said reply)) }
-        ensures node { IfOk result (λ reply. self.new ≡ accepted self.old event seat.old.number (said reply)) }
-        ensures seat { IfOk result (λ reply. seat.new ≡ record seat.old { kept = seat.old.kept ++ entry_of event (Some seat.old.number) (said reply) ∷ [] }) }
-        ensures loud { IfOk result (λ reply. DebugLoudly self.old.state event (Ok (said reply)) self.new.state) }
-        ensures may { OnOk result ((length self.old.journal ≢ self.old.limit) × (must_wait self.old.out event ≡ false)) }
+        ensures reply { IfOk result (λ reply. Accepts self.old.state event (reply_of reply)) }
+        ensures node { IfOk result (λ reply. self.new ≡ accepted self.old event seat.old.number (reply_of reply)) }
+        ensures seat { IfOk result (λ reply. seat.new ≡ record seat.old { kept = seat.old.kept ++ entry_of event (Some seat.old.number) (reply_of reply) ∷ [] }) }
+        ensures loud { IfOk result (λ reply. DebugLoudly self.old.state event (Ok (reply_of reply)) self.new.state) }
+        ensures may { OnOk result ((length self.old.journal ≢ self.old.limit) × (must_wait self.old.checked_out event ≡ false)) }
         ensures refused { IfErr result (λ refusal. RefusesCommand self.old event refusal) }
         ensures err { OnErr result ((self.new ≡ self.old) × (seat.new ≡ seat.old)) }
     {
-        self.keeper.known(seat);
-        self.debugger.stands();
+        self.keeper.check_seat(seat);
+        self.debugger.recall_invariant();
         let _entered = self.journal.len();
         if self.journal.is_full() {
             return Err(Refusal::JournalFull);
         }
-        if must_wait(&self.out, &event) {
+        if must_wait(&self.checked_out, &event) {
             return Err(Refusal::Busy);
         }
-        make_room(&self.out, &mut self.journal, 1)?;
+        make_room(&self.checked_out, &mut self.journal, 1)?;
         let reply = match self.debugger.apply(&event) {
             Ok(reply) => reply,
             Err(refused) => return Err(Refusal::Node(refused)),
         };
         note_change(&event, &mut self.changes, &mut self.context);
-        enter::<B, Brand>(&mut self.journal, &mut self.keeper, seat, event, &reply);
+        enter_for_seat::<B, Brand>(&mut self.journal, &mut self.keeper, seat, event, &reply);
         Ok(reply)
     }
 }

@@ -1,27 +1,27 @@
 //! Processes that were handed out come back.
 ghost use Rattle.std.specs.Prelude.{◌≡◌, ◌≢◌, ◌≤◌, ◌||◌, true, false, is_some, map, length, option_map, slice_get, Some, IfOk, IfErr, OnOk, OnErr};
 ghost use Rattle.beam_laws.specs.Slice.{rows_of_event};
-ghost use Rattle.beam_debug.specs.Answers.{said};
+ghost use Rattle.beam_debug.specs.Answers.{reply_of};
 ghost use Rattle.beam_debug.specs.Installing.{AreSlices};
-ghost use Rattle.beam_shared.specs.Committing.{AreBack, Commits, DropsEntry, DropsFor, DropsRows, MayCommit, is_open, taken_in};
-ghost use Rattle.beam_shared.specs.Finished.{context_of};
+ghost use Rattle.beam_shared.specs.Committing.{AreBack, Commits, DropsEntry, DropsFor, DropsRows, MayCommit, is_open, checked_in};
+ghost use Rattle.beam_shared.specs.FinishedSlice.{context_of};
 ghost use Rattle.beam_shared.specs.Node.{serial_of};
 ghost use Rattle.beam_shared.specs.Returned.{is_alike, same_places, without_entry};
 
+use crate::checked_out::{CheckoutEntry, entry_of};
 use crate::checking_out::live;
-use crate::context::Context;
-use crate::dropped::{Dropped, NotCommitted};
-use crate::entering::enter_alone;
-use crate::finished::Finished;
+use crate::code_context::CodeContext;
+use crate::drop_reason::{DropReason, NotCommitted};
+use crate::entering::enter_without_seat;
+use crate::finished_slice::FinishedSlice;
 use crate::node::Node;
-use crate::outs::{OutEntry, entry_of};
 use beam_debug::debugger::Debugger;
 use beam_debug::outcome::Outcome;
 use beam_machine::debug::DebugEvent;
 use beam_machine::event::Event;
 use beam_model::place::{Place, is_same_place};
 use beam_proc::private::{End, Private};
-use beam_receipts::room::Room;
+use beam_receipts::brand::NodeBrand;
 use beam_receipts::ticket::TicketReceipt;
 use std::marker::Brand;
 
@@ -58,7 +58,7 @@ fn are_same_places(spots: &[Place], others: &[Place]) -> bool
 }
 
 /// Whether the node's code and break spots are those of a context: by the count of changes, or else by numbers of instances and places.
-fn is_context(debugger: &Debugger, is_unchanged: bool, context: &Context) -> bool
+fn is_context(debugger: &Debugger, is_unchanged: bool, context: &CodeContext) -> bool
     ensures { result ≡ is_unchanged || is_alike debugger.now.state context.now }
 {
     is_unchanged
@@ -67,31 +67,31 @@ fn is_context(debugger: &Debugger, is_unchanged: bool, context: &Context) -> boo
 }
 
 /// Takes a process out of the list of those that are out.
-fn take_in(pid: u32, out: &mut Vec<OutEntry>)
-    ensures { out.new.items ≡ without_entry pid out.old.items }
+fn check_in(pid: u32, checked_out: &mut Vec<CheckoutEntry>)
+    ensures { checked_out.new.items ≡ without_entry pid checked_out.old.items }
 {
-    out.retain(move |entry| !(entry.pid == pid));
+    checked_out.retain(move |entry| !(entry.pid == pid));
 }
 
-impl<B: Room> Node<B> {
+impl<B: NodeBrand> Node<B> {
     /// Whether the process is out by the checkout of which these rows are.
-    fn is_open(&self, finished: &Finished<B>) -> bool
+    fn is_open(&self, finished: &FinishedSlice<B>) -> bool
         ensures { result ≡ is_open self.now finished.now.origin.pid finished.now.serial }
     {
-        match entry_of(finished.pid, &self.out) {
+        match entry_of(finished.pid, &self.checked_out) {
             Some(entry) => entry.serial == finished.ticket.serial(),
             None => false,
         }
     }
 
     /// The number of a ticket's checkout. It is known then what was handed out by it.
-    fn found(&mut self, ticket: TicketReceipt<B>) -> u64
+    fn redeem(&mut self, ticket: TicketReceipt<B>) -> u64
         ensures same { self.new ≡ self.old }
-        ensures found { slice_get self.old.handed ticket.serial ≡ Some ticket.origin }
+        ensures redeem { slice_get self.old.handed ticket.serial ≡ Some ticket.origin }
         ensures serial { result ≡ ticket.serial }
     {
         let serial = ticket.serial();
-        self.keeper.found(ticket);
+        self.keeper.redeem(ticket);
         serial
     }
 
@@ -100,62 +100,62 @@ impl<B: Room> Node<B> {
         &self,
         pid: u32,
         serial: u64,
-        context: &Context,
+        context: &CodeContext,
         rows: &Private,
-    ) -> Result<(), Dropped>
+    ) -> Result<(), DropReason>
         requires back { AreBack self.now pid serial context.now rows.now }
         ensures may { OnOk result (MayCommit self.now pid serial context.now) }
         ensures slices { OnOk result (rows_of_event rows.now ≢ 0 → AreSlices self.now.state pid rows.now) }
         ensures dropped { IfErr result (λ dropped. DropsRows self.now pid serial context.now rows.now dropped) }
     {
-        let Some(entry) = entry_of(pid, &self.out) else {
-            return Err(Dropped::Stranger);
+        let Some(entry) = entry_of(pid, &self.checked_out) else {
+            return Err(DropReason::Stranger);
         };
         if entry.serial != serial {
-            return Err(Dropped::Stranger);
+            return Err(DropReason::Stranger);
         }
         if live(&self.debugger, pid).is_none() {
-            return Err(Dropped::Gone);
+            return Err(DropReason::Gone);
         }
         if is_context(&self.debugger, entry.changes == self.changes, context) {
             Ok(())
         } else {
-            Err(Dropped::StaleCode)
+            Err(DropReason::StaleCode)
         }
     }
 
     /// Takes a process in, as it is in the node.
-    fn take_in(&mut self, pid: u32)
-        ensures { self.new ≡ taken_in self.old pid }
+    fn check_in(&mut self, pid: u32)
+        ensures { self.new ≡ checked_in self.old pid }
     {
-        take_in(pid, &mut self.out);
+        check_in(pid, &mut self.checked_out);
     }
 
     /// Lets rows take effect, enters them, and takes the process in. The process is taken in too if the rows are dropped.
-    fn enter_rows(&mut self, pid: u32, rows: Private) -> Result<Outcome, Dropped>
-        requires out { is_some (serial_of pid self.old.out) ≡ true }
+    fn enter_rows(&mut self, pid: u32, rows: Private) -> Result<Outcome, DropReason>
+        requires checked_out { is_some (serial_of pid self.old.checked_out) ≡ true }
         requires rows { AreSlices self.old.state pid rows }
         requires few { rows.count ≤ 4000 }
         requires some { rows_of_event rows ≢ 0 }
-        ensures commits { IfOk result (λ reply. Commits self.old pid rows (Some (said reply)) self.new) }
+        ensures commits { IfOk result (λ reply. Commits self.old pid rows (Some (reply_of reply)) self.new) }
         ensures dropped { IfErr result (λ dropped. DropsEntry self.old rows dropped) }
-        ensures back { OnErr result (self.new ≡ taken_in self.old pid) }
+        ensures back { OnErr result (self.new ≡ checked_in self.old pid) }
     {
-        self.debugger.stands();
+        self.debugger.recall_invariant();
         if self.journal.is_full() {
-            take_in(pid, &mut self.out);
-            return Err(Dropped::JournalFull);
+            check_in(pid, &mut self.checked_out);
+            return Err(DropReason::JournalFull);
         }
         let asked = rows_asked(&rows);
         let installed = self.debugger.install(pid, rows);
-        take_in(pid, &mut self.out);
+        check_in(pid, &mut self.checked_out);
         match installed {
             Ok(reply) => {
                 let event = DebugEvent::Node(Event::Steps { pid, rows: asked });
-                enter_alone::<B, Brand>(&mut self.journal, &mut self.keeper, event, &reply);
+                enter_without_seat::<B, Brand>(&mut self.journal, &mut self.keeper, event, &reply);
                 Ok(reply)
             }
-            Err(_) => Err(Dropped::NoMemory),
+            Err(_) => Err(DropReason::NoMemory),
         }
     }
 
@@ -164,22 +164,22 @@ impl<B: Room> Node<B> {
         &mut self,
         pid: u32,
         serial: u64,
-        context: &Context,
+        context: &CodeContext,
         rows: Private,
-    ) -> Result<Option<Outcome>, Dropped>
+    ) -> Result<Option<Outcome>, DropReason>
         requires back { AreBack self.old pid serial context.now rows }
         requires open { is_open self.old pid serial ≡ true }
         ensures may { OnOk result (MayCommit self.old pid serial context.now) }
-        ensures commits { IfOk result (λ reply. Commits self.old pid rows (option_map said reply) self.new) }
+        ensures commits { IfOk result (λ reply. Commits self.old pid rows (option_map reply_of reply) self.new) }
         ensures dropped { IfErr result (λ dropped. DropsRows self.old pid serial context.now rows dropped) }
-        ensures back { OnErr result (self.new ≡ taken_in self.old pid) }
+        ensures back { OnErr result (self.new ≡ checked_in self.old pid) }
     {
         if let Err(dropped) = self.may_commit(pid, serial, context, &rows) {
-            self.take_in(pid);
+            self.check_in(pid);
             return Err(dropped);
         }
         if rows_asked(&rows) == 0 {
-            self.take_in(pid);
+            self.check_in(pid);
             return Ok(None);
         }
         match self.enter_rows(pid, rows) {
@@ -199,26 +199,26 @@ impl<B: Room> Node<B> {
     ///
     /// No row is run again, and neither code nor process is compared by value: it takes time for what the rows sent and for the row of
     /// the node, for the processes that are out, and after a change of code or break spots for the modules and break spots.
-    pub fn commit(&mut self, finished: Finished<B>) -> Result<Option<Outcome>, NotCommitted<B>>
+    pub fn commit(&mut self, finished: FinishedSlice<B>) -> Result<Option<Outcome>, NotCommitted<B>>
         ensures may { OnOk result (MayCommit self.old finished.origin.pid finished.serial (context_of finished.origin)) }
-        ensures commits { IfOk result (λ reply. Commits self.old finished.origin.pid finished.rows (option_map said reply) self.new) }
+        ensures commits { IfOk result (λ reply. Commits self.old finished.origin.pid finished.rows (option_map reply_of reply) self.new) }
         ensures dropped { IfErr result (λ e. DropsFor self.old finished e.dropped) }
-        ensures in_again { IfErr result (λ e. e.dropped ≢ Dropped.Stranger → self.new ≡ taken_in self.old finished.origin.pid) }
-        ensures stranger { IfErr result (λ e. e.dropped ≡ Dropped.Stranger → (self.new ≡ self.old) × (e.back ≡ Some finished)) }
+        ensures in_again { IfErr result (λ e. e.dropped ≢ DropReason.Stranger → self.new ≡ checked_in self.old finished.origin.pid) }
+        ensures stranger { IfErr result (λ e. e.dropped ≡ DropReason.Stranger → (self.new ≡ self.old) × (e.back ≡ Some finished)) }
     {
         if !self.is_open(&finished) {
             return Err(NotCommitted {
-                dropped: Dropped::Stranger,
+                dropped: DropReason::Stranger,
                 back: Some(finished),
             });
         }
-        let Finished {
+        let FinishedSlice {
             pid,
             context,
             slice,
             ticket,
         } = finished;
-        let serial = self.found(ticket);
+        let serial = self.redeem(ticket);
         match self.end_checkout(pid, serial, &context, slice.rows) {
             Ok(reply) => Ok(reply),
             Err(dropped) => Err(NotCommitted {

@@ -1,46 +1,46 @@
 //! Entries of what a node accepted.
 ghost use Rattle.std.specs.Prelude.{◌≡◌, ◌≢◌, ◌+◌, ◌<◌, ◌≤◌, [], ◌∷◌, ◌++◌, length, Some, None, Ok, OnOk};
-ghost use Rattle.beam_debug.specs.Answers.{said};
+ghost use Rattle.beam_debug.specs.Answers.{reply_of};
 ghost use Rattle.beam_journal.specs.Entering.{Accepts, entry_of};
 ghost use Rattle.beam_machine.specs.DebugRun.{debug_after};
 ghost use Rattle.beam_machine.specs.Journal.{replay};
 
-use crate::outs::OutEntry;
+use crate::checked_out::CheckoutEntry;
 use beam_debug::outcome::Outcome;
 use beam_image::Image;
 use beam_journal::error::JournalError;
 use beam_journal::journal::Journal;
 use beam_machine::debug::DebugEvent;
+use beam_receipts::brand::{GhostEntry, NodeBrand};
 use beam_receipts::keeper::Keeper;
-use beam_receipts::room::{Entered, Room};
 use beam_receipts::seat::SeatReceipt;
 use std::alloc::AllocError;
 
 /// Makes room for the entries of all processes that are out, and for `more` others. If memory is refused the entries stay as they were, and
 /// no room is lost.
 pub(crate) fn make_room(
-    out: &[OutEntry],
+    checked_out: &[CheckoutEntry],
     journal: &mut Journal,
     more: u32,
 ) -> Result<(), AllocError>
-    ensures room { OnOk result (length out.now + more ≤ journal.new.room) }
-    ensures kept { journal.old.room ≤ journal.new.room }
+    ensures capacity { OnOk result (length checked_out.now + more ≤ journal.new.capacity) }
+    ensures kept { journal.old.capacity ≤ journal.new.capacity }
     ensures entries { journal.new.entries ≡ journal.old.entries }
     ensures limit { journal.new.limit ≡ journal.old.limit }
 {
-    let count = u32::try_from(out.len()).map_err(|_| AllocError)?;
+    let count = u32::try_from(checked_out.len()).map_err(|_| AllocError)?;
     let count = count.checked_add(more).ok_or(AllocError)?;
     journal.reserve(count)
 }
 
 /// Pushes an event for which there is room.
 fn push(journal: &mut Journal, event: DebugEvent<Image>, seat: Option<u32>, reply: &Outcome)
-    requires accepted { Accepts (replay journal.old.entries) event (said reply.now) }
-    requires room { 0 < journal.old.room }
+    requires accepted { Accepts (replay journal.old.entries) event (reply_of reply.now) }
+    requires capacity { 0 < journal.old.capacity }
     requires few { length journal.old.entries ≢ journal.old.limit }
-    ensures entered { journal.new.entries ≡ journal.old.entries ++ entry_of event seat (said reply.now) ∷ [] }
-    ensures leads { replay journal.new.entries ≡ debug_after (replay journal.old.entries) event (Ok (said reply.now)) }
-    ensures room { journal.old.room ≤ journal.new.room + 1 }
+    ensures entered { journal.new.entries ≡ journal.old.entries ++ entry_of event seat (reply_of reply.now) ∷ [] }
+    ensures leads { replay journal.new.entries ≡ debug_after (replay journal.old.entries) event (Ok (reply_of reply.now)) }
+    ensures capacity { journal.old.capacity ≤ journal.new.capacity + 1 }
     ensures limit { journal.new.limit ≡ journal.old.limit }
 {
     match journal.push(event, seat, reply) {
@@ -52,46 +52,46 @@ fn push(journal: &mut Journal, event: DebugEvent<Image>, seat: Option<u32>, repl
 }
 
 /// Enters an event that no seat sent, for which there is room.
-pub(crate) fn enter_alone<B: Room, E: Entered>(
+pub(crate) fn enter_without_seat<B: NodeBrand, E: GhostEntry>(
     journal: &mut Journal,
     keeper: &mut Keeper<B>,
     event: DebugEvent<Image>,
     reply: &Outcome,
 )
-    requires entry { E.entry ≡ entry_of event None (said reply.now) }
-    requires accepted { Accepts (replay journal.old.entries) event (said reply.now) }
-    requires room { 0 < journal.old.room }
+    requires entry { E.entry ≡ entry_of event None (reply_of reply.now) }
+    requires accepted { Accepts (replay journal.old.entries) event (reply_of reply.now) }
+    requires capacity { 0 < journal.old.capacity }
     requires few { length journal.old.entries ≢ journal.old.limit }
-    ensures entered { journal.new.entries ≡ journal.old.entries ++ entry_of event None (said reply.now) ∷ [] }
-    ensures leads { replay journal.new.entries ≡ debug_after (replay journal.old.entries) event (Ok (said reply.now)) }
-    ensures room { journal.old.room ≤ journal.new.room + 1 }
+    ensures entered { journal.new.entries ≡ journal.old.entries ++ entry_of event None (reply_of reply.now) ∷ [] }
+    ensures leads { replay journal.new.entries ≡ debug_after (replay journal.old.entries) event (Ok (reply_of reply.now)) }
+    ensures capacity { journal.old.capacity ≤ journal.new.capacity + 1 }
     ensures limit { journal.new.limit ≡ journal.old.limit }
-    ensures keeper { keeper.new ≡ record keeper.old { journal = keeper.old.journal ++ entry_of event None (said reply.now) ∷ [] } }
+    ensures keeper { keeper.new ≡ record keeper.old { journal = keeper.old.journal ++ entry_of event None (reply_of reply.now) ∷ [] } }
 {
-    keeper.enter_alone::<E>();
+    keeper.enter_without_seat::<E>();
     push(journal, event, None, reply);
 }
 
 /// Enters an event that a seat sent, for which there is room.
-pub(crate) fn enter<B: Room, E: Entered>(
+pub(crate) fn enter_for_seat<B: NodeBrand, E: GhostEntry>(
     journal: &mut Journal,
     keeper: &mut Keeper<B>,
     seat: &mut SeatReceipt<B>,
     event: DebugEvent<Image>,
     reply: &Outcome,
 )
-    requires entry { E.entry ≡ entry_of event (Some seat.old.number) (said reply.now) }
-    requires accepted { Accepts (replay journal.old.entries) event (said reply.now) }
-    requires room { 0 < journal.old.room }
+    requires entry { E.entry ≡ entry_of event (Some seat.old.number) (reply_of reply.now) }
+    requires accepted { Accepts (replay journal.old.entries) event (reply_of reply.now) }
+    requires capacity { 0 < journal.old.capacity }
     requires few { length journal.old.entries ≢ journal.old.limit }
-    ensures entered { journal.new.entries ≡ journal.old.entries ++ entry_of event (Some seat.old.number) (said reply.now) ∷ [] }
-    ensures leads { replay journal.new.entries ≡ debug_after (replay journal.old.entries) event (Ok (said reply.now)) }
-    ensures room { journal.old.room ≤ journal.new.room + 1 }
+    ensures entered { journal.new.entries ≡ journal.old.entries ++ entry_of event (Some seat.old.number) (reply_of reply.now) ∷ [] }
+    ensures leads { replay journal.new.entries ≡ debug_after (replay journal.old.entries) event (Ok (reply_of reply.now)) }
+    ensures capacity { journal.old.capacity ≤ journal.new.capacity + 1 }
     ensures limit { journal.new.limit ≡ journal.old.limit }
-    ensures keeper { keeper.new ≡ record keeper.old { journal = keeper.old.journal ++ entry_of event (Some seat.old.number) (said reply.now) ∷ [] } }
-    ensures seat { seat.new ≡ record seat.old { kept = seat.old.kept ++ entry_of event (Some seat.old.number) (said reply.now) ∷ [] } }
+    ensures keeper { keeper.new ≡ record keeper.old { journal = keeper.old.journal ++ entry_of event (Some seat.old.number) (reply_of reply.now) ∷ [] } }
+    ensures seat { seat.new ≡ record seat.old { kept = seat.old.kept ++ entry_of event (Some seat.old.number) (reply_of reply.now) ∷ [] } }
 {
     let number = seat.number();
-    keeper.enter::<E>(seat);
+    keeper.enter_for_seat::<E>(seat);
     push(journal, event, Some(number), reply);
 }

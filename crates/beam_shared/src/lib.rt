@@ -1,16 +1,16 @@
 //! A node that threads share under one lock: its state, the journal that replays to it, and the processes that were handed out.
 #![tactic(auto)]
 
+mod checked_out;
 mod checking_out;
 pub mod checkout;
 mod closing;
+mod code_context;
 mod commands;
 mod committing;
-mod context;
-pub mod dropped;
+pub mod drop_reason;
 mod entering;
-pub mod finished;
-pub mod mismatch;
+pub mod finished_slice;
 pub mod node;
-mod outs;
 pub mod refusal;
+pub mod seat_mismatch;

@@ -1,6 +1,6 @@
 //! A node that threads share.
 ghost use Rattle.std.specs.Prelude.{◌≡◌, ◌+◌, ◌<◌, ◌≤◌, ◌↔◌, ℕ, [], length, map, IsErrOf, OnErr, IfOk, IfErr};
-ghost use Rattle.beam_journal.specs.Entering.{most_entries, sending_of};
+ghost use Rattle.beam_journal.specs.Entering.{most_entries, sent_event_of};
 ghost use Rattle.beam_machine.specs.Journal.{IsLawful, replay};
 ghost use Rattle.beam_machine.specs.Ready.{ready_after, next_deadline};
 ghost use Rattle.beam_machine.specs.declared.event.Refused.TheVariants.{TooMany};
@@ -8,15 +8,15 @@ ghost use Rattle.beam_shared.specs.Node.{most_seats, new_node};
 ghost use Rattle.beam_shared.specs.Seats.{AddUp, AreOfSeats};
 ghost use Rattle.beam_shared.specs.declared.refusal.Refusal.TheVariants as refusals;
 
-use crate::context::Context;
-use crate::outs::OutEntry;
+use crate::checked_out::CheckoutEntry;
+use crate::code_context::CodeContext;
 use crate::refusal::Refusal;
 use beam_debug::debugger::Debugger;
 use beam_journal::entry::Entry;
 use beam_journal::journal::{Journal, MOST_ENTRIES};
 use beam_machine::event::Refused;
-use beam_receipts::keeper::{Blank, Keeper};
-use beam_receipts::room::Room;
+use beam_receipts::brand::NodeBrand;
+use beam_receipts::keeper::{Keeper, UnbrandedKeeper};
 use beam_receipts::seat::SeatReceipt;
 use std::alloc::Global;
 use std::marker::Model;
@@ -26,59 +26,59 @@ pub const MOST_SEATS: u32 = 4_096;
 
 /// A node with its debugger, which threads share under one lock. It enters all that it accepts in a journal, which replays to its state,
 /// while processes are handed out, run under no lock, and come back.
-pub struct Node<B: Room> {
+pub struct Node<B: NodeBrand> {
     pub(crate) alloc: Global,
     pub(crate) debugger: Debugger,
     pub(crate) journal: Journal,
     pub(crate) keeper: Keeper<B>,
-    pub(crate) out: Vec<OutEntry>,
+    pub(crate) checked_out: Vec<CheckoutEntry>,
     // how often code or break spots changed
     pub(crate) changes: u64,
     // the copy of code and break spots for all that run processes; none after a change
-    pub(crate) context: Option<Context>,
+    pub(crate) context: Option<CodeContext>,
 }
 
-impl<B: Room> Drop for Node<B> {
+impl<B: NodeBrand> Drop for Node<B> {
     fn drop(self) {
         let Node {
             alloc: _alloc,
             debugger: _debugger,
             journal: _journal,
             keeper: _keeper,
-            out: _out,
+            checked_out: _checked_out,
             changes: _changes,
             context: _context,
         } = self;
     }
 }
 
-impl<B: Room> Model for Node<B> {
+impl<B: NodeBrand> Model for Node<B> {
     ghost use Rattle.std.specs.Coded.{codes};
     ghost use Rattle.beam_term.specs.Coding.{term_code};
     ghost use Rattle.beam_shared.specs.Node.{Node as TheNode};
-    ghost use Rattle.beam_shared.specs.Kept.{node_of, HasRoom, IsKept};
+    ghost use Rattle.beam_shared.specs.Invariant.{node_of, HasCapacityFor, NodeInvariant};
 
     ghost Value = { TheNode };
 
     ghost coded = { Prim.hlevel (codes, term_code) };
 
-    ghost view = { λ n. node_of n.debugger.state n.journal n.keeper n.out.items };
+    ghost view = { λ n. node_of n.debugger.state n.journal n.keeper n.checked_out.items };
 
-    ghost invariant = { λ n. IsKept n.debugger.state n.journal n.keeper n.out.items n.changes n.context × HasRoom n.debugger n.out.items };
+    ghost invariant = { λ n. NodeInvariant n.debugger.state n.journal n.keeper n.checked_out.items n.changes n.context × HasCapacityFor n.debugger n.checked_out.items };
 }
 
-impl<B: Room> Node<B> {
+impl<B: NodeBrand> Node<B> {
     /// A node with no code, no processes and an empty journal, which can have 16,777,216 entries. It takes no memory.
-    pub fn new(alloc: Global, blank: Blank) -> Node<B>
-        requires { blank ≡ B.table }
+    pub fn new(alloc: Global, unbranded: UnbrandedKeeper) -> Node<B>
+        requires { unbranded ≡ B.table }
         ensures { result ≡ new_node most_entries }
     {
-        Node::with_limit(alloc, blank, MOST_ENTRIES)
+        Node::with_limit(alloc, unbranded, MOST_ENTRIES)
     }
 
     /// A node with no code, no processes and an empty journal, which can have `limit` entries, at most 16,777,216. It takes no memory.
-    pub fn with_limit(alloc: Global, blank: Blank, limit: u32) -> Node<B>
-        requires blank { blank ≡ B.table }
+    pub fn with_limit(alloc: Global, unbranded: UnbrandedKeeper, limit: u32) -> Node<B>
+        requires unbranded { unbranded ≡ B.table }
         requires limit { limit ≤ most_entries }
         ensures { result ≡ new_node limit }
     {
@@ -86,8 +86,8 @@ impl<B: Room> Node<B> {
             alloc,
             debugger: Debugger::new(alloc),
             journal: Journal::with_limit(alloc, limit),
-            keeper: blank.named::<B>(),
-            out: Vec::new(alloc),
+            keeper: unbranded.branded::<B>(),
+            checked_out: Vec::new(alloc),
             changes: 0,
             context: None,
         }
@@ -95,7 +95,7 @@ impl<B: Room> Node<B> {
 
     /// In every state the journal is lawful: running its events from the empty node on refuses none and gives its replies. It replays to
     /// the state. Each of its commands is of a seat that was given, and the seats' commands are together as many as it has.
-    pub fn stands(&self)
+    pub fn recall_invariant(&self)
         ensures lawful { IsLawful self.now.journal }
         ensures replays { replay self.now.journal ≡ self.now.state }
         ensures of_seats { AreOfSeats self.now }
@@ -112,7 +112,7 @@ impl<B: Room> Node<B> {
             debugger: _debugger,
             journal,
             keeper: _keeper,
-            out: _out,
+            checked_out: _checked_out,
             changes: _changes,
             context: _context,
         } = self;
@@ -134,7 +134,7 @@ impl<B: Room> Node<B> {
 
     /// The entries of the journal, in their order, without the replies.
     pub fn entries(&self) -> &[Entry]
-        ensures { result.now ≡ map sending_of self.now.journal }
+        ensures { result.now ≡ map sent_event_of self.now.journal }
     {
         self.journal.entries()
     }

@@ -13,7 +13,7 @@ use Rattle.beam_machine.specs.View.{slots_of}
 use Rattle.beam_stack.specs.Word.{Word}
 use Rattle.beam_stack.specs.Word as word
 use Rattle.beam_stack.specs.Frames.{newest_y, y_count, is_bare}
-use Rattle.beam_stack.specs.Words.{frames_of, are_linked, IsStack, held, marked}
+use Rattle.beam_stack.specs.Words.{frames_of, are_linked, IsStack, slots_with, marked}
 use Rattle.beam_stack.proofs.Grown.{one_more}
 use Rattle.beam_stack.proofs.Tops.{are_y, frame_with, frames_top, by_top, stack_of, none_after, linked_parts}
 
@@ -28,7 +28,7 @@ are_nils : (n : ℕ) (t : TermValue) → are_y true (replicate n (word.Value t))
 are_nils zero t = refl
 are_nils (suc n) t = are_nils n t
 
-held_nils : (n m : ℕ) (t : TermValue) → held (replicate m (slot.Value t)) (replicate n (word.Value t)) ≡ replicate (m + n) (slot.Value t)
+held_nils : (n m : ℕ) (t : TermValue) → slots_with (replicate m (slot.Value t)) (replicate n (word.Value t)) ≡ replicate (m + n) (slot.Value t)
 held_nils zero m t = let e : m ≡ m + zero = omega arith in ap (λ k. replicate k (slot.Value t)) e
 held_nils (suc n) m t = let e : suc m + n ≡ m + suc n = omega arith in held_nils n (suc m) t ∙ ap (λ k. replicate k (slot.Value t)) e
 
@@ -42,7 +42,7 @@ nils_top : (before : List Word) (back : Option Place) (below n : ℕ) (t : TermV
 nils_top before back below n t whole linked links =
     let words : (before ++ word.Head back true below ∷ []) ++ replicate n (word.Value t) ≡ before ++ word.Head back true below ∷ replicate n (word.Value t) = append_assoc before (word.Head back true below ∷ []) (replicate n (word.Value t)) in
     let none : zero + n ≡ n = omega arith in
-    let y : held [] (replicate n (word.Value t)) ≡ replicate n (slot.Value t) = held_nils n 0 t ∙ ap (λ k. replicate k (slot.Value t)) none in
+    let y : slots_with [] (replicate n (word.Value t)) ≡ replicate n (slot.Value t) = held_nils n 0 t ∙ ap (λ k. replicate k (slot.Value t)) none in
     record {
       stack = subst (λ vs. IsStack vs (length before)) (sym words) (stack_of before back true below (replicate n (word.Value t)) whole linked links (are_nils n t));
       frames_are = ap frames_of words ∙ frames_top before back true below (replicate n (word.Value t)) (are_nils n t) ∙ ap (λ ys. frame_with back true ys ∷ frames_of before) y;
@@ -59,7 +59,7 @@ bare_end ws newest stack = by_top (λ vs at. is_bare (frames_of vs) ≡ true →
     some : (before : List Word) (back : Option Place) (has_y : Bool) (below : ℕ) (after : List Word) → words_of (frames_of before) ≡ length before → are_y has_y after ≡ true
         → is_bare (frames_of (before ++ word.Head back has_y below ∷ after)) ≡ true → length (before ++ word.Head back has_y below ∷ after) ≡ length before + 1
     some before back has_y below after whole slots bare =
-        let none : has_y ≡ false = bare_top has_y back (held [] after) (frames_of before) (ap is_bare (sym (frames_top before back has_y below after slots)) ∙ bare) in
+        let none : has_y ≡ false = bare_top has_y back (slots_with [] after) (frames_of before) (ap is_bare (sym (frames_top before back has_y below after slots)) ∙ bare) in
         let nothing : after ≡ [] = none_after after (subst (λ b. are_y b after ≡ true) none slots) in
         omega (arith, length-append before (word.Head back has_y below ∷ after), ap length nothing)
 
@@ -78,8 +78,8 @@ allocated ws newest front head n t stack bare is =
         → are_linked [] (before ++ word.Head back has_y below ∷ after) ≡ true → is_bare (frames_of (before ++ word.Head back has_y below ∷ after)) ≡ true → before ++ word.Head back has_y below ∷ after ≡ front ++ head ∷ []
         → IsMarked ((front ++ marked true head ∷ []) ++ replicate n (word.Value t)) (length before) (with_y (frames_of (before ++ word.Head back has_y below ∷ after)) (Some (replicate n (slot.Value t))))
     some before back has_y below after whole slots linked bare is =
-        let frames : frames_of (before ++ word.Head back has_y below ∷ after) ≡ frame_with back has_y (held [] after) ∷ frames_of before = frames_top before back has_y below after slots in
-        let has_none : has_y ≡ false = bare_top has_y back (held [] after) (frames_of before) (sym (ap is_bare frames) ∙ bare) in
+        let frames : frames_of (before ++ word.Head back has_y below ∷ after) ≡ frame_with back has_y (slots_with [] after) ∷ frames_of before = frames_top before back has_y below after slots in
+        let has_none : has_y ≡ false = bare_top has_y back (slots_with [] after) (frames_of before) (sym (ap is_bare frames) ∙ bare) in
         let ends : after ≡ [] = none_after after (subst (λ b. are_y b after ≡ true) has_none slots) in
         let parts : (are_linked [] before ≡ true) × ((below == y_count (frames_of before)) ≡ true) = linked_parts before back has_y below after linked in
         let same : (front ≡ before) × (head ≡ word.Head back has_y below) = same_from_push front before head (word.Head back has_y below) (sym is ∙ ap (λ vs. before ++ word.Head back has_y below ∷ vs) ends) in
@@ -102,7 +102,7 @@ dropped ws newest front head stack is =
         → are_linked [] (before ++ word.Head back has_y below ∷ after) ≡ true → take (length before + 1) (before ++ word.Head back has_y below ∷ after) ≡ front ++ head ∷ []
         → IsMarked (front ++ marked false head ∷ []) (length before) (with_y (frames_of (before ++ word.Head back has_y below ∷ after)) None)
     some before back has_y below after whole slots linked is =
-        let frames : frames_of (before ++ word.Head back has_y below ∷ after) ≡ frame_with back has_y (held [] after) ∷ frames_of before = frames_top before back has_y below after slots in
+        let frames : frames_of (before ++ word.Head back has_y below ∷ after) ≡ frame_with back has_y (slots_with [] after) ∷ frames_of before = frames_top before back has_y below after slots in
         let parts : (are_linked [] before ≡ true) × ((below == y_count (frames_of before)) ≡ true) = linked_parts before back has_y below after linked in
         let same : (front ≡ before) × (head ≡ word.Head back has_y below) = same_from_push front before head (word.Head back has_y below) (sym is ∙ take_head before (word.Head back has_y below) after) in
         let here : before ++ word.Head back false below ∷ [] ≡ front ++ marked false head ∷ [] = sym (ap (λ vs. vs ++ marked false head ∷ []) same.0 ∙ ap (λ w. before ++ marked false w ∷ []) same.1) in
@@ -125,25 +125,25 @@ after_is : (before : List Word) (w : Word) (after : List Word) → after_head (b
 after_is before w after =
     take_rest (before ++ w ∷ after) (length before + 1) ∙ ap (drop (length before + 1)) (sym (append_assoc before (w ∷ []) after)) ∙ drop_at (before ++ w ∷ []) after (length before + 1) (length_push before w)
 
-pub newest_tag_is : (ws : List Word) (newest : ℕ) → IsStack ws newest → tag_in (held [] (after_head ws newest)) ≡ tag_of (newest_y (frames_of ws))
+pub newest_tag_is : (ws : List Word) (newest : ℕ) → IsStack ws newest → tag_in (slots_with [] (after_head ws newest)) ≡ tag_of (newest_y (frames_of ws))
 newest_tag_is ws newest stack =
-    by_top (λ vs at. tag_in (held [] (after_head vs at)) ≡ tag_of (newest_y (frames_of vs))) refl
-    (λ before back has_y below after whole slots. ap (λ vs. tag_in (held [] vs)) (after_is before (word.Head back has_y below) after) ∙ tag has_y back after slots (frames_of before) ∙ sym (ap (λ fs. tag_of (newest_y fs)) (frames_top before back has_y below after slots)))
+    by_top (λ vs at. tag_in (slots_with [] (after_head vs at)) ≡ tag_of (newest_y (frames_of vs))) refl
+    (λ before back has_y below after whole slots. ap (λ vs. tag_in (slots_with [] vs)) (after_is before (word.Head back has_y below) after) ∙ tag has_y back after slots (frames_of before) ∙ sym (ap (λ fs. tag_of (newest_y fs)) (frames_top before back has_y below after slots)))
     ws newest stack
   where
-    tag : (has_y : Bool) (back : Option Place) (after : List Word) → are_y has_y after ≡ true → (fs : List Frame) → tag_in (held [] after) ≡ tag_of (newest_y (frame_with back has_y (held [] after) ∷ fs))
+    tag : (has_y : Bool) (back : Option Place) (after : List Word) → are_y has_y after ≡ true → (fs : List Frame) → tag_in (slots_with [] after) ≡ tag_of (newest_y (frame_with back has_y (slots_with [] after) ∷ fs))
     tag true back after slots fs = refl
-    tag false back after slots fs = ap (λ vs. tag_in (held [] vs)) (none_after after slots)
+    tag false back after slots fs = ap (λ vs. tag_in (slots_with [] vs)) (none_after after slots)
 
-pub newest_slots : (ws : List Word) (newest : ℕ) → IsStack ws newest → held [] (after_head ws newest) ≡ slots_of (newest_y (frames_of ws))
+pub newest_slots : (ws : List Word) (newest : ℕ) → IsStack ws newest → slots_with [] (after_head ws newest) ≡ slots_of (newest_y (frames_of ws))
 newest_slots ws newest stack =
-    by_top (λ vs at. held [] (after_head vs at) ≡ slots_of (newest_y (frames_of vs))) refl
-    (λ before back has_y below after whole slots. ap (held []) (after_is before (word.Head back has_y below) after) ∙ y has_y back after slots (frames_of before) ∙ sym (ap (λ fs. slots_of (newest_y fs)) (frames_top before back has_y below after slots)))
+    by_top (λ vs at. slots_with [] (after_head vs at) ≡ slots_of (newest_y (frames_of vs))) refl
+    (λ before back has_y below after whole slots. ap (slots_with []) (after_is before (word.Head back has_y below) after) ∙ y has_y back after slots (frames_of before) ∙ sym (ap (λ fs. slots_of (newest_y fs)) (frames_top before back has_y below after slots)))
     ws newest stack
   where
-    y : (has_y : Bool) (back : Option Place) (after : List Word) → are_y has_y after ≡ true → (fs : List Frame) → held [] after ≡ slots_of (newest_y (frame_with back has_y (held [] after) ∷ fs))
+    y : (has_y : Bool) (back : Option Place) (after : List Word) → are_y has_y after ≡ true → (fs : List Frame) → slots_with [] after ≡ slots_of (newest_y (frame_with back has_y (slots_with [] after) ∷ fs))
     y true back after slots fs = refl
-    y false back after slots fs = ap (held []) (none_after after slots)
+    y false back after slots fs = ap (slots_with []) (none_after after slots)
 
 pub allocated_length : (front : List Word) (old new : Word) (n : ℕ) (w : Word) → length ((front ++ new ∷ []) ++ replicate n w) ≡ length (front ++ old ∷ []) + n
 allocated_length front old new n w = omega (arith, length-append (front ++ new ∷ []) (replicate n w), length_push front new, length_push front old, length-replicate n w)

@@ -5,7 +5,7 @@ use Rattle.beam_machine.specs.declared.process.Slot.{Slot}
 use Rattle.beam_machine.specs.declared.process.Slot.TheVariants as slot
 use Rattle.beam_stack.specs.Word.{Word}
 use Rattle.beam_stack.specs.Word as word
-use Rattle.beam_stack.specs.Words.{held, slot_in}
+use Rattle.beam_stack.specs.Words.{slots_with, slot_in}
 
 -- one more equal word at the end
 pub one_more_of : (words : List Word) (n : ℕ) (w : Word) → (words ++ replicate n w) ++ w ∷ [] ≡ words ++ replicate (n + 1) w
@@ -16,7 +16,7 @@ abbrev pub with_word : Option Slot → List Slot → List Slot
 with_word (Some s) y = s ∷ y
 with_word None y = y
 
-pub held_last : (y : List Slot) (words : List Word) (w : Word) → held y (words ++ w ∷ []) ≡ with_word (slot_in w) (held y words)
+pub held_last : (y : List Slot) (words : List Word) (w : Word) → slots_with y (words ++ w ∷ []) ≡ with_word (slot_in w) (slots_with y words)
 held_last y [] (word.Head back has_y below) = refl
 held_last y [] (word.Value t) = refl
 held_last y [] (word.Tag tag) = refl

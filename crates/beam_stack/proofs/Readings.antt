@@ -11,7 +11,7 @@ use Rattle.beam_stack.specs.declared.word.Head.{Head}
 use Rattle.beam_stack.specs.Word.{Word}
 use Rattle.beam_stack.specs.Word as word
 use Rattle.beam_stack.specs.Frames.{newest_y, count_in, y_count, drops, is_bare, back_of, newest_back, head_of}
-use Rattle.beam_stack.specs.Words.{frames_of, are_linked, IsStack, held, head_in}
+use Rattle.beam_stack.specs.Words.{frames_of, are_linked, IsStack, slots_with, head_in}
 use Rattle.beam_stack.proofs.Tops.{are_y, by_top, frame_with, frames_top, get_at, linked_parts}
 
 abbrev pub flag_in : Option Head → Bool
@@ -45,7 +45,7 @@ head_is ws newest stack = by_top (λ vs at. are_linked [] vs ≡ true → head_i
     some before back has_y below after whole slots linked =
         let parts : (are_linked [] before ≡ true) × ((below == y_count (frames_of before)) ≡ true) = linked_parts before back has_y below after linked in
         ap head_in (get_at before (word.Head back has_y below) after) ∙ ap (says back has_y) (eqb-true below (y_count (frames_of before)) parts.1)
-        ∙ same back has_y (held [] after) (frames_of before) ∙ sym (ap head_of (frames_top before back has_y below after slots))
+        ∙ same back has_y (slots_with [] after) (frames_of before) ∙ sym (ap head_of (frames_top before back has_y below after slots))
 
 pub flag_is : (fs : List Frame) → flag_in (head_of fs) ≡ is_some (newest_y fs)
 flag_is [] = refl

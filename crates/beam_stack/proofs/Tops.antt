@@ -10,7 +10,7 @@ use Rattle.beam_machine.specs.Process.{words_in, words_of}
 use Rattle.beam_stack.specs.Word.{Word}
 use Rattle.beam_stack.specs.Word as word
 use Rattle.beam_stack.specs.Frames.{y_count, older_than}
-use Rattle.beam_stack.specs.Words.{grown, grown_by, frames_of, are_linked, IsStack, held, below_in}
+use Rattle.beam_stack.specs.Words.{grown, grown_by, frames_of, are_linked, IsStack, slots_with, below_in}
 use Rattle.beam_stack.proofs.Grown.{by_append, by_words, linked_append, older_words}
 
 -- ---- the words of one frame
@@ -32,7 +32,7 @@ none_after (word.Value t ∷ ws) h = absurd (false≢true h)
 none_after (word.Tag tag ∷ ws) h = absurd (false≢true h)
 
 by_slots : (back : Option Place) (has_y : Bool) (y : List Slot) (fs : List Frame) (ws : List Word) → are_y has_y ws ≡ true
-    → grown_by (frame_with back has_y y ∷ fs) ws ≡ frame_with back has_y (held y ws) ∷ fs
+    → grown_by (frame_with back has_y y ∷ fs) ws ≡ frame_with back has_y (slots_with y ws) ∷ fs
 by_slots back has_y y fs [] h = refl
 by_slots back true y fs (word.Head other had_y below ∷ ws) h = absurd (false≢true h)
 by_slots back true y fs (word.Value t ∷ ws) h = by_slots back true (slot.Value t ∷ y) fs ws h
@@ -57,7 +57,7 @@ no_frames (word.Head back had_y below ∷ ws) h = absurd (false≢true h)
 no_frames (word.Value t ∷ ws) h = no_frames ws h
 no_frames (word.Tag tag ∷ ws) h = no_frames ws h
 
-length_held : (y : List Slot) (ws : List Word) → are_y true ws ≡ true → length (held y ws) ≡ length y + length ws
+length_held : (y : List Slot) (ws : List Word) → are_y true ws ≡ true → length (slots_with y ws) ≡ length y + length ws
 length_held y [] h = omega arith
 length_held y (word.Head back had_y below ∷ ws) h = absurd (false≢true h)
 length_held y (word.Value t ∷ ws) h = omega (arith, length_held (slot.Value t ∷ y) ws h)
@@ -70,7 +70,7 @@ linked_slots fs has_y (word.Value t ∷ ws) h = linked_slots (grown fs (word.Val
 linked_slots fs has_y (word.Tag tag ∷ ws) h = linked_slots (grown fs (word.Tag tag)) has_y ws (and_parts has_y (are_y has_y ws) h).1
 
 pub frames_top : (before : List Word) (back : Option Place) (has_y : Bool) (below : ℕ) (after : List Word) → are_y has_y after ≡ true
-    → frames_of (before ++ word.Head back has_y below ∷ after) ≡ frame_with back has_y (held [] after) ∷ frames_of before
+    → frames_of (before ++ word.Head back has_y below ∷ after) ≡ frame_with back has_y (slots_with [] after) ∷ frames_of before
 frames_top before back has_y below after slots =
     by_append [] before (word.Head back has_y below ∷ after) ∙ by_slots back has_y [] (frames_of before) after slots
 
@@ -100,7 +100,7 @@ whole_top : (before : List Word) (back : Option Place) (has_y : Bool) (below : �
     → words_of (frames_of (before ++ word.Head back has_y below ∷ after)) ≡ length (before ++ word.Head back has_y below ∷ after)
     → (words_of (frames_of before) ≡ length before) × (are_y has_y after ≡ true)
 whole_top before back true below after slots whole =
-    let counted : (1 + length (held [] after)) + words_of (frames_of before) ≡ length (before ++ word.Head back true below ∷ after) = sym (ap words_of (frames_top before back true below after slots)) ∙ whole in
+    let counted : (1 + length (slots_with [] after)) + words_of (frames_of before) ≡ length (before ++ word.Head back true below ∷ after) = sym (ap words_of (frames_top before back true below after slots)) ∙ whole in
     (omega (arith, counted, length_held [] after slots, length-append before (word.Head back true below ∷ after)), slots)
 whole_top before back false below after slots whole =
     let frames : frames_of (before ++ word.Head back false below ∷ after) ≡ frame_with back false [] ∷ frames_of before = by_append [] before (word.Head back false below ∷ after) ∙ lost back (frames_of before) after slots in
@@ -123,7 +123,7 @@ by_top P none some ws newest stack = at (top_of ws)
         subst (λ vs. P vs newest) (sym empty) (subst (λ n. P [] n) (sym first) none)
     at (inr top) =
         let parts : (words_of (frames_of top.before) ≡ length top.before) × (are_y top.has_y top.after ≡ true) = whole_top top.before top.back top.has_y top.below top.after top.slots (subst (λ vs. words_of (frames_of vs) ≡ length vs) top.is stack.whole) in
-        let frames : frames_of ws ≡ frame_with top.back top.has_y (held [] top.after) ∷ frames_of top.before = ap frames_of top.is ∙ frames_top top.before top.back top.has_y top.below top.after parts.1 in
+        let frames : frames_of ws ≡ frame_with top.back top.has_y (slots_with [] top.after) ∷ frames_of top.before = ap frames_of top.is ∙ frames_top top.before top.back top.has_y top.below top.after parts.1 in
         let place : newest ≡ length top.before = stack.begins ∙ ap (λ fs. words_of (older_than fs)) frames ∙ parts.0 in
         let there : P (top.before ++ word.Head top.back top.has_y top.below ∷ top.after) newest = subst (λ n. P (top.before ++ word.Head top.back top.has_y top.below ∷ top.after) n) (sym place) (some top.before top.back top.has_y top.below top.after parts.0 parts.1) in
         subst (λ vs. P vs newest) (sym top.is) there
@@ -140,10 +140,10 @@ stack_of before back has_y below after whole linked links slots = record {
       (and_from (below == y_count (frames_of before)) (are_linked (grown (frames_of before) (word.Head back has_y below)) after) links (linked_slots (grown (frames_of before) (word.Head back has_y below)) has_y after slots));
 }
   where
-    frames : frames_of (before ++ word.Head back has_y below ∷ after) ≡ frame_with back has_y (held [] after) ∷ frames_of before
+    frames : frames_of (before ++ word.Head back has_y below ∷ after) ≡ frame_with back has_y (slots_with [] after) ∷ frames_of before
     frames = frames_top before back has_y below after slots
 
-    counted : (b : Bool) → are_y b after ≡ true → words_in (if b then Some (held [] after) else None) + words_of (frames_of before) ≡ length before + suc (length after)
+    counted : (b : Bool) → are_y b after ≡ true → words_in (if b then Some (slots_with [] after) else None) + words_of (frames_of before) ≡ length before + suc (length after)
     counted true h = omega (arith, whole, length_held [] after h)
     counted false h = omega (arith, whole, ap length (none_after after h))
 

@@ -3,8 +3,8 @@ use Rattle.std.specs.Prelude.{ℕ, Bool, Option, Some, None}
 use Rattle.beam_term.specs.TermValue.{TermValue}
 use Rattle.beam_model.specs.Place.{Place}
 use Rattle.beam_machine.specs.declared.process.Tag.{Tag as CatchTag}
-use Rattle.beam_stack.specs.declared.word.Inside.{Inside}
-use Rattle.beam_stack.specs.declared.word.Inside.TheVariants as inside
+use Rattle.beam_stack.specs.declared.word.PackedWord.{PackedWord}
+use Rattle.beam_stack.specs.declared.word.PackedWord.TheVariants as inside
 
 pub data Word : Type 0 where
   -- a frame begins: its return place, whether it has y registers, and how many the frame below has
@@ -14,7 +14,7 @@ pub data Word : Type 0 where
   Tag : CatchTag → Word
 
 -- the word that is kept in fewer bytes
-abbrev pub word_in : Inside → Word
+abbrev pub word_in : PackedWord → Word
 word_in (inside.First has_y) = Head None has_y 0
 word_in (inside.Head has_y instance at below) = Head (Some (record { instance = instance; at = at })) has_y below
 word_in (inside.Value t) = Value t

@@ -62,11 +62,11 @@ tag_of_word (word.Tag tag) = Some tag
 tag_of_word w = None
 
 -- whether a word has nothing to be freed: a frame's head, a catch tag, an integer or []
-abbrev pub is_plain : Word → Bool
-is_plain (word.Value (int_term n)) = true
-is_plain (word.Value nil_term) = true
-is_plain (word.Value t) = false
-is_plain w = true
+abbrev pub needs_no_drop : Word → Bool
+needs_no_drop (word.Value (int_term n)) = true
+needs_no_drop (word.Value nil_term) = true
+needs_no_drop (word.Value t) = false
+needs_no_drop w = true
 
 -- the count of y registers of the frame below, which a head holds
 abbrev pub below_in : Option Word → ℕ
@@ -90,8 +90,8 @@ is_word_in number (word.Value t) = false
 is_word_in number (word.Tag tag) = is_in number tag.place
 
 -- y registers, and those of further words in front of them: the last word is y0
-abbrev pub held : List Slot → List Word → List Slot
-held y [] = y
-held y (word.Head back has_y below ∷ rest) = held y rest
-held y (word.Value t ∷ rest) = held (slot.Value t ∷ y) rest
-held y (word.Tag tag ∷ rest) = held (slot.Tag tag ∷ y) rest
+abbrev pub slots_with : List Slot → List Word → List Slot
+slots_with y [] = y
+slots_with y (word.Head back has_y below ∷ rest) = slots_with y rest
+slots_with y (word.Value t ∷ rest) = slots_with (slot.Value t ∷ y) rest
+slots_with y (word.Tag tag ∷ rest) = slots_with (slot.Tag tag ∷ y) rest

@@ -12,8 +12,8 @@ ghost use Rattle.beam_stack.specs.Words.{slot_in};
 
 use crate::walk::Walk;
 use crate::word::{
-    Head, Word, are_in, are_in_any, below_at, copy_words, drop_last, drop_words, head_at, keep,
-    mark_last, push_nils, push_word, tag_in, write_slot,
+    Head, Word, are_in, are_in_any, below_at, copy_words, drop_last, drop_words, head_at,
+    mark_last, push_nils, push_word, tag_in, truncate_words, write_slot,
 };
 use beam_machine::process::{Slot, Tag};
 use beam_model::place::Place;
@@ -220,7 +220,7 @@ impl Frames {
         ensures { self.new ≡ older_than self.old }
     {
         let below = below_at(&self.words, self.newest);
-        keep(&mut self.words, self.newest);
+        truncate_words(&mut self.words, self.newest);
         self.newest = self.newest.saturating_sub(1 + below as usize);
     }
 
@@ -271,7 +271,7 @@ impl Frames {
     pub fn drop_y(&mut self)
         ensures { self.new ≡ with_y self.old None }
     {
-        keep(&mut self.words, self.newest + 1);
+        truncate_words(&mut self.words, self.newest + 1);
         if !self.words.is_empty() {
             mark_last(&mut self.words, false);
         }
@@ -283,7 +283,7 @@ impl Frames {
         ensures { self.new ≡ with_y self.old (option_map (drop dropped) (newest_y self.old)) }
     {
         let remaining = self.words.len() - dropped as usize;
-        keep(&mut self.words, remaining);
+        truncate_words(&mut self.words, remaining);
     }
 
     /// Puts a slot into a y register of the newest frame, where it has one.

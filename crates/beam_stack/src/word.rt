@@ -7,7 +7,7 @@ ghost use Rattle.beam_machine.specs.Process.{value_in};
 ghost use Rattle.beam_machine.specs.Row.{tag_in};
 ghost use Rattle.beam_stack.specs.Word as word;
 ghost use Rattle.beam_stack.specs.Word.{Word as TheWord};
-ghost use Rattle.beam_stack.specs.Words.{word_of, marked, is_plain, is_word_in, held, below_in, head_in, slot_in, tag_of_word};
+ghost use Rattle.beam_stack.specs.Words.{word_of, marked, needs_no_drop, is_word_in, slots_with, below_in, head_in, slot_in, tag_of_word};
 
 use beam_machine::process::{Slot, Slots, Tag};
 use beam_model::place::Place;
@@ -19,7 +19,7 @@ use std::mem;
 
 /// The content of a word. Places are spelled out in it, so that it has 24 bytes.
 #[derive(Drop)]
-enum Inside {
+enum PackedWord {
     First {
         has_y: bool,
     },
@@ -39,7 +39,7 @@ enum Inside {
 
 /// A word of a stack: a frame begins, or a y register of the frame, of which the last is y0.
 pub struct Word {
-    inside: Inside,
+    inside: PackedWord,
 }
 
 impl Drop for Word {
@@ -76,7 +76,7 @@ impl Word {
     pub(crate) fn first() -> Word
         ensures { result ≡ word.Head None false 0 }
     {
-        let inside = Inside::First { has_y: false };
+        let inside = PackedWord::First { has_y: false };
         Word { inside }
     }
 
@@ -84,7 +84,7 @@ impl Word {
     pub(crate) fn head(back: Place, below: u32) -> Word
         ensures { result ≡ word.Head (Some back) false below }
     {
-        let inside = Inside::Head {
+        let inside = PackedWord::Head {
             instance: back.instance(),
             at: back.at(),
             below,
@@ -98,8 +98,8 @@ impl Word {
         ensures { result ≡ word_of slot }
     {
         let inside = match slot {
-            Slot::Value(value) => Inside::Value(value),
-            Slot::Tag(Tag { label, place }) => Inside::Tag {
+            Slot::Value(value) => PackedWord::Value(value),
+            Slot::Tag(Tag { label, place }) => PackedWord::Tag {
                 label,
                 instance: place.instance(),
                 at: place.at(),
@@ -113,8 +113,8 @@ impl Word {
         ensures { self.new ≡ marked flag self.old }
     {
         match &mut self.inside {
-            Inside::First { has_y } => *has_y = flag,
-            Inside::Head { has_y, .. } => *has_y = flag,
+            PackedWord::First { has_y } => *has_y = flag,
+            PackedWord::Head { has_y, .. } => *has_y = flag,
             _ => (),
         }
     }
@@ -125,8 +125,8 @@ impl Word {
         ensures { self.new ≡ word.Value value }
     {
         match &mut self.inside {
-            Inside::Value(held) => let_go_of(mem::replace(held, value)),
-            inside => *inside = Inside::Value(value),
+            PackedWord::Value(held) => let_go_of(mem::replace(held, value)),
+            inside => *inside = PackedWord::Value(value),
         }
     }
 
@@ -135,12 +135,12 @@ impl Word {
         ensures { result ≡ head_in (Some self.now) }
     {
         match &self.inside {
-            Inside::First { has_y } => Some(Head {
+            PackedWord::First { has_y } => Some(Head {
                 back: None,
                 has_y: *has_y,
                 below: 0,
             }),
-            Inside::Head {
+            PackedWord::Head {
                 instance,
                 at,
                 below,
@@ -159,7 +159,7 @@ impl Word {
         ensures { option_copied result ≡ value_in (slot_in self.now) }
     {
         match &self.inside {
-            Inside::Value(value) => Some(value),
+            PackedWord::Value(value) => Some(value),
             _ => None,
         }
     }
@@ -171,7 +171,7 @@ impl Word {
         ensures { value_in (slot_in self.now) ≡ Some result.now }
     {
         match &self.inside {
-            Inside::Value(value) => value,
+            PackedWord::Value(value) => value,
             _ => unreachable!(),
         }
     }
@@ -181,7 +181,7 @@ impl Word {
         ensures { result ≡ tag_of_word self.now }
     {
         match &self.inside {
-            Inside::Tag {
+            PackedWord::Tag {
                 label,
                 instance,
                 at,
@@ -198,10 +198,10 @@ impl Word {
         ensures { result ≡ is_word_in number self.now }
     {
         match &self.inside {
-            Inside::First { .. } => false,
-            Inside::Head { instance, .. } => *instance == number,
-            Inside::Value(_) => false,
-            Inside::Tag { instance, .. } => *instance == number,
+            PackedWord::First { .. } => false,
+            PackedWord::Head { instance, .. } => *instance == number,
+            PackedWord::Value(_) => false,
+            PackedWord::Tag { instance, .. } => *instance == number,
         }
     }
 
@@ -210,10 +210,10 @@ impl Word {
         ensures { result ≡ list_any (λ n. is_word_in n self.now) numbers.now.keys }
     {
         match &self.inside {
-            Inside::First { .. } => false,
-            Inside::Head { instance, .. } => numbers.contains(instance),
-            Inside::Value(_) => false,
-            Inside::Tag { instance, .. } => numbers.contains(instance),
+            PackedWord::First { .. } => false,
+            PackedWord::Head { instance, .. } => numbers.contains(instance),
+            PackedWord::Value(_) => false,
+            PackedWord::Tag { instance, .. } => numbers.contains(instance),
         }
     }
 
@@ -223,28 +223,28 @@ impl Word {
         ensures { IfSome result (λ copy. copy ≡ self.now) }
     {
         let inside = match &self.inside {
-            Inside::First { has_y } => Inside::First { has_y: *has_y },
-            Inside::Head {
+            PackedWord::First { has_y } => PackedWord::First { has_y: *has_y },
+            PackedWord::Head {
                 has_y,
                 instance,
                 at,
                 below,
-            } => Inside::Head {
+            } => PackedWord::Head {
                 has_y: *has_y,
                 instance: *instance,
                 at: *at,
                 below: *below,
             },
-            Inside::Value(value) => match value.view() {
-                TermView::Integer(n) => Inside::Value(Term::integer(n)),
-                TermView::Nil => Inside::Value(Term::nil()),
+            PackedWord::Value(value) => match value.view() {
+                TermView::Integer(n) => PackedWord::Value(Term::integer(n)),
+                TermView::Nil => PackedWord::Value(Term::nil()),
                 _ => return None,
             },
-            Inside::Tag {
+            PackedWord::Tag {
                 label,
                 instance,
                 at,
-            } => Inside::Tag {
+            } => PackedWord::Tag {
                 label: *label,
                 instance: *instance,
                 at: *at,
@@ -255,11 +255,14 @@ impl Word {
 
     /// Whether it has nothing to be freed: it is no value, or an integer or `[]`.
     #[inline(always)]
-    fn is_plain(&self) -> bool
-        ensures { result ≡ is_plain self.now }
+    fn needs_no_drop(&self) -> bool
+        ensures { result ≡ needs_no_drop self.now }
     {
         match &self.inside {
-            Inside::Value(value) => matches!(value.view(), TermView::Integer(_) | TermView::Nil),
+            PackedWord::Value(value) => matches!(
+                value.view(),
+                TermView::Integer(_) | TermView::Nil
+            ),
             _ => true,
         }
     }
@@ -270,24 +273,24 @@ impl Word {
         ensures { IfOk result (λ copy. copy ≡ self.now) }
     {
         let inside = match &self.inside {
-            Inside::First { has_y } => Inside::First { has_y: *has_y },
-            Inside::Head {
+            PackedWord::First { has_y } => PackedWord::First { has_y: *has_y },
+            PackedWord::Head {
                 instance,
                 at,
                 below,
                 has_y,
-            } => Inside::Head {
+            } => PackedWord::Head {
                 instance: *instance,
                 at: *at,
                 below: *below,
                 has_y: *has_y,
             },
-            Inside::Value(value) => Inside::Value(value.clone()?),
-            Inside::Tag {
+            PackedWord::Value(value) => PackedWord::Value(value.clone()?),
+            PackedWord::Tag {
                 label,
                 instance,
                 at,
-            } => Inside::Tag {
+            } => PackedWord::Tag {
                 label: *label,
                 instance: *instance,
                 at: *at,
@@ -301,8 +304,8 @@ impl Word {
         ensures { IfOk result (λ slot. slot ≡ slot_in self.now) }
     {
         match &self.inside {
-            Inside::Value(value) => Ok(Some(Slot::Value(value.clone()?))),
-            Inside::Tag {
+            PackedWord::Value(value) => Ok(Some(Slot::Value(value.clone()?))),
+            PackedWord::Tag {
                 label,
                 instance,
                 at,
@@ -359,7 +362,7 @@ pub(crate) fn push_nils(words: &mut Vec<Word>, count: u32)
 /// The first catch tag of y registers, of which the last is y0.
 #[tactic(auto, using(crate::proofs::Lists::held_last))]
 pub(crate) fn tag_in(words: &[Word]) -> Option<Tag>
-    ensures { result ≡ tag_in (held [] words.now) }
+    ensures { result ≡ tag_in (slots_with [] words.now) }
 {
     let mut rest = words;
     while let Some((word, more)) = rest.split_last() {
@@ -420,7 +423,7 @@ pub(crate) fn copy_words(alloc: Global, words: &[Word]) -> Result<Vec<Word>, All
 /// The y registers that words are, in new slots: the last word is y0.
 #[tactic(auto, using(crate::proofs::Lists::held_last))]
 pub(crate) fn copy_slots(alloc: Global, words: &[Word]) -> Result<Slots, AllocError>
-    ensures { IfOk result (λ slots. slots ≡ held [] words.now) }
+    ensures { IfOk result (λ slots. slots ≡ slots_with [] words.now) }
 {
     let mut slots = Vec::with_capacity(alloc, words.len())?;
     let mut rest = words;
@@ -436,8 +439,8 @@ pub(crate) fn copy_slots(alloc: Global, words: &[Word]) -> Result<Slots, AllocEr
 /// Drops a term. Most have nothing to be freed.
 #[inline(always)]
 fn let_go_of(term: Term) {
-    let is_plain = matches!(term.view(), TermView::Integer(_) | TermView::Nil);
-    if is_plain {
+    let needs_no_drop = matches!(term.view(), TermView::Integer(_) | TermView::Nil);
+    if needs_no_drop {
         mem::forget(term);
     } else {
         drop(term);
@@ -447,7 +450,7 @@ fn let_go_of(term: Term) {
 /// Drops a word. Most have nothing to be freed.
 #[inline(always)]
 fn let_go(word: Word) {
-    if word.is_plain() {
+    if word.needs_no_drop() {
         mem::forget(word);
     } else {
         drop(word);
@@ -456,7 +459,7 @@ fn let_go(word: Word) {
 
 /// Drops the words after the first `count`, the last one first.
 #[inline(always)]
-pub(crate) fn keep(words: &mut Vec<Word>, count: usize)
+pub(crate) fn truncate_words(words: &mut Vec<Word>, count: usize)
     ensures { words.new.items ≡ take count words.old.items }
 {
     while words.len() > count {
@@ -501,5 +504,5 @@ pub(crate) fn write_slot(words: &mut Vec<Word>, at: usize, slot: Slot)
 /// Drops words, the last one first.
 pub(crate) fn drop_words(words: Vec<Word>) {
     let mut words = words;
-    keep(&mut words, 0);
+    truncate_words(&mut words, 0);
 }

@@ -20,12 +20,12 @@ use Rattle.beam_machine.specs.Row.{answers}
 use Rattle.beam_machine.specs.State.{process_of, with_process, with_made}
 use Rattle.beam_laws.proofs.Hearing.{hears}
 use Rattle.beam_proc.specs.Does.{Does}
-use Rattle.beam_proc.specs.Prepared.{reason_of}
+use Rattle.beam_proc.specs.Continuation.{reason_of}
 use Rattle.beam_proc.proofs.Lasting.{end_if, ends_after}
-use Rattle.beam_proc.proofs.Undone.{drops_alike}
+use Rattle.beam_proc.proofs.UndoneSteps.{drops_alike}
 use Rattle.beam_stack.specs.Frames.{back_of, first_tag}
 use Rattle.beam_state.specs.Asking.{IsAsking, AreRead, EndsAfter, AnswersNative, MadeBy, CanDrop, bare_if}
-use Rattle.beam_state.specs.Gives.{Makes, is_make_ref}
+use Rattle.beam_state.specs.Returns.{ReturnsCounting, is_make_ref}
 use Rattle.beam_state.specs.Parts.{then_at}
 use Rattle.beam_state.proofs.Answering.{Answered, answered, made_stands, made_quietly, set_process, set_same}
 use Rattle.beam_state.proofs.Asked.{Runs, runs_found, read_runs, says, said, within}
@@ -133,7 +133,7 @@ module _ {at pid : ℕ} {slots : Option ℕ} {after : After} {ps : List Process}
     fault_answers f (Ok then) new e h = made_answers (Err f) references new then (fault_gives f e) h
 
     -- a native with a fault left the processes and the count of references as they were
-    pub fault_left : (f : Fault) (mid : List Process) (count : ℕ) → Makes references ps given (Ok (Err f)) count mid → (mid ≡ ps) × (count ≡ references)
+    pub fault_left : (f : Fault) (mid : List Process) (count : ℕ) → ReturnsCounting references ps given (Ok (Err f)) count mid → (mid ≡ ps) × (count ≡ references)
     fault_left f mid count m =
         let l = fault_leaves references ps pid native arguments f m.1 in
         (sym m.0 ∙ l.0, sym m.2 ∙ ap (λ o. unwrap_or o references) l.1)

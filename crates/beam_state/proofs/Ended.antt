@@ -15,9 +15,9 @@ use Rattle.beam_laws.proofs.Orderly.{Orderly}
 use Rattle.beam_proc.specs.Does.{DoesAtOnce}
 use Rattle.beam_state.specs.Asking.{MadeBy}
 use Rattle.beam_state.specs.Indexed.{GoesOnFrom}
-use Rattle.beam_state.specs.Watching.{WatchNoMore}
+use Rattle.beam_state.specs.MonitorKeys.{MonitorNoMore}
 use Rattle.beam_state.proofs.Keeping.{stays_on}
-use Rattle.beam_state.proofs.Watching.{none_more}
+use Rattle.beam_state.proofs.MonitorKeys.{none_more}
 use Rattle.beam_state.specs.Parts.{then_at}
 use Rattle.beam_codesrv.specs.Posting.{all_taken}
 use Rattle.beam_state.specs.Posting.{notices_of}
@@ -33,7 +33,7 @@ ended_keeps p q reason value (Ok said) h = (
   (λ name e.
       let none : None ≡ Some name = ap (λ (q : Process). q.name) (sym h.0) ∙ e in
       cc),
-  subst (λ (q : Process). WatchNoMore p.monitors q.monitors) (sym h.0) (none_more p.monitors),
+  subst (λ (q : Process). MonitorNoMore p.monitors q.monitors) (sym h.0) (none_more p.monitors),
 )
 ended_keeps p q reason value (Err refused) h = stays_on p q h
 

@@ -6,8 +6,8 @@ use Rattle.std.proofs.lemmas.Option.{slice_get-get_or}
 use Rattle.std.specs.Prelude.{Option, Some, None, option_map, option_and_then, unwrap_or}
 use Rattle.std.specs.Cmp.Lexicographic.{nat_list_eq_equiv}
 use Rattle.std.proofs.lemmas.Slice.Eq.{bytes_eq-Decides}
-use Rattle.beam_agenda.specs.declared.entry.Entry.{Entry}
-use Rattle.beam_agenda.specs.Entries.{lesser, is_due_by}
+use Rattle.beam_agenda.specs.declared.entry.AgendaEntry.{AgendaEntry}
+use Rattle.beam_agenda.specs.Entries.{earlier, is_due_by}
 use Rattle.beam_agenda.specs.First.{first_of, first_ready as first_entry, least_time, with_position, least_due}
 use Rattle.beam_machine.specs.declared.process.Deadline.{Deadline}
 use Rattle.beam_machine.specs.Process.{Process, is_waiting}
@@ -51,14 +51,14 @@ one_named (q ∷ ps) name (suc i) p e named h =
 same_index : (i j : ℕ) → Some i ≡ Some j → i ≡ j
 same_index i j e = ap (λ o. unwrap_or o i) e
 
-pub none_found : (find : List ℕ → Option ℕ) (agenda : List Entry) (ps : List Process) (name : List ℕ) → IsIndexed find agenda ps → None ≡ find name → None ≡ registered ps name
+pub none_found : (find : List ℕ → Option ℕ) (agenda : List AgendaEntry) (ps : List Process) (name : List ℕ) → IsIndexed find agenda ps → None ≡ find name → None ≡ registered ps name
 unfolding IsIndexed
 none_found find agenda ps name h e = sym (none_named ps name (λ i p there named. far i (e ∙ h.1 i p name there named)))
   where
     far : (i : ℕ) → None ≡ Some i → ⊥
     far i e = cc
 
-pub one_found : (find : List ℕ → Option ℕ) (agenda : List Entry) (ps : List Process) (name : List ℕ) (i : ℕ) → IsIndexed find agenda ps → Some i ≡ find name
+pub one_found : (find : List ℕ → Option ℕ) (agenda : List AgendaEntry) (ps : List Process) (name : List ℕ) (i : ℕ) → IsIndexed find agenda ps → Some i ≡ find name
     → if_named name (slice_get ps i) ≡ registered ps name
 unfolding IsIndexed
 one_found find agenda ps name i h e = at (slice_get ps i) refl
@@ -111,7 +111,7 @@ behind : (from : ℕ) (ps : List Process) (o : Option ℕ) → option_and_then (
 behind from ps None = refl
 behind from ps (Some n) = ap (option_map (λ p. p.pid)) (got_behind from ps n)
 
-pub ready_is : (find : List ℕ → Option ℕ) (agenda : List Entry) (ps : List Process) (from : ℕ) → IsIndexed find agenda ps
+pub ready_is : (find : List ℕ → Option ℕ) (agenda : List AgendaEntry) (ps : List Process) (from : ℕ) → IsIndexed find agenda ps
     → option_and_then (pid_at ps) (first_entry from agenda) ≡ ready_after from ps
 unfolding IsIndexed
 ready_is find agenda ps from h =
@@ -136,10 +136,10 @@ due_is p = at (is_waiting p.status) p.deadline
 times : (ps : List Process) → least_time (map entry_of ps) ≡ option_map (λ a. a.0) (next_deadline ps)
 times [] = refl
 times (p ∷ ps) =
-    ap (lesser (due_time p.status p.deadline)) (times ps)
+    ap (earlier (due_time p.status p.deadline)) (times ps)
     ∙ (at (due_time p.status p.deadline) (next_deadline ps) ∙ ap (λ d. option_map (λ a. a.0) (sooner d (next_deadline ps))) (sym (due_is p)))
   where
-    at : (d : Option ℕ) (o : Option (ℕ × ℕ)) → lesser d (option_map (λ a. a.0) o) ≡ option_map (λ a. a.0) (sooner (option_map (λ t. (t, p.pid)) d) o)
+    at : (d : Option ℕ) (o : Option (ℕ × ℕ)) → earlier d (option_map (λ a. a.0) o) ≡ option_map (λ a. a.0) (sooner (option_map (λ t. (t, p.pid)) d) o)
     at None o = refl
     at (Some t) None = refl
     at (Some t) (Some a) = elim (nat_le t a.0) as (λ b. cond b (Some t) (Some a.0) ≡ option_map (λ a. a.0) (cond b (Some (t, p.pid)) (Some a))) [ true ↦ refl | false ↦ refl ]
@@ -166,10 +166,10 @@ next_is [] = refl
 next_is (p ∷ ps) =
     ap (λ d. sooner d (next_deadline ps)) (due_is p)
     ∙ (at (due_time p.status p.deadline) refl (next_deadline ps) (next_is ps ∙ ap (λ t. option_and_then (time_at ps) (with_position (map entry_of ps) t)) (times ps))
-    ∙ ap (λ t. option_and_then (time_at (p ∷ ps)) (with_position (map entry_of (p ∷ ps)) (lesser (due_time p.status p.deadline) t))) (sym (times ps)))
+    ∙ ap (λ t. option_and_then (time_at (p ∷ ps)) (with_position (map entry_of (p ∷ ps)) (earlier (due_time p.status p.deadline) t))) (sym (times ps)))
   where
     at : (d : Option ℕ) → due_time p.status p.deadline ≡ d → (o : Option (ℕ × ℕ)) → o ≡ option_and_then (time_at ps) (with_position (map entry_of ps) (option_map (λ a. a.0) o))
-        → sooner (option_map (λ t. (t, p.pid)) d) o ≡ option_and_then (time_at (p ∷ ps)) (with_position (map entry_of (p ∷ ps)) (lesser d (option_map (λ a. a.0) o)))
+        → sooner (option_map (λ t. (t, p.pid)) d) o ≡ option_and_then (time_at (p ∷ ps)) (with_position (map entry_of (p ∷ ps)) (earlier d (option_map (λ a. a.0) o)))
     at None e None h = refl
     at None e (Some a) h = h ∙ sym (later p ps a.0 (ap (is_due_by a.0) e))
     at (Some t) e None h = sym (here p ps t (ap (is_due_by t) e ∙ itself t))
@@ -179,7 +179,7 @@ next_is (p ∷ ps) =
         by true f = sym (here p ps t (ap (is_due_by t) e ∙ itself t))
         by false f = h ∙ sym (later p ps a.0 (ap (is_due_by a.0) e ∙ f))
 
-pub deadline_is : (find : List ℕ → Option ℕ) (agenda : List Entry) (ps : List Process) → IsIndexed find agenda ps → option_and_then (time_at ps) (least_due agenda) ≡ next_deadline ps
+pub deadline_is : (find : List ℕ → Option ℕ) (agenda : List AgendaEntry) (ps : List Process) → IsIndexed find agenda ps → option_and_then (time_at ps) (least_due agenda) ≡ next_deadline ps
 unfolding IsIndexed
 deadline_is find agenda ps h = ap (λ es. option_and_then (time_at ps) (least_due es)) h.0 ∙ sym (next_is ps)
 

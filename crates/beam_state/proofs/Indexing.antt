@@ -5,10 +5,10 @@ use Rattle.std.proofs.lemmas.Option.{slice_get-map}
 use Rattle.std.specs.Prelude.{Option, Some, None, Result, Ok, Err, IfOk, OnErr, option_map, slice_set, unwrap_or, flat_map}
 use Rattle.std.specs.Cmp.Lexicographic.{nat_list_eq_equiv}
 use Rattle.std.proofs.lemmas.Slice.Eq.{bytes_eq-Decides}
-use Rattle.beam_agenda.specs.declared.entry.Entry.{Entry}
+use Rattle.beam_agenda.specs.declared.entry.AgendaEntry.{AgendaEntry}
 use Rattle.beam_machine.specs.declared.event.Event.{Event}
 use Rattle.beam_machine.specs.declared.event.Event.TheVariants as event
-use Rattle.beam_machine.specs.declared.event.Mode.{Mode}
+use Rattle.beam_machine.specs.declared.event.UpgradeMode.{UpgradeMode}
 use Rattle.std.specs.declared.alloc.AllocError.{AllocError}
 use Rattle.beam_machine.specs.declared.event.Reply.TheVariants.{Changed}
 use Rattle.beam_machine.specs.declared.event.Refused.TheVariants.{NoMemory, Sticky, TooMany}
@@ -25,8 +25,8 @@ use Rattle.beam_laws.proofs.Hearing.{as_before}
 use Rattle.beam_model.specs.SameText.{same_text}
 use Rattle.beam_laws.proofs.Loads.{kept as loads_keep}
 use Rattle.beam_state.specs.Indexed.{entry_of, IsIndexed, KeepsName, GoesOnFrom}
-use Rattle.beam_state.specs.Watching.{is_watched_by, AreWatchedIf}
-use Rattle.beam_state.proofs.Watching.{no_more, none_more, all_watched, watched_if}
+use Rattle.beam_state.specs.MonitorKeys.{is_monitored_by, AreMonitorsKeyedIf}
+use Rattle.beam_state.proofs.MonitorKeys.{no_more, none_more, all_monitored, monitored_if}
 
 abbrev pub Find : Type 0
 Find = List ℕ → Option ℕ
@@ -35,12 +35,12 @@ pub no_indexes : (find : Find) → IsIndexed find [] []
 unfolding IsIndexed
 no_indexes find = (refl, λ i p name e f. cc)
 
-pub entries_are : (find : Find) (agenda : List Entry) (ps : List Process) → IsIndexed find agenda ps → agenda ≡ map entry_of ps
+pub entries_are : (find : Find) (agenda : List AgendaEntry) (ps : List Process) → IsIndexed find agenda ps → agenda ≡ map entry_of ps
 unfolding IsIndexed
 entries_are find agenda ps h = h.0
 
-pub as_many : (find : Find) (agenda : List Entry) (ps : List Process) → IsIndexed find agenda ps → length agenda ≡ length ps
-as_many find agenda ps h = ap (λ (es : List Entry). length es) (entries_are find agenda ps h) ∙ length-map ps entry_of
+pub as_many : (find : Find) (agenda : List AgendaEntry) (ps : List Process) → IsIndexed find agenda ps → length agenda ≡ length ps
+as_many find agenda ps h = ap (λ (es : List AgendaEntry). length es) (entries_are find agenda ps h) ∙ length-map ps entry_of
 
 is_there : (p q : Process) → Some p ≡ Some q → p ≡ q
 is_there p q e = ap (λ o. unwrap_or o p) e
@@ -54,7 +54,7 @@ got (p ∷ ps) zero (suc j) q r e f g = g e
 got (p ∷ ps) (suc i) zero q r e f g = g e
 got (p ∷ ps) (suc i) (suc j) q r e f g = got ps i j q r e (λ s. f (ap suc s)) g
 
-pub changed_indexed : (find : Find) (agenda : List Entry) (ps : List Process) (i : ℕ) (p q : Process) → IsIndexed find agenda ps → slice_get ps i ≡ Some p → KeepsName p q
+pub changed_indexed : (find : Find) (agenda : List AgendaEntry) (ps : List Process) (i : ℕ) (p q : Process) → IsIndexed find agenda ps → slice_get ps i ≡ Some p → KeepsName p q
     → IsIndexed find (slice_set agenda i (entry_of q)) (slice_set ps i q)
 unfolding IsIndexed
 changed_indexed find agenda ps i p q h there keeps = (
@@ -75,7 +75,7 @@ pushed (p ∷ ps) (suc j) x r e f g = pushed ps j x r e f g
 nameless : {C : Type 0} (name : List ℕ) → None ≡ Some name → C
 nameless name e = cc
 
-pub pushed_indexed : (find : Find) (agenda : List Entry) (ps : List Process) (x : Process) → IsIndexed find agenda ps → x.name ≡ None
+pub pushed_indexed : (find : Find) (agenda : List AgendaEntry) (ps : List Process) (x : Process) → IsIndexed find agenda ps → x.name ≡ None
     → IsIndexed find (agenda ++ entry_of x ∷ []) (ps ++ x ∷ [])
 unfolding IsIndexed
 pushed_indexed find agenda ps x h new = (
@@ -103,7 +103,7 @@ unregistered (p ∷ ps) name (suc j) q h e g =
 abbrev pub Adds : Find → List ℕ → ℕ → Find → Type 0
 Adds find name i new = (m : List ℕ) → new m ≡ cond (same_text name m) (Some i) (find m)
 
-pub named_indexed : (find new : Find) (agenda : List Entry) (ps : List Process) (i : ℕ) (p : Process) (name : List ℕ)
+pub named_indexed : (find new : Find) (agenda : List AgendaEntry) (ps : List Process) (i : ℕ) (p : Process) (name : List ℕ)
     → IsIndexed find agenda ps → slice_get ps i ≡ Some p → registered ps name ≡ None → Adds find name i new
     → IsIndexed new (slice_set agenda i (entry_of (record p { name = Some name }))) (slice_set ps i (record p { name = Some name }))
 unfolding IsIndexed
@@ -131,16 +131,16 @@ goes_on_same p = ((λ name f. f), no_more p.monitors)
 abbrev pub KeepNames : List Process → List Process → Type 0
 KeepNames ps qs = (i : ℕ) (q : Process) → slice_get qs i ≡ Some q → (p : Process) × ((slice_get ps i ≡ Some p) × GoesOnFrom p q)
 
-pub all_indexed : (find : Find) (agenda : List Entry) (ps qs : List Process) → IsIndexed find agenda ps → KeepNames ps qs → IsIndexed find (map entry_of qs) qs
+pub all_indexed : (find : Find) (agenda : List AgendaEntry) (ps qs : List Process) → IsIndexed find agenda ps → KeepNames ps qs → IsIndexed find (map entry_of qs) qs
 unfolding IsIndexed
 all_indexed find agenda ps qs h keep = (
   refl,
   λ i q name e named. let a = keep i q e in h.1 i a.0 name a.1.0 (a.1.1.0 name named),
 )
 
-pub all_watched_if : (complete : Bool) (keys : List ℕ) (ps qs : List Process) → KeepNames ps qs → AreWatchedIf complete keys ps → AreWatchedIf complete keys qs
-all_watched_if complete keys ps qs keep h =
-    watched_if complete keys keys ps qs (λ w. all_watched keys ps qs (λ i q e. let a = keep i q e in (a.0, (a.1.0, a.1.1.1))) w) h
+pub all_monitored_if : (complete : Bool) (keys : List ℕ) (ps qs : List Process) → KeepNames ps qs → AreMonitorsKeyedIf complete keys ps → AreMonitorsKeyedIf complete keys qs
+all_monitored_if complete keys ps qs keep h =
+    monitored_if complete keys keys ps qs (λ w. all_monitored keys ps qs (λ i q e. let a = keep i q e in (a.0, (a.1.0, a.1.1.1))) w) h
 
 unchanged : (ps : List Process) → KeepNames ps ps
 unchanged ps = λ i q e. (q, (e, goes_on_same q))
@@ -155,7 +155,7 @@ ending_keeps test pids p = by (test p)
     by true = ((λ name e. cc), none_more p.monitors)
     by false = (
       (λ name e. sym (as_before (λ p. p.name) signals p refl) ∙ e),
-      λ w n e. subst (λ ms. is_watched_by w n ms ≡ true) (as_before (λ p. p.monitors) signals p refl) e,
+      λ w n e. subst (λ ms. is_monitored_by w n ms ≡ true) (as_before (λ p. p.monitors) signals p refl) e,
     )
 
 pub killing_keeps : (test : Process → Bool) (ps : List Process) → KeepNames ps (killing test ps)
@@ -195,7 +195,7 @@ module _ (e : Event Listing) (uncut : (a : Answer) → cut_event e a ≡ e) (s t
 pub loaded_keeps : (s t : State) (l : Listing) (a : Answer) → Answers s (event.Load l) a t → KeepNames s.processes t.processes
 loaded_keeps s t l a h = change_keeps (event.Load l) (λ a. refl) s t (load_keeps s l) a h
 
-pub upgraded_keeps : (s t : State) (mode : Mode) (ls : List Listing) (a : Answer) → Answers s (event.AtomicLoad mode ls) a t → KeepNames s.processes t.processes
+pub upgraded_keeps : (s t : State) (mode : UpgradeMode) (ls : List Listing) (a : Answer) → Answers s (event.AtomicLoad mode ls) a t → KeepNames s.processes t.processes
 upgraded_keeps s t mode ls a h =
     let kept =
     loads_keep (λ u. KeepNames s.processes u.processes)

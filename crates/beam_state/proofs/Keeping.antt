@@ -4,7 +4,7 @@ use Rattle.std.proofs.lemmas.List.{length-map}
 use Rattle.std.proofs.lemmas.Option.{slice_get-map}
 use Rattle.std.specs.Prelude.{option_map, Option, Some, None, Result, Ok, Err, slice_set, codes, is_ok, IfSome, OnOk, OnErr}
 use Rattle.std.specs.declared.alloc.AllocError.{AllocError}
-use Rattle.beam_agenda.specs.declared.entry.Entry.{Entry}
+use Rattle.beam_agenda.specs.declared.entry.AgendaEntry.{AgendaEntry}
 use Rattle.beam_term.specs.TermValue.{TermValue, atom_term, nil_term}
 use Rattle.beam_model.specs.declared.exception.Exception.{Exception}
 use Rattle.beam_model.specs.SameText.{same_text}
@@ -24,16 +24,16 @@ use Rattle.beam_laws.proofs.Monitoring.{all_are, none_are, fewer_are, delivered_
 use Rattle.beam_proc.specs.Does.{Does}
 use Rattle.beam_state.specs.Asking.{bare_if}
 use Rattle.beam_state.specs.Indexed.{entry_of, IsIndexed, KeepsName, GoesOnFrom}
-use Rattle.beam_state.specs.Watching.{WatchNoMore, IsKeyed, AreKeyed, AreWatched, AreWatchedIf, has_key}
-use Rattle.beam_state.specs.Gives.{watched}
-use Rattle.beam_state.proofs.Watching.{no_more, part_fewer, watched_if, fewer_watched, set_watched, push_watched, kept_watched, more_keyed, fewer_keyed, added_if}
+use Rattle.beam_state.specs.MonitorKeys.{MonitorNoMore, IsKeyed, AreKeyed, AreMonitorsKeyed, AreMonitorsKeyedIf, has_key}
+use Rattle.beam_state.specs.Returns.{with_monitor}
+use Rattle.beam_state.proofs.MonitorKeys.{no_more, part_fewer, monitored_if, fewer_monitored, set_monitored, push_monitored, kept_monitored, more_keyed, fewer_keyed, added_if}
 use Rattle.beam_state.proofs.Indexing.{Find, as_many, changed_indexed, pushed_indexed}
 use Rattle.beam_state.proofs.Finding.{there}
 use Rattle.beam_state.proofs.Located.{put_back}
 
 -- ---- the list
 
-pub agenda_within : (find : Find) (agenda : List Entry) (ps now : List Process) (i : ℕ) → ps ≡ now → IsIndexed find agenda ps → i < length now → i < length agenda
+pub agenda_within : (find : Find) (agenda : List AgendaEntry) (ps now : List Process) (i : ℕ) → ps ≡ now → IsIndexed find agenda ps → i < length now → i < length agenda
 agenda_within find agenda ps now i e h l =
     let same : length ps ≡ length now = ap (λ (ps : List Process). length ps) e in
     omega (arith, as_many find agenda ps h, same, l)
@@ -43,7 +43,7 @@ items_within ps now i e l =
     let same : length ps ≡ length now = ap (λ (ps : List Process). length ps) e in
     omega (arith, same, l)
 
-pub keeps_indexed : (find : Find) (agenda after : List Entry) (ps now : List Process) (i : ℕ) (p q : Process) (e : Entry)
+pub keeps_indexed : (find : Find) (agenda after : List AgendaEntry) (ps now : List Process) (i : ℕ) (p q : Process) (e : AgendaEntry)
     → ps ≡ now → i < length now → p ≡ get_or ps i p → KeepsName p q → e ≡ entry_of q → after ≡ slice_set agenda i e → IsIndexed find agenda ps
     → IsIndexed find after (slice_set ps i q)
 keeps_indexed find agenda after ps now i p q e view l g keeps is set h =
@@ -51,58 +51,58 @@ keeps_indexed find agenda after ps now i p q e view l g keeps is set h =
     (changed_indexed find agenda ps i p q h (there ps i p (items_within ps now i view l) g) keeps)
 
 -- a process is replaced by one that has no monitors but the first one's
-pub keeps_watched : (complete : Bool) (keys : List ℕ) (ps now : List Process) (i : ℕ) (p q : Process) → ps ≡ now → i < length now → p ≡ get_or ps i p → WatchNoMore p.monitors q.monitors → AreWatchedIf complete keys ps
-    → AreWatchedIf complete keys (slice_set ps i q)
-keeps_watched complete keys ps now i p q view l g fewer h =
-    watched_if complete keys keys ps (slice_set ps i q) (fewer_watched keys ps i p q (there ps i p (items_within ps now i view l) g) fewer) h
+pub keeps_monitored : (complete : Bool) (keys : List ℕ) (ps now : List Process) (i : ℕ) (p q : Process) → ps ≡ now → i < length now → p ≡ get_or ps i p → MonitorNoMore p.monitors q.monitors → AreMonitorsKeyedIf complete keys ps
+    → AreMonitorsKeyedIf complete keys (slice_set ps i q)
+keeps_monitored complete keys ps now i p q view l g fewer h =
+    monitored_if complete keys keys ps (slice_set ps i q) (fewer_monitored keys ps i p q (there ps i p (items_within ps now i view l) g) fewer) h
 
 -- keys are added, and a process is replaced by one whose monitors are all among the keys
-pub puts_watched : (before complete : Bool) (old new : List ℕ) (ps : List Process) (i receiver : ℕ) (q : Process) → receiver ≡ i + 1 → ((key : ℕ) → has_key old key ≡ true → has_key new key ≡ true)
-    → (complete ≡ true → (before ≡ true) × AreKeyed new receiver q.monitors) → AreWatchedIf before old ps → AreWatchedIf complete new (slice_set ps i q)
-puts_watched before complete old new ps i receiver q located more keyed h =
+pub puts_monitored : (before complete : Bool) (old new : List ℕ) (ps : List Process) (i receiver : ℕ) (q : Process) → receiver ≡ i + 1 → ((key : ℕ) → has_key old key ≡ true → has_key new key ≡ true)
+    → (complete ≡ true → (before ≡ true) × AreKeyed new receiver q.monitors) → AreMonitorsKeyedIf before old ps → AreMonitorsKeyedIf complete new (slice_set ps i q)
+puts_monitored before complete old new ps i receiver q located more keyed h =
     added_if before complete old new ps (slice_set ps i q)
-    (λ e. let k = keyed e in (k.0, λ w. set_watched new ps i q (kept_watched old new ps more w) (subst (λ k. AreKeyed new k q.monitors) located k.1))) h
+    (λ e. let k = keyed e in (k.0, λ w. set_monitored new ps i q (kept_monitored old new ps more w) (subst (λ k. AreKeyed new k q.monitors) located k.1))) h
 
-pub push_watched_if : (complete : Bool) (keys : List ℕ) (ps mid qs : List Process) (x : Process) → x.monitors ≡ [] → mid ≡ ps → qs ≡ mid ++ x ∷ [] → AreWatchedIf complete keys ps → AreWatchedIf complete keys qs
-push_watched_if complete keys ps mid qs x none same more h =
-    watched_if complete keys keys ps qs (λ w. subst (AreWatched keys) (sym (more ∙ ap (λ ps. ps ++ x ∷ []) same)) (push_watched keys ps x w none)) h
+pub push_monitored_if : (complete : Bool) (keys : List ℕ) (ps mid qs : List Process) (x : Process) → x.monitors ≡ [] → mid ≡ ps → qs ≡ mid ++ x ∷ [] → AreMonitorsKeyedIf complete keys ps → AreMonitorsKeyedIf complete keys qs
+push_monitored_if complete keys ps mid qs x none same more h =
+    monitored_if complete keys keys ps qs (λ w. subst (AreMonitorsKeyed keys) (sym (more ∙ ap (λ ps. ps ++ x ∷ []) same)) (push_monitored keys ps x w none)) h
 
 -- ---- a process that monitors a pid
 
-watched_monitors : (p : Process) (n : ℕ) (pid : TermValue) (down : Option Signal) → (watched p n pid down).monitors ≡ p.monitors ++ record { reference = n; pid = pid } ∷ []
-watched_monitors p n pid None = refl
-watched_monitors p n pid (Some d) = refl
+monitored_monitors : (p : Process) (n : ℕ) (pid : TermValue) (down : Option Signal) → (with_monitor p n pid down).monitors ≡ p.monitors ++ record { reference = n; pid = pid } ∷ []
+monitored_monitors p n pid None = refl
+monitored_monitors p n pid (Some d) = refl
 
-watched_name : (p : Process) (n : ℕ) (pid : TermValue) (down : Option Signal) → (watched p n pid down).name ≡ p.name
-watched_name p n pid None = refl
-watched_name p n pid (Some d) = refl
+monitored_name : (p : Process) (n : ℕ) (pid : TermValue) (down : Option Signal) → (with_monitor p n pid down).name ≡ p.name
+monitored_name p n pid None = refl
+monitored_name p n pid (Some d) = refl
 
 -- the process after a try
 abbrev pub Tried : Process → ℕ → TermValue → Option Signal → Result (Unit {0}) AllocError → Process → Type 0
-Tried p n pid down result q = OnOk result (q ≡ watched p n pid down) × OnErr result (q ≡ p)
+Tried p n pid down result q = OnOk result (q ≡ with_monitor p n pid down) × OnErr result (q ≡ p)
 
 pub tried_name : (p q : Process) (n : ℕ) (pid : TermValue) (down : Option Signal) (result : Result (Unit {0}) AllocError) → Tried p n pid down result q → KeepsName p q
-tried_name p q n pid down (Ok u) h = λ name f. sym (watched_name p n pid down) ∙ (ap (λ q. q.name) (sym h.0) ∙ f)
+tried_name p q n pid down (Ok u) h = λ name f. sym (monitored_name p n pid down) ∙ (ap (λ q. q.name) (sym h.0) ∙ f)
 tried_name p q n pid down (Err refused) h = λ name f. ap (λ q. q.name) (sym h.1) ∙ f
 
 pub on_ok : (result : Result (Unit {0}) AllocError) (A : Type 0) → OnOk result A → is_ok result ≡ true → A
 on_ok (Ok u) A h e = h
 on_ok (Err refused) A h e = cc
 
-pub tried_watched : (complete : Bool) (old new : List ℕ) (ps now : List Process) (i receiver n : ℕ) (pid : TermValue) (down : Option Signal) (p q : Process) (result : Result (Unit {0}) AllocError)
+pub tried_monitored : (complete : Bool) (old new : List ℕ) (ps now : List Process) (i receiver n : ℕ) (pid : TermValue) (down : Option Signal) (p q : Process) (result : Result (Unit {0}) AllocError)
     → ps ≡ now → i < length now → p ≡ get_or ps i p → receiver ≡ i + 1 → Tried p n pid down result q → ((key : ℕ) → has_key old key ≡ true → has_key new key ≡ true)
-    → (is_ok result ≡ true → (w : ℕ) → own_number pid ≡ Some w → IsKeyed new w receiver n) → AreWatchedIf complete old ps → AreWatchedIf complete new (slice_set ps i q)
-tried_watched complete old new ps now i receiver n pid down p q result view l g located tried more keyed h =
-    watched_if complete old new ps (slice_set ps i q) (λ w. set_watched new ps i q (kept_watched old new ps more w) (all (kept_watched old new ps more w) result tried keyed)) h
+    → (is_ok result ≡ true → (w : ℕ) → own_number pid ≡ Some w → IsKeyed new w receiver n) → AreMonitorsKeyedIf complete old ps → AreMonitorsKeyedIf complete new (slice_set ps i q)
+tried_monitored complete old new ps now i receiver n pid down p q result view l g located tried more keyed h =
+    monitored_if complete old new ps (slice_set ps i q) (λ w. set_monitored new ps i q (kept_monitored old new ps more w) (all (kept_monitored old new ps more w) result tried keyed)) h
   where
-    all : AreWatched new ps → (result : Result (Unit {0}) AllocError) → Tried p n pid down result q → (is_ok result ≡ true → (w : ℕ) → own_number pid ≡ Some w → IsKeyed new w receiver n)
+    all : AreMonitorsKeyed new ps → (result : Result (Unit {0}) AllocError) → Tried p n pid down result q → (is_ok result ≡ true → (w : ℕ) → own_number pid ≡ Some w → IsKeyed new w receiver n)
         → AreKeyed new (i + 1) q.monitors
     all w (Err refused) t keyed = subst (λ (q : Process). AreKeyed new (i + 1) q.monitors) (sym t.1) (w i p (there ps i p (items_within ps now i view l) g))
     all w (Ok u) t keyed =
-        subst (AreKeyed new (i + 1)) (sym (ap (λ (q : Process). q.monitors) t.0 ∙ watched_monitors p n pid down))
+        subst (AreKeyed new (i + 1)) (sym (ap (λ (q : Process). q.monitors) t.0 ∙ monitored_monitors p n pid down))
         (more_keyed new (i + 1) n pid p.monitors (w i p (there ps i p (items_within ps now i view l) g)) (λ v e. subst (λ k. IsKeyed new v k n) located (keyed refl v e)))
 
-pub push_keeps : (find : Find) (agenda after : List Entry) (ps mid qs : List Process) (x : Process) (e : Entry)
+pub push_keeps : (find : Find) (agenda after : List AgendaEntry) (ps mid qs : List Process) (x : Process) (e : AgendaEntry)
     → x.name ≡ None → e ≡ entry_of x → after ≡ agenda ++ e ∷ [] → mid ≡ ps → qs ≡ mid ++ x ∷ [] → IsIndexed find agenda ps → IsIndexed find after qs
 push_keeps find agenda after ps mid qs x e new is pushed same more h =
     subst (λ es. IsIndexed find es qs) (sym (pushed ∙ ap (λ e. agenda ++ e ∷ []) is))
@@ -171,12 +171,12 @@ delivered_keeps name p (signal ∷ rest) k =
 
 -- a process that didn't change
 pub stays_on : (p q : Process) → q ≡ p → GoesOnFrom p q
-stays_on p q e = (is_name p q p e refl, subst (λ (q : Process). WatchNoMore p.monitors q.monitors) (sym e) (no_more p.monitors))
+stays_on p q e = (is_name p q p e refl, subst (λ (q : Process). MonitorNoMore p.monitors q.monitors) (sym e) (no_more p.monitors))
 
 pub delivery_keeps : {T : Type 0} (p q : Process) (result : Result T AllocError) → OnOk result (q ≡ delivered (record p { transit = [] }) p.transit) → OnErr result (q ≡ p) → GoesOnFrom p q
 delivery_keeps p q (Ok done) h k = (
   (λ n f. delivered_keeps p.name (record p { transit = [] }) p.transit refl n (ap (λ q. q.name) (sym h) ∙ f)),
-  subst (λ (q : Process). WatchNoMore p.monitors q.monitors) (sym h) (part_fewer p.monitors (delivered (record p { transit = [] }) p.transit).monitors (delivered_part p.transit (record p { transit = [] }))),
+  subst (λ (q : Process). MonitorNoMore p.monitors q.monitors) (sym h) (part_fewer p.monitors (delivered (record p { transit = [] }) p.transit).monitors (delivered_part p.transit (record p { transit = [] }))),
 )
 delivery_keeps p q (Err refused) h k = stays_on p q k
 
@@ -193,7 +193,7 @@ pub answers_keep : (p q : Process) (slots : Option ℕ) (after : After) (value :
 answers_keep p q slots after value runs e =
     let a = answered_with p.pid p.name (ArePart p.monitors) (none_are p.monitors) (λ ms keep h. fewer_are p.monitors ms keep h) (bare_if slots p) after value (bare_lives slots p runs, bare_part slots p) in (
       (λ n f. a.0.1.0 n (ap (λ q. q.name) (sym e) ∙ f)),
-      subst (λ (q : Process). WatchNoMore p.monitors q.monitors) (sym e) (part_fewer p.monitors (answers (bare_if slots p) after value).monitors a.1),
+      subst (λ (q : Process). MonitorNoMore p.monitors q.monitors) (sym e) (part_fewer p.monitors (answers (bare_if slots p) after value).monitors a.1),
     )
 
 pub answer_keeps : (p q : Process) (slots : Option ℕ) (after : After) (value : Result TermValue Exception) (result : Result Then AllocError) → p.status ≡ Running
@@ -205,13 +205,13 @@ answer_keeps p q slots after value (Ok Waits) runs e = answers_keep p q slots af
 
 -- ---- the entries of all processes
 
-entries_set : (old new : List Entry) (i : ℕ) (e : Entry) → length old ≡ length new → slice_get new i ≡ Some e → slice_set (take i new ++ drop i old) i e ≡ take (suc i) new ++ drop (suc i) old
+entries_set : (old new : List AgendaEntry) (i : ℕ) (e : AgendaEntry) → length old ≡ length new → slice_get new i ≡ Some e → slice_set (take i new ++ drop i old) i e ≡ take (suc i) new ++ drop (suc i) old
 entries_set old [] i e h there = cc
 entries_set [] (m ∷ new) i e h there = cc
 entries_set (a ∷ old) (m ∷ new) zero e h there = let same : e ≡ m = cc in ap (λ e. e ∷ old) same
 entries_set (a ∷ old) (m ∷ new) (suc i) e h there = ap (λ es. m ∷ es) (entries_set old new i e (omega (arith, h)) there)
 
-pub entries_more : (ps : List Process) (old before after : List Entry) (i : ℕ) (p : Process) (e : Entry) → length old ≡ length ps → i < length ps → p ≡ get_or ps i p
+pub entries_more : (ps : List Process) (old before after : List AgendaEntry) (i : ℕ) (p : Process) (e : AgendaEntry) → length old ≡ length ps → i < length ps → p ≡ get_or ps i p
     → before ≡ take i (map entry_of ps) ++ drop i old → e ≡ entry_of p → after ≡ slice_set before i e → after ≡ take (i + 1) (map entry_of ps) ++ drop (i + 1) old
 entries_more ps old before after i p e alike l g was is set =
     let many : length old ≡ length (map entry_of ps) = alike ∙ sym (length-map ps entry_of) in

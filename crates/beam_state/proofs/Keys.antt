@@ -7,24 +7,24 @@ use Rattle.std.specs.List.Sorted.{IsStrictlySortedBy}
 use Rattle.std.specs.BTreeMap.{is_at}
 use Rattle.std.specs.Ordering.{nat_cmp, is_eq}
 use Rattle.std.specs.declared.cmp.Ordering.TheVariants.{Less, Equal, Greater}
-use Rattle.beam_state.specs.Watching.{watch_key, watched_in, receiver_in, reference_in, has_key, is_key_of}
+use Rattle.beam_state.specs.MonitorKeys.{monitor_key, monitored_in, receiver_in, reference_in, has_key, is_key_of}
 
 -- ---- numbers in a key
 
-pub receiver_is : (w r n : ℕ) → r < 4294967296 → n < 4294967296 → receiver_in (watch_key w r n) ≡ r
+pub receiver_is : (w r n : ℕ) → r < 4294967296 → n < 4294967296 → receiver_in (monitor_key w r n) ≡ r
 receiver_is w r n h k = omega (arith, h, k)
 
-pub reference_is : (w r n : ℕ) → n < 4294967296 → reference_in (watch_key w r n) ≡ n
+pub reference_is : (w r n : ℕ) → n < 4294967296 → reference_in (monitor_key w r n) ≡ n
 reference_is w r n k = omega (arith, k)
 
-pub watched_is : (w r n : ℕ) → w < 4294967296 → r < 4294967296 → n < 4294967296 → watched_in (watch_key w r n) ≡ w
-watched_is w r n g h k = omega (arith, g, h, k)
+pub monitored_is : (w r n : ℕ) → w < 4294967296 → r < 4294967296 → n < 4294967296 → monitored_in (monitor_key w r n) ≡ w
+monitored_is w r n g h k = omega (arith, g, h, k)
 
-pub key_is : (w k : ℕ) → is_key_of w k ≡ true → k ≡ watch_key w (receiver_in k) (reference_in k)
+pub key_is : (w k : ℕ) → is_key_of w k ≡ true → k ≡ monitor_key w (receiver_in k) (reference_in k)
 key_is w k h = grind (arith, nat_tests)
 
-pub of_watched : (w r n : ℕ) → r < 4294967296 → n < 4294967296 → is_key_of w (watch_key w r n) ≡ true
-of_watched w r n h k = grind (arith, nat_tests)
+pub of_monitored : (w r n : ℕ) → r < 4294967296 → n < 4294967296 → is_key_of w (monitor_key w r n) ≡ true
+of_monitored w r n h k = grind (arith, nat_tests)
 
 -- ---- tests
 

@@ -18,7 +18,7 @@ use Rattle.beam_laws.proofs.Hearing.{hears}
 use Rattle.beam_model.specs.declared.native.NodeNative.TheVariants.{Spawn, Register, Unregister, Whereis, IsProcessAlive, Exit, Send, MakeRef, Monitor}
 use Rattle.beam_machine.specs.declared.callee.After.{After}
 use Rattle.beam_state.specs.Asking.{IsAsking, AreRead, CanDrop}
-use Rattle.beam_state.specs.Gives.{Makes, Sends, does_send, is_make_ref, posted_if}
+use Rattle.beam_state.specs.Returns.{ReturnsCounting, Sends, does_send, is_make_ref, posted_if}
 use Rattle.beam_state.proofs.Asked.{within}
 use Rattle.beam_state.proofs.Askers.{left, left_lives, left_runs, left_drops, left_wrote}
 use Rattle.beam_codesrv.specs.Posting.{all_taken}
@@ -83,7 +83,7 @@ module _ (references : ℕ) (ps told mid : List Process) (at pid count : ℕ) (r
   same_given : answer_of references told pid native arguments ≡ moved (but_one (hears pid (Ended reason nil_term)) at) (answer_of references ps pid native arguments)
   same_given = ap (λ qs. answer_of references qs pid native arguments) is ∙ answer_told pid at reason nil_term e references ps native arguments silent
 
-  module _ (t : TermValue) (m : Makes references told (answer_of references told pid native arguments) (Ok (Ok t)) count mid) where
+  module _ (t : TermValue) (m : ReturnsCounting references told (answer_of references told pid native arguments) (Ok (Ok t)) count mid) where
     pub value_is : (answer_of references ps pid native arguments).value ≡ Ok t
     value_is = ap (λ a. a.value) (sym same_given) ∙ m.1
 
@@ -93,7 +93,7 @@ module _ (references : ℕ) (ps told mid : List Process) (at pid count : ℕ) (r
     pub cur_is : mid ≡ each (but_one (hears pid (Ended reason nil_term)) at) (answer_of references ps pid native arguments).processes
     cur_is = sym m.0 ∙ ap (λ a. a.processes) same_given
 
-  module _ (f : Fault) (m : Makes references told (answer_of references told pid native arguments) (Ok (Err f)) count mid) where
+  module _ (f : Fault) (m : ReturnsCounting references told (answer_of references told pid native arguments) (Ok (Err f)) count mid) where
     pub fault_is : (answer_of references ps pid native arguments).value ≡ Err f
     fault_is = ap (λ a. a.value) (sym same_given) ∙ m.1
 
@@ -103,8 +103,8 @@ module _ (references : ℕ) (ps told mid : List Process) (at pid count : ℕ) (r
     pub fault_counts : count ≡ references
     fault_counts = sym m.2 ∙ ap (λ o. unwrap_or o references) (fault_leaves references told pid native arguments f m.1).1
 
-pub makes_is : (references : ℕ) (old : List Process) (answered : Answered) (v w : Result TermValue Fault) (count : ℕ) (new : List Process) → Makes references old answered (Ok v) count new → v ≡ w
-    → Makes references old answered (Ok w) count new
+pub makes_is : (references : ℕ) (old : List Process) (answered : Answered) (v w : Result TermValue Fault) (count : ℕ) (new : List Process) → ReturnsCounting references old answered (Ok v) count new → v ≡ w
+    → ReturnsCounting references old answered (Ok w) count new
 makes_is references old answered v w count new m e = (m.0, m.1 ∙ e, m.2)
 
 -- ---- the asker after a native that has a value, where all others had heard of the asker's end

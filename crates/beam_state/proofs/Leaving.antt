@@ -17,7 +17,7 @@ use Rattle.beam_machine.specs.Row.{own_number, arguments_from}
 use Rattle.beam_machine.specs.State.{process_of, with_process, alive, live_process, registered, posted_to, posted}
 use Rattle.beam_machine.specs.NodeNative.{Answered, answer, fault, most_processes, spawns_with, is_free, names, registers, unnames, unregisters, is_alive, posted_if_own, sends_named, most_references, makes_reference, or_noproc, put_monitor, monitored, monitors_by, answer_of}
 use Rattle.beam_model.specs.SameText.{same_text}
-use Rattle.beam_state.specs.Gives.{is_make_ref}
+use Rattle.beam_state.specs.Returns.{is_make_ref}
 
 -- ---- the parts of a process that natives keep
 

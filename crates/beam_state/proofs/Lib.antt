@@ -19,4 +19,4 @@ pub mod Responding
 pub mod Seen
 pub mod Telling
 pub mod Transit
-pub mod Watching
+pub mod MonitorKeys

@@ -16,8 +16,8 @@ use Rattle.beam_laws.specs.Monitors.{Rise, AreRising}
 use Rattle.beam_laws.proofs.Numbered.{put_put, put_here, alive_of}
 use Rattle.beam_laws.proofs.Ending.{alive_is}
 use Rattle.beam_laws.proofs.Rising.{RisesIf, live_up}
-use Rattle.beam_watches.specs.Kept.{AreBelow}
-use Rattle.beam_state.specs.Gives.{Gives, Makes, watched}
+use Rattle.beam_watches.specs.MonitorEntries.{AreBelow}
+use Rattle.beam_state.specs.Returns.{Returns, ReturnsCounting, with_monitor}
 use Rattle.beam_state.proofs.Answering.{process_at, set_process, set_same}
 use Rattle.beam_state.proofs.Asked.{said}
 use Rattle.beam_state.proofs.Ended.{some_there}
@@ -44,7 +44,7 @@ pub not_monitored : (ps : List Process) (caller : ℕ) (pid : TermValue) (n : �
 not_monitored ps caller pid n e = none_watch ps caller n pid (Down n (atom_term (codes "noproc"))) e (is_alive ps (own_number pid))
 
 pub monitored_is : (ps : List Process) (caller : ℕ) (pid : TermValue) (n : ℕ) (p : Process) → live_process ps caller ≡ Some p
-    → monitored ps caller pid n ≡ with_process ps caller (watched p n pid (noproc_of ps (own_number pid) n))
+    → monitored ps caller pid n ≡ with_process ps caller (with_monitor p n pid (noproc_of ps (own_number pid) n))
 monitored_is ps caller pid n p e = by (is_alive ps (own_number pid))
   where
     signal : Signal
@@ -59,7 +59,7 @@ monitored_is ps caller pid n p e = by (is_alive ps (own_number pid))
     there : live_process (with_process ps caller more) caller ≡ Some more
     there = ap alive (put_here ps caller p more is.0) ∙ alive_of more is.1
 
-    by : (b : Bool) → with_new_monitor (cond b ps (posted ps caller signal)) caller n pid ≡ with_process ps caller (watched p n pid (cond b None (Some signal)))
+    by : (b : Bool) → with_new_monitor (cond b ps (posted ps caller signal)) caller n pid ≡ with_process ps caller (with_monitor p n pid (cond b None (Some signal)))
     by true = ap (put_monitor ps caller n pid) e
     by false =
         ap (λ o. with_new_monitor (posted_to ps caller signal o) caller n pid) e
@@ -67,15 +67,15 @@ monitored_is ps caller pid n p e = by (is_alive ps (own_number pid))
         ∙ put_put ps caller more (record more { monitors = p.monitors ++ record { reference = n; pid = pid } ∷ [] }))
 
 -- a native that makes no reference
-pub gives_makes : (references : ℕ) (old : List Process) (answered : Answered) (result : Result (Result TermValue Fault) AllocError) (new : List Process) → Gives old answered result new
-    → Makes references old answered result references new
+pub gives_makes : (references : ℕ) (old : List Process) (answered : Answered) (result : Result (Result TermValue Fault) AllocError) (new : List Process) → Returns old answered result new
+    → ReturnsCounting references old answered result references new
 gives_makes references old answered (Ok value) new h = (ap (λ (a : Answered). a.processes) h, ap (λ (a : Answered). a.value) h, ap (λ (a : Answered). unwrap_or a.made references) h)
 gives_makes references old answered (Err refused) new h = (h, refl)
 
 -- ---- where the caller is given by its index
 
-abbrev pub Watches : List Process → ℕ → ℕ → TermValue → Option Signal → Result (Unit {0}) AllocError → List Process → Type 0
-Watches ps at n pid down result new = IfSome (slice_get ps at) (λ p. (q : Process) × (OnOk result (q ≡ watched p n pid down) × OnErr result (q ≡ p)) × (new ≡ set ps at q))
+abbrev pub DoesMonitor : List Process → ℕ → ℕ → TermValue → Option Signal → Result (Unit {0}) AllocError → List Process → Type 0
+DoesMonitor ps at n pid down result new = IfSome (slice_get ps at) (λ p. (q : Process) × (OnOk result (q ≡ with_monitor p n pid down) × OnErr result (q ≡ p)) × (new ≡ set ps at q))
 
 pub below_there : (ps : List Process) (caller at n : ℕ) → caller ≡ at + 1 → at < length ps → IfSome (slice_get ps at) (λ p. is_ended p.status ≡ false)
     → ((p : Process) → live_process ps caller ≡ Some p → AreBelow n p.monitors) → IfSome (slice_get ps at) (λ p. AreBelow n p.monitors)
@@ -86,18 +86,18 @@ below_there ps caller at n located l lives below =
     subst (λ o. IfSome o (λ p. AreBelow n p.monitors)) (sym there.1) (below p live)
 
 pub keeps_ok : (ps : List Process) (caller at n : ℕ) (pid : TermValue) (o : Option ℕ) (down : Option Signal) → caller ≡ at + 1 → own_number pid ≡ o → down ≡ noproc_of ps o n
-    → (result : Result (Unit {0}) AllocError) (new : List Process) → at < length ps → IfSome (slice_get ps at) (λ p. is_ended p.status ≡ false) → Watches ps at n pid down result new
+    → (result : Result (Unit {0}) AllocError) (new : List Process) → at < length ps → IfSome (slice_get ps at) (λ p. is_ended p.status ≡ false) → DoesMonitor ps at n pid down result new
     → OnOk result (new ≡ monitored ps caller pid n)
 keeps_ok ps caller at n pid o down located named is (Err refused) new l lives h = search rules
 keeps_ok ps caller at n pid o down located named is (Ok u) new l lives h =
     let there = some_there ps at l in
     let p : Process = there.0 in
-    let d = said ps at p (λ p. (q : Process) × ((q ≡ watched p n pid down) × Unit {0}) × (new ≡ set ps at q)) there.1 h in
+    let d = said ps at p (λ p. (q : Process) × ((q ≡ with_monitor p n pid down) × Unit {0}) × (new ≡ set ps at q)) there.1 h in
     let live : live_process ps caller ≡ Some p = ap alive (process_at ps at caller located ∙ there.1) ∙ alive_of p (said ps at p (λ p. is_ended p.status ≡ false) there.1 lives) in
-    d.2 ∙ (ap (λ q. set ps at q) (d.1.0 ∙ ap (watched p n pid) (is ∙ ap (λ o. noproc_of ps o n) (sym named)))
-    ∙ (sym (set_process ps at caller (watched p n pid (noproc_of ps (own_number pid) n)) located) ∙ sym (monitored_is ps caller pid n p live)))
+    d.2 ∙ (ap (λ q. set ps at q) (d.1.0 ∙ ap (with_monitor p n pid) (is ∙ ap (λ o. noproc_of ps o n) (sym named)))
+    ∙ (sym (set_process ps at caller (with_monitor p n pid (noproc_of ps (own_number pid) n)) located) ∙ sym (monitored_is ps caller pid n p live)))
 
-pub keeps_err : (ps : List Process) (at n : ℕ) (pid : TermValue) (down : Option Signal) (result : Result (Unit {0}) AllocError) (new : List Process) → at < length ps → Watches ps at n pid down result new
+pub keeps_err : (ps : List Process) (at n : ℕ) (pid : TermValue) (down : Option Signal) (result : Result (Unit {0}) AllocError) (new : List Process) → at < length ps → DoesMonitor ps at n pid down result new
     → OnErr result (new ≡ ps)
 keeps_err ps at n pid down (Ok u) new l h = search rules
 keeps_err ps at n pid down (Err refused) new l h =

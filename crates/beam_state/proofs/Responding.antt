@@ -21,7 +21,7 @@ use Rattle.beam_laws.proofs.Follows.{Follows, Lives, Comes, over}
 use Rattle.beam_laws.proofs.Monitoring.{all_are, none_are}
 use Rattle.beam_laws.proofs.Orderly.{set_orderly, done_orderly}
 use Rattle.beam_laws.proofs.Rising.{RisesIf, rise_part, set_up, process_up, done_up}
-use Rattle.beam_proc.proofs.Undone.{taken}
+use Rattle.beam_proc.proofs.UndoneSteps.{taken}
 use Rattle.beam_state.specs.Asking.{Responds, RespondsBy, AnswersNative, MadeBy, asking, asking_dropping, sending, sleeping, ending, HasSlots}
 use Rattle.beam_state.specs.Parts.{Parts, parts, node, then_at}
 use Rattle.beam_state.specs.Posting.{AreLawful}

@@ -14,7 +14,7 @@ use Rattle.beam_machine.specs.Process.{Process, is_ended, started, own_pid, own_
 use Rattle.beam_machine.specs.Row.{own_number}
 use Rattle.beam_machine.specs.State.{process_of, with_process, alive, live_process, registered, has_name, posted_to, posted}
 use Rattle.beam_machine.specs.NodeNative.{Answered, answer, fault, most_processes, spawns_with, is_free, names, registers, unnames, unregisters, pid_or_undefined, is_alive, posted_if_own, sends_named, most_references, makes_reference, or_noproc, put_monitor, monitored, monitors_by, answer_of}
-use Rattle.beam_state.specs.Gives.{does_send}
+use Rattle.beam_state.specs.Returns.{does_send}
 
 -- to each process, by its index, a function is applied
 abbrev pub each : (ℕ → Process → Process) → List Process → List Process

@@ -21,7 +21,7 @@ use Rattle.beam_laws.specs.Signals.{each_sent}
 use Rattle.beam_laws.proofs.Hearing.{none_more, as_before, hears, hearing_is, own_hears, either_false}
 use Rattle.beam_laws.proofs.Orderly.{Orderly}
 use Rattle.beam_laws.proofs.Posting.{all_posted_at, said, each_sent_to}
-use Rattle.beam_state.specs.Gives.{does_send}
+use Rattle.beam_state.specs.Returns.{does_send}
 use Rattle.beam_state.specs.Posting.{notices_of}
 use Rattle.beam_state.proofs.Answering.{process_at}
 use Rattle.beam_state.proofs.Leaving.{is_there}

@@ -15,7 +15,7 @@ use Rattle.beam_machine.specs.State.{State, process_of, with_process, with_made}
 use Rattle.beam_machine.specs.Row.{Outcome, makes, sends, asks, sleeps, goes_on, waits_for_message, after_dropping, answers, arguments_of}
 use Rattle.beam_machine.specs.NodeNative.{answer_of}
 use Rattle.beam_machine.specs.Next.{done_by, goes_on_with}
-use Rattle.beam_proc.specs.Prepared.{reason_of}
+use Rattle.beam_proc.specs.Continuation.{reason_of}
 use Rattle.beam_state.specs.Parts.{Parts, parts, node, then_at}
 
 -- ---- the outcomes

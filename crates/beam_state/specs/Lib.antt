@@ -1,7 +1,7 @@
 pub mod Asking
-pub mod Gives
+pub mod Returns
 pub mod Indexed
 pub mod Parts
 pub mod Pids
 pub mod Posting
-pub mod Watching
+pub mod MonitorKeys

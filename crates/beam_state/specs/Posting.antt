@@ -6,13 +6,13 @@ use Rattle.beam_machine.specs.Process.{Process}
 use Rattle.beam_machine.specs.State.{live_process, downs}
 use Rattle.beam_laws.specs.Monitors.{AreRising}
 use Rattle.beam_laws.specs.Orderly.{Follows, Orderly}
-use Rattle.beam_laws.specs.Private.{having}
+use Rattle.beam_laws.specs.Private.{with_name_and_transit}
 use Rattle.beam_laws.specs.Signals.{each_sent}
 
 -- the process of that number hasn't ended, and the other one may take its place: it has the same pid, and if it has ended, nothing else but
 -- the reason and the value
 abbrev pub CanReplace : List Process → ℕ → Process → Type 0
-CanReplace ps pid r = (q : Process) × (live_process ps pid ≡ Some q) × Follows q.pid q.name (having q.name q.transit r)
+CanReplace ps pid r = (q : Process) × (live_process ps pid ≡ Some q) × Follows q.pid q.name (with_name_and_transit q.name q.transit r)
 
 -- the signals that all others are sent where the process of that number ends for that reason: a DOWN for each monitor of it
 abbrev pub notices_of : List Process → ℕ → TermValue → List Sent

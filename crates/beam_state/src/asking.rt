@@ -6,23 +6,23 @@ ghost use Rattle.beam_machine.specs.Row.{answers, arguments_of};
 ghost use Rattle.beam_machine.specs.State.{process_of};
 ghost use Rattle.beam_laws.specs.Private.{posted_all};
 ghost use Rattle.beam_state.specs.Asking.{IsAsking, AreRead, EndsAfter, AnswersNative, MadeBy, CanDrop, IsFollowed, bare_if};
-ghost use Rattle.beam_state.specs.Gives.{does_send, is_make_ref, posted_if};
+ghost use Rattle.beam_state.specs.Returns.{does_send, is_make_ref, posted_if};
 ghost use Rattle.beam_state.specs.Parts.{then_at};
 ghost use Rattle.beam_state.specs.Posting.{AreLawful};
 
 use crate::ends::{end_at, tell};
-use crate::giving;
 use crate::names::running;
 use crate::natives::{answer_of, next_reference, sending};
 use crate::posting::take_all_back;
 use crate::processes::Processes;
 use crate::requests::runner;
+use crate::returning;
 use beam_machine::callee::After;
 use beam_machine::event::Then;
 use beam_model::exception::Exception;
 use beam_model::native::NodeNative;
-use beam_proc::answering::Prepared;
 use beam_proc::private::Sent;
+use beam_proc::returning::Continuation;
 use beam_term::Term;
 use std::alloc::{AllocError, Global};
 
@@ -37,7 +37,7 @@ struct Asker {
 
 /// Gives a process a value, or raises an exception in it. If that ends it, all that monitor it are sent a DOWN. Where memory is refused
 /// nothing changes.
-fn answer(
+fn return_value(
     alloc: Global,
     processes: &mut Processes,
     references: u32,
@@ -53,7 +53,7 @@ fn answer(
     let after = asker.after;
     let then = processes.change(
         index,
-        |process| giving::answer(process, dropped, after, value),
+        |process| returning::return_value(process, dropped, after, value),
     )?;
     match then {
         Then::Ended { reason, value } => {
@@ -81,12 +81,12 @@ fn make_ref(
 {
     match next_reference(alloc, processes, *references, arguments)? {
         Ok(reference) => {
-            let then = answer(alloc, processes, *references, asker, Ok(reference))?;
+            let then = return_value(alloc, processes, *references, asker, Ok(reference))?;
             *references += 1;
             Ok(then)
         }
         Err(fault) => {
-            answer(
+            return_value(
                 alloc,
                 processes,
                 *references,
@@ -105,7 +105,7 @@ fn ask_on(
     asker: &Asker,
     native: NodeNative,
     arguments: &[Term],
-    prepared: Prepared,
+    prepared: Continuation,
 ) -> Result<Then, AllocError>
     requires asking { IsAsking asker.now.index asker.now.pid asker.now.dropped asker.now.after processes.old }
     requires lawful { AreLawful references.old processes.old }
@@ -121,11 +121,11 @@ fn ask_on(
             let dropped = asker.dropped;
             Ok(processes.change(
                 asker.index,
-                |process| giving::give(process, dropped, prepared, value),
+                |process| returning::return_prepared(process, dropped, prepared, value),
             ))
         }
         Err(fault) => {
-            answer(
+            return_value(
                 alloc,
                 processes,
                 *references,
@@ -156,7 +156,7 @@ fn send_last(
     asker: &Asker,
     native: NodeNative,
     arguments: &[Term],
-    prepared: Prepared,
+    prepared: Continuation,
     reason: &Term,
 ) -> Result<Then, AllocError>
     requires asking { IsAsking asker.now.index asker.now.pid asker.now.dropped asker.now.after processes.old }
@@ -174,11 +174,11 @@ fn send_last(
             let _told = tell(first, processes, references, asker.pid, reason)?;
             Ok(processes.change(
                 asker.index,
-                |process| giving::give(process, dropped, prepared, value),
+                |process| returning::return_prepared(process, dropped, prepared, value),
             ))
         }
         Err(fault) => {
-            answer(
+            return_value(
                 alloc,
                 processes,
                 references,
@@ -198,7 +198,7 @@ fn ask_last(
     asker: &Asker,
     native: NodeNative,
     arguments: &[Term],
-    prepared: Prepared,
+    prepared: Continuation,
     reason: &Term,
 ) -> Result<Then, AllocError>
     requires asking { IsAsking asker.now.index asker.now.pid asker.now.dropped asker.now.after processes.old }
@@ -216,11 +216,11 @@ fn ask_last(
     match answer_of(alloc, processes, references, asker.pid, native, arguments) {
         Ok(Ok(value)) => Ok(processes.change(
             asker.index,
-            |process| giving::give(process, dropped, prepared, value),
+            |process| returning::return_prepared(process, dropped, prepared, value),
         )),
         Ok(Err(fault)) => {
             take_all_back(processes, &told);
-            answer(
+            return_value(
                 alloc,
                 processes,
                 *references,
@@ -239,14 +239,14 @@ fn ask_last(
 fn end_of(
     processes: &Processes,
     asker: &Asker,
-    prepared: &Prepared,
+    prepared: &Continuation,
 ) -> Result<Option<Term>, AllocError>
     requires asking { IsAsking asker.now.index asker.now.pid asker.now.dropped asker.now.after processes.now }
     requires prepared { prepared.now ≡ asker.now.after }
     ensures { IfOk result (λ reason. EndsAfter asker.now.pid asker.now.dropped asker.now.after reason processes.now) }
 {
     let process = runner(processes, asker.index);
-    match giving::end_after(process, asker.dropped, prepared) {
+    match returning::end_after(process, asker.dropped, prepared) {
         Some(reason) => Ok(Some(reason.clone()?)),
         None => Ok(None),
     }
@@ -280,7 +280,7 @@ pub(crate) fn ask(
         dropped,
         after,
     };
-    let prepared = Prepared::new(alloc, process.known(), asker.after)?;
+    let prepared = Continuation::new(alloc, process.known(), asker.after)?;
     if let NodeNative::MakeRef = native {
         return make_ref(alloc, processes, references, &asker, &arguments);
     }

@@ -11,7 +11,7 @@ use crate::processes::{Processes, renew_all};
 use crate::state::State;
 use beam_codesrv::CodeTable;
 use beam_image::Image;
-use beam_machine::event::{Event, Mode, Refused, Reply};
+use beam_machine::event::{Event, Refused, Reply, UpgradeMode};
 use beam_term::Atom;
 use std::alloc::Global;
 
@@ -56,7 +56,7 @@ fn atomic_load(
     code: &mut CodeTable,
     processes: &mut Processes,
     instances: &mut u32,
-    mode: Mode,
+    mode: UpgradeMode,
     images: &[Image],
 ) -> Result<Reply, Refused>
     requires ordered { Ordered code.old instances.old }
@@ -127,7 +127,7 @@ impl State {
     pub fn atomic_load(
         &mut self,
         code: &mut CodeTable,
-        mode: Mode,
+        mode: UpgradeMode,
         images: &[Image],
     ) -> Result<Reply, Refused>
         requires { Ordered code.old self.old.instances }

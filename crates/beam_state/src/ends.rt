@@ -7,12 +7,12 @@ ghost use Rattle.beam_machine.specs.State.{monitors_process, downs};
 ghost use Rattle.beam_laws.specs.Private.{posted_all};
 ghost use Rattle.beam_state.specs.Asking.{MadeBy};
 ghost use Rattle.beam_state.specs.Posting.{AreLawful, notices_of};
-ghost use Rattle.beam_state.specs.Watching.{is_key_of, is_told, down_of};
+ghost use Rattle.beam_state.specs.MonitorKeys.{is_key_of, is_told, down_of};
 
-use crate::giving::end_with;
+use crate::monitor_index::{MonitorIndex, add_down};
 use crate::posting::{post_all, take_all_back};
 use crate::processes::Processes;
-use crate::watched::{Watched, add_down};
+use crate::returning::end_with;
 use beam_machine::event::Then;
 use beam_proc::entry::ProcessEntry;
 use beam_proc::private::Sent;
@@ -62,20 +62,20 @@ fn walked(
 }
 
 /// Adds to `sent` the signals that all others are sent where the process of that number ends for that reason. It finds them by the index.
-#[tactic(auto, using(crate::proofs::Watching::none_told))]
+#[tactic(auto, using(crate::proofs::MonitorKeys::none_told))]
 fn found(
     sent: Vec<Sent>,
     processes: &[ProcessEntry],
-    watched: &Watched,
+    monitor_index: &MonitorIndex,
     pid: u32,
     reason: &Term,
 ) -> Result<Vec<Sent>, AllocError>
     ensures ok { IfOk result (λ all. all.items ≡ sent.items
-        ++ map (down_of reason.now) (filter (is_told processes.now pid) (filter (is_key_of pid) watched.now))) }
+        ++ map (down_of reason.now) (filter (is_told processes.now pid) (filter (is_key_of pid) monitor_index.now))) }
     ensures quiet { is_monitored processes.now pid ≡ false → OnErr result ⊥ }
 {
     let mut sent = sent;
-    for key in watched.of(pid) {
+    for key in monitor_index.of(pid) {
         add_down(processes, *key, pid, reason, &mut sent)?;
     }
     Ok(sent)
@@ -94,8 +94,8 @@ pub(crate) fn notices(
     ensures ok { IfOk result (λ all. all.items ≡ sent.items ++ notices_of processes.now pid reason.now) }
     ensures quiet { is_monitored processes.now pid ≡ false → OnErr result ⊥ }
 {
-    match processes.watchers() {
-        Some(watched) => found(sent, processes.as_slice(), watched, pid, reason),
+    match processes.complete_index() {
+        Some(monitor_index) => found(sent, processes.as_slice(), monitor_index, pid, reason),
         None => walked(sent, processes.as_slice(), references, pid, reason),
     }
 }

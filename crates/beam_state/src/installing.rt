@@ -3,7 +3,7 @@ ghost use Rattle.std.specs.Prelude.{◌≡◌, ◌+◌, ◌<◌, [], length, tru
 ghost use Rattle.beam_machine.specs.Process.{Process as TheProcess, is_ended};
 ghost use Rattle.beam_machine.specs.State.{process_of, live_process, with_process};
 ghost use Rattle.beam_laws.specs.Monitors.{ArePart, Rise};
-ghost use Rattle.beam_laws.specs.Private.{having, posted_all};
+ghost use Rattle.beam_laws.specs.Private.{with_name_and_transit, posted_all};
 ghost use Rattle.beam_state.specs.Parts.{with_processes};
 ghost use Rattle.beam_codesrv.specs.Posting.{all_taken};
 ghost use Rattle.beam_state.specs.Posting.{CanReplace};
@@ -50,7 +50,7 @@ impl State {
         requires can { CanReplace self.old.processes pid process }
         requires rise { Rise 0 self.old.references process.monitors }
         ensures { (q : TheProcess) → process_of self.old.processes pid ≡ Some q
-            → (self.new ≡ with_processes self.old (with_process self.old.processes pid (having q.name q.transit process)))
+            → (self.new ≡ with_processes self.old (with_process self.old.processes pid (with_name_and_transit q.name q.transit process)))
             × (result ≡ record q { name = None; transit = [] }) }
     {
         let index = living(self.processes.as_slice(), pid);
@@ -63,7 +63,7 @@ impl State {
         requires can { CanReplace self.old.processes pid process }
         requires part { (q : TheProcess) → live_process self.old.processes pid ≡ Some q → ArePart q.monitors process.monitors }
         ensures { (q : TheProcess) → process_of self.old.processes pid ≡ Some q
-            → (self.new ≡ with_processes self.old (with_process self.old.processes pid (having q.name q.transit process)))
+            → (self.new ≡ with_processes self.old (with_process self.old.processes pid (with_name_and_transit q.name q.transit process)))
             × (result ≡ record q { name = None; transit = [] }) }
     {
         let index = living(self.processes.as_slice(), pid);

@@ -11,8 +11,8 @@ ghost use Rattle.beam_machine.specs.Row.{own_number};
 ghost use Rattle.beam_state.specs.Pids.{number_in};
 ghost use Rattle.beam_machine.specs.State.{live_process, registered};
 ghost use Rattle.beam_laws.specs.Monitors.{AreRising};
-ghost use Rattle.beam_state.specs.Gives.{Gives, Makes, Sends, IsNext, does_send, is_make_ref, posted_if};
-ghost use Rattle.beam_watches.specs.Kept.{AreBelow};
+ghost use Rattle.beam_state.specs.Returns.{Returns, ReturnsCounting, Sends, IsNext, does_send, is_make_ref, posted_if};
+ghost use Rattle.beam_watches.specs.MonitorEntries.{AreBelow};
 
 use crate::names::{live_index, own_number};
 use crate::posting::post_if;
@@ -21,9 +21,9 @@ use crate::terms::{atom, elements, pid_or_undefined, truth};
 use beam_machine::process::Signal;
 use beam_model::exception::Fault;
 use beam_model::native::NodeNative;
-use beam_proc::answering::Answer;
 use beam_proc::private::Sent;
 use beam_proc::process::Process;
+use beam_proc::returning::ReturnValue;
 use beam_term::{Atom, Pid, Term, TermView};
 use std::alloc::{AllocError, Global};
 
@@ -33,8 +33,8 @@ fn spawns(
     name: &Atom,
     function: &Atom,
     arguments: Vec<Term>,
-) -> Result<Result<Answer, Fault>, AllocError>
-    ensures { Gives processes.old (spawns processes.old name.now function.now arguments.items) result processes.new }
+) -> Result<Result<ReturnValue, Fault>, AllocError>
+    ensures { Returns processes.old (spawns processes.old name.now function.now arguments.items) result processes.new }
 {
     if arguments.len() > 255 {
         return Ok(Err(Fault::Badarg));
@@ -46,7 +46,7 @@ fn spawns(
         return Ok(Err(Fault::SystemLimit));
     }
     let known = processes.known(alloc)?;
-    let pid = Answer::new(known.pid(alloc, count + 1)?)?;
+    let pid = ReturnValue::new(known.pid(alloc, count + 1)?)?;
     let process = Process::start(
         alloc,
         known,
@@ -65,8 +65,8 @@ fn spawns_with(
     name: &Atom,
     function: &Atom,
     arguments: &Term,
-) -> Result<Result<Answer, Fault>, AllocError>
-    ensures { Gives processes.old (spawns_with processes.old name.now function.now (elements_in arguments.now)) result processes.new }
+) -> Result<Result<ReturnValue, Fault>, AllocError>
+    ensures { Returns processes.old (spawns_with processes.old name.now function.now (elements_in arguments.now)) result processes.new }
 {
     match elements(alloc, arguments)? {
         Some(arguments) => spawns(alloc, processes, name, function, arguments),
@@ -85,8 +85,8 @@ fn names(
     processes: &mut Processes,
     name: &Atom,
     pid: u32,
-) -> Result<Result<Answer, Fault>, AllocError>
-    ensures { Gives processes.old (names processes.old name.now pid (live_process processes.old pid)) result processes.new }
+) -> Result<Result<ReturnValue, Fault>, AllocError>
+    ensures { Returns processes.old (names processes.old name.now pid (live_process processes.old pid)) result processes.new }
 {
     let Some(index) = live_index(processes.as_slice(), pid) else {
         return Ok(Err(Fault::Badarg));
@@ -97,7 +97,7 @@ fn names(
     if processes.as_slice()[index].name().is_some() {
         return Ok(Err(Fault::Badarg));
     }
-    let value = Answer::new(truth(alloc, true)?)?;
+    let value = ReturnValue::new(truth(alloc, true)?)?;
     let name = name.clone()?;
     processes.register(index, name)?;
     Ok(Ok(value))
@@ -108,8 +108,8 @@ fn registers(
     processes: &mut Processes,
     name: &Atom,
     pid: &Pid,
-) -> Result<Result<Answer, Fault>, AllocError>
-    ensures { Gives processes.old (registers processes.old name.now (number_in pid.now)) result processes.new }
+) -> Result<Result<ReturnValue, Fault>, AllocError>
+    ensures { Returns processes.old (registers processes.old name.now (number_in pid.now)) result processes.new }
 {
     match own_number(pid) {
         Some(pid) => names(alloc, processes, name, pid),
@@ -121,8 +121,8 @@ fn unregisters(
     alloc: Global,
     processes: &mut Processes,
     name: &Atom,
-) -> Result<Result<Answer, Fault>, AllocError>
-    ensures { Gives processes.old (unregisters processes.old (registered processes.old name.now)) result processes.new }
+) -> Result<Result<ReturnValue, Fault>, AllocError>
+    ensures { Returns processes.old (unregisters processes.old (registered processes.old name.now)) result processes.new }
 {
     let Some(pid) = processes.registered(name) else {
         return Ok(Err(Fault::Badarg));
@@ -130,7 +130,7 @@ fn unregisters(
     let Some(index) = live_index(processes.as_slice(), pid) else {
         return Ok(Err(Fault::Badarg));
     };
-    let value = Answer::new(truth(alloc, true)?)?;
+    let value = ReturnValue::new(truth(alloc, true)?)?;
     processes.change(index, |process| process.set_name(None));
     Ok(Ok(value))
 }
@@ -148,8 +148,8 @@ fn spawn(
     alloc: Global,
     processes: &mut Processes,
     arguments: &[Term],
-) -> Result<Result<Answer, Fault>, AllocError>
-    ensures { (references caller : ℕ) → Gives processes.old (answer_of references processes.old caller native.Spawn arguments.now) result processes.new }
+) -> Result<Result<ReturnValue, Fault>, AllocError>
+    ensures { (references caller : ℕ) → Returns processes.old (answer_of references processes.old caller native.Spawn arguments.now) result processes.new }
 {
     let [name, function, list] = arguments else {
         return Ok(Err(Fault::Badarg));
@@ -166,8 +166,8 @@ fn register(
     alloc: Global,
     processes: &mut Processes,
     arguments: &[Term],
-) -> Result<Result<Answer, Fault>, AllocError>
-    ensures { (references caller : ℕ) → Gives processes.old (answer_of references processes.old caller native.Register arguments.now) result processes.new }
+) -> Result<Result<ReturnValue, Fault>, AllocError>
+    ensures { (references caller : ℕ) → Returns processes.old (answer_of references processes.old caller native.Register arguments.now) result processes.new }
 {
     let [name, pid] = arguments else {
         return Ok(Err(Fault::Badarg));
@@ -182,8 +182,8 @@ fn unregister(
     alloc: Global,
     processes: &mut Processes,
     arguments: &[Term],
-) -> Result<Result<Answer, Fault>, AllocError>
-    ensures { (references caller : ℕ) → Gives processes.old (answer_of references processes.old caller native.Unregister arguments.now) result processes.new }
+) -> Result<Result<ReturnValue, Fault>, AllocError>
+    ensures { (references caller : ℕ) → Returns processes.old (answer_of references processes.old caller native.Unregister arguments.now) result processes.new }
 {
     let [name] = arguments else {
         return Ok(Err(Fault::Badarg));
@@ -198,8 +198,8 @@ fn whereis(
     alloc: Global,
     processes: &mut Processes,
     arguments: &[Term],
-) -> Result<Result<Answer, Fault>, AllocError>
-    ensures { (references caller : ℕ) → Gives processes.old (answer_of references processes.old caller native.Whereis arguments.now) result processes.new }
+) -> Result<Result<ReturnValue, Fault>, AllocError>
+    ensures { (references caller : ℕ) → Returns processes.old (answer_of references processes.old caller native.Whereis arguments.now) result processes.new }
 {
     let [name] = arguments else {
         return Ok(Err(Fault::Badarg));
@@ -208,7 +208,7 @@ fn whereis(
         TermView::Atom(name) => {
             let number = processes.registered(name);
             let pid = pid_or_undefined(alloc, &processes.known(alloc)?, number)?;
-            Ok(Ok(Answer::new(pid)?))
+            Ok(Ok(ReturnValue::new(pid)?))
         }
         _ => Ok(Err(Fault::Badarg)),
     }
@@ -218,8 +218,8 @@ fn is_process_alive(
     alloc: Global,
     processes: &Processes,
     arguments: &[Term],
-) -> Result<Result<Answer, Fault>, AllocError>
-    ensures { (references caller : ℕ) → Gives processes.now (answer_of references processes.now caller native.IsProcessAlive arguments.now) result
+) -> Result<Result<ReturnValue, Fault>, AllocError>
+    ensures { (references caller : ℕ) → Returns processes.now (answer_of references processes.now caller native.IsProcessAlive arguments.now) result
         processes.now }
 {
     let [pid] = arguments else {
@@ -228,7 +228,7 @@ fn is_process_alive(
     match pid.view() {
         TermView::Pid(pid) => {
             let alive = truth(alloc, is_alive(processes, pid))?;
-            Ok(Ok(Answer::new(alive)?))
+            Ok(Ok(ReturnValue::new(alive)?))
         }
         _ => Ok(Err(Fault::Badarg)),
     }
@@ -250,7 +250,7 @@ fn exit(
     alloc: Global,
     caller: u32,
     arguments: &[Term],
-) -> Result<Result<(Answer, Option<Sent>), Fault>, AllocError>
+) -> Result<Result<(ReturnValue, Option<Sent>), Fault>, AllocError>
     ensures { (references : ℕ) (ps : List TheProcess) → Sends ps (answer_of references ps caller native.Exit arguments.now) result }
 {
     let [pid, reason] = arguments else {
@@ -259,7 +259,7 @@ fn exit(
     let TermView::Pid(pid) = pid.view() else {
         return Ok(Err(Fault::Badarg));
     };
-    let value = Answer::new(truth(alloc, true)?)?;
+    let value = ReturnValue::new(truth(alloc, true)?)?;
     let reason = reason.clone()?;
     let sender = caller;
     Ok(Ok((value, signal_to(pid, Signal::Exit { sender, reason }))))
@@ -268,13 +268,13 @@ fn exit(
 fn send(
     processes: &Processes,
     arguments: &[Term],
-) -> Result<Result<(Answer, Option<Sent>), Fault>, AllocError>
+) -> Result<Result<(ReturnValue, Option<Sent>), Fault>, AllocError>
     ensures { (references caller : ℕ) → Sends processes.now (answer_of references processes.now caller native.Send arguments.now) result }
 {
     let [to, message] = arguments else {
         return Ok(Err(Fault::Badarg));
     };
-    let value = Answer::new(message.clone()?)?;
+    let value = ReturnValue::new(message.clone()?)?;
     let signal = Signal::Message(message.clone()?);
     match to.view() {
         TermView::Pid(pid) => Ok(Ok((value, signal_to(pid, signal)))),
@@ -293,7 +293,7 @@ pub(crate) fn sending(
     caller: u32,
     native: NodeNative,
     arguments: &[Term],
-) -> Result<Result<(Answer, Option<Sent>), Fault>, AllocError>
+) -> Result<Result<(ReturnValue, Option<Sent>), Fault>, AllocError>
     requires { does_send native ≡ true }
     ensures { (references : ℕ) → Sends processes.now (answer_of references processes.now caller native arguments.now) result }
 {
@@ -311,9 +311,9 @@ fn send_one(
     caller: u32,
     native: NodeNative,
     arguments: &[Term],
-) -> Result<Result<Answer, Fault>, AllocError>
+) -> Result<Result<ReturnValue, Fault>, AllocError>
     requires { does_send native ≡ true }
-    ensures { (references : ℕ) → Gives processes.old (answer_of references processes.old caller native arguments.now) result processes.new }
+    ensures { (references : ℕ) → Returns processes.old (answer_of references processes.old caller native arguments.now) result processes.new }
 {
     match sending(alloc, processes, caller, native, arguments)? {
         Ok((value, sent)) => {
@@ -369,18 +369,18 @@ fn keep(
     caller: u32,
     reference: u32,
     pid: &Pid,
-    watched: Term,
+    target: Term,
 ) -> Result<(), AllocError>
-    requires named { own_number watched ≡ number_in pid.now }
+    requires named { own_number target ≡ number_in pid.now }
     requires below { (p : TheProcess) → live_process processes.old caller ≡ Some p → AreBelow reference p.monitors }
-    ensures ok { OnOk result (processes.new ≡ monitored processes.old caller watched reference) }
+    ensures ok { OnOk result (processes.new ≡ monitored processes.old caller target reference) }
     ensures err { OnErr result (processes.new ≡ processes.old) }
 {
     let Some(index) = live_index(processes.as_slice(), caller) else {
         return Ok(());
     };
     let down = noproc(alloc, processes, reference, pid)?;
-    processes.watch(index, caller, reference, watched, down)
+    processes.monitor(index, caller, reference, target, down)
 }
 
 fn monitors(
@@ -389,19 +389,19 @@ fn monitors(
     references: &mut u32,
     caller: u32,
     pid: &Pid,
-    watched: Term,
-) -> Result<Result<Answer, Fault>, AllocError>
-    requires named { own_number watched ≡ number_in pid.now }
+    target: Term,
+) -> Result<Result<ReturnValue, Fault>, AllocError>
+    requires named { own_number target ≡ number_in pid.now }
     requires rising { AreRising references.old processes.old }
-    ensures { Makes references.old processes.old (makes_reference references.old processes.old (monitored processes.old caller watched)) result
+    ensures { ReturnsCounting references.old processes.old (makes_reference references.old processes.old (monitored processes.old caller target)) result
         references.new processes.new }
 {
     if *references == u32::MAX {
         return Ok(Err(Fault::SystemLimit));
     }
     let reference = *references + 1;
-    let value = Answer::new(processes.known(alloc)?.reference(alloc, reference)?)?;
-    keep(alloc, processes, caller, reference, pid, watched)?;
+    let value = ReturnValue::new(processes.known(alloc)?.reference(alloc, reference)?)?;
+    keep(alloc, processes, caller, reference, pid, target)?;
     *references = reference;
     Ok(Ok(value))
 }
@@ -412,17 +412,17 @@ fn monitor(
     references: &mut u32,
     caller: u32,
     arguments: &[Term],
-) -> Result<Result<Answer, Fault>, AllocError>
+) -> Result<Result<ReturnValue, Fault>, AllocError>
     requires { AreRising references.old processes.old }
-    ensures { Makes references.old processes.old (answer_of references.old processes.old caller native.Monitor arguments.now) result
+    ensures { ReturnsCounting references.old processes.old (answer_of references.old processes.old caller native.Monitor arguments.now) result
         references.new processes.new }
 {
-    let [kind, watched] = arguments else {
+    let [kind, target] = arguments else {
         return Ok(Err(Fault::Badarg));
     };
-    match (kind.view(), watched.view()) {
+    match (kind.view(), target.view()) {
         (TermView::Atom(kind), TermView::Pid(pid)) if kind.as_str() == "process" => {
-            monitors(alloc, processes, references, caller, pid, watched.clone()?)
+            monitors(alloc, processes, references, caller, pid, target.clone()?)
         }
         _ => Ok(Err(Fault::Badarg)),
     }
@@ -437,10 +437,10 @@ pub(crate) fn answer_of(
     caller: u32,
     native: NodeNative,
     arguments: &[Term],
-) -> Result<Result<Answer, Fault>, AllocError>
+) -> Result<Result<ReturnValue, Fault>, AllocError>
     requires other { is_make_ref native ≡ false }
     requires rising { AreRising references.old processes.old }
-    ensures { Makes references.old processes.old (answer_of references.old processes.old caller native arguments.now) result references.new processes.new }
+    ensures { ReturnsCounting references.old processes.old (answer_of references.old processes.old caller native arguments.now) result references.new processes.new }
 {
     match native {
         NodeNative::Spawn => spawn(alloc, processes, arguments),

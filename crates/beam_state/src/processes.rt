@@ -7,17 +7,17 @@ ghost use Rattle.beam_machine.specs.Process.{Process as TheProcess, is_ended};
 ghost use Rattle.beam_machine.specs.Ready.{is_ready, ready_after, next_deadline};
 ghost use Rattle.beam_machine.specs.State.{registered};
 ghost use Rattle.beam_model.specs.SameText.{same_text};
-ghost use Rattle.beam_laws.specs.Private.{having};
-ghost use Rattle.beam_state.specs.Gives.{watched};
+ghost use Rattle.beam_laws.specs.Private.{with_name_and_transit};
+ghost use Rattle.beam_state.specs.Returns.{with_monitor};
 ghost use Rattle.beam_state.specs.Indexed.{due_time, entry_of, if_named, KeepsName, GoesOnFrom};
 ghost use Rattle.beam_state.specs.Posting.{AreLawful};
-ghost use Rattle.beam_state.specs.Watching.{TellAll};
-ghost use Rattle.beam_watches.specs.Kept.{AreBelow};
+ghost use Rattle.beam_state.specs.MonitorKeys.{TellAll};
+ghost use Rattle.beam_watches.specs.MonitorEntries.{AreBelow};
 
+use crate::monitor_index::{MonitorIndex, add_all};
 use crate::names::has_name;
-use crate::watched::{Watched, add_all};
 use beam_agenda::agenda::Agenda;
-use beam_agenda::entry::Entry;
+use beam_agenda::entry::AgendaEntry;
 use beam_machine::process::Signal;
 use beam_proc::entry::ProcessEntry;
 use beam_proc::known::Known;
@@ -36,7 +36,7 @@ pub(crate) struct Processes {
     /// The entry of each process.
     pub(crate) agenda: Agenda,
     // the index of monitors
-    watched: Watched,
+    monitor_index: MonitorIndex,
     // whether that index has the monitors of all processes
     complete: bool,
     // made with the first process
@@ -49,7 +49,7 @@ impl Drop for Processes {
             items: _items,
             names: _names,
             agenda: _agenda,
-            watched: _watched,
+            monitor_index: _monitor_index,
             complete: _complete,
             known: _known,
         } = self;
@@ -64,7 +64,7 @@ impl Model for Processes {
     ghost use Rattle.beam_machine.specs.Process.{Process as TheProcess};
     ghost use Rattle.beam_model.specs.SameText.{same_text};
     ghost use Rattle.beam_state.specs.Indexed.{IsIndexed};
-    ghost use Rattle.beam_state.specs.Watching.{AreWatchedIf};
+    ghost use Rattle.beam_state.specs.MonitorKeys.{AreMonitorsKeyedIf};
 
     ghost Value = { List TheProcess };
 
@@ -72,7 +72,7 @@ impl Model for Processes {
 
     ghost view = { λ s. s.items.items };
 
-    ghost invariant = { λ s. IsIndexed (get same_text s.names) s.agenda s.items.items × AreWatchedIf s.complete s.watched s.items.items };
+    ghost invariant = { λ s. IsIndexed (get same_text s.names) s.agenda s.items.items × AreMonitorsKeyedIf s.complete s.monitor_index s.items.items };
 }
 
 /// Whether a process hasn't ended, and runs or has a signal in transit to it.
@@ -94,10 +94,10 @@ fn due_time(process: &ProcessEntry) -> Option<u64>
 }
 
 /// The agenda's entry of a process.
-pub(crate) fn entry_of(process: &ProcessEntry) -> Entry
+pub(crate) fn entry_of(process: &ProcessEntry) -> AgendaEntry
     ensures { result ≡ entry_of process.now }
 {
-    Entry {
+    AgendaEntry {
         ready: is_ready(process),
         due: due_time(process),
     }
@@ -127,7 +127,7 @@ fn if_named(items: &[ProcessEntry], index: usize, name: &Atom) -> Option<u32>
 
 /// Adds a monitor of a pid to a process, under a reference greater than its others, if the index has the monitor; where no process of that
 /// pid lives, the DOWN is in transit. Where memory is refused nothing changes.
-fn watch(
+fn monitor(
     process: &mut Process,
     added: Result<(), AllocError>,
     reference: u32,
@@ -135,7 +135,7 @@ fn watch(
     down: Option<Signal>,
 ) -> Result<(), AllocError>
     requires { AreBelow reference process.old.monitors }
-    ensures ok { OnOk result (process.new ≡ watched process.old reference pid down) }
+    ensures ok { OnOk result (process.new ≡ with_monitor process.old reference pid down) }
     ensures err { OnErr result (process.new ≡ process.old) }
     ensures added { is_ok result ≡ true → is_ok added ≡ true }
 {
@@ -163,7 +163,7 @@ pub(crate) fn renew_all(agenda: &mut Agenda, items: &[ProcessEntry])
 
 impl Processes {
     /// A table without processes.
-    #[tactic(auto, using(crate::proofs::Indexing::no_indexes, crate::proofs::Watching::none_watched_if))]
+    #[tactic(auto, using(crate::proofs::Indexing::no_indexes, crate::proofs::MonitorKeys::none_monitored_if))]
     pub(crate) fn new(alloc: Global) -> Processes
         ensures { result ≡ [] }
     {
@@ -171,7 +171,7 @@ impl Processes {
             items: Vec::new(alloc),
             names: IndexMap::new(alloc),
             agenda: Agenda::new(alloc),
-            watched: Watched::new(alloc),
+            monitor_index: MonitorIndex::new(alloc),
             complete: true,
             known: None,
         }
@@ -270,7 +270,7 @@ impl Processes {
 
     /// Adds a monitor of a pid to a process that hasn't ended, under a reference greater than its others; where no process of that pid
     /// lives, the DOWN is in transit. Where memory is refused nothing changes.
-    pub(crate) fn watch(
+    pub(crate) fn monitor(
         &mut self,
         index: usize,
         receiver: u32,
@@ -283,11 +283,11 @@ impl Processes {
         requires lives { IfSome (slice_get self.old index) (λ p. is_ended p.status ≡ false) }
         requires below { IfSome (slice_get self.old index) (λ p. AreBelow reference p.monitors) }
         ensures { IfSome (slice_get self.old index) (λ p.
-            (q : TheProcess) × (OnOk result (q ≡ watched p reference pid down) × OnErr result (q ≡ p)) × (self.new ≡ slice_set self.old index q)) }
+            (q : TheProcess) × (OnOk result (q ≡ with_monitor p reference pid down) × OnErr result (q ≡ p)) × (self.new ≡ slice_set self.old index q)) }
     {
-        let added = self.watched.watch(receiver, reference, &pid);
+        let added = self.monitor_index.add_monitor(receiver, reference, &pid);
         let process = &mut self.items[index];
-        let result = process.change(|process| watch(process, added, reference, pid, down));
+        let result = process.change(|process| monitor(process, added, reference, pid, down));
         self.agenda.set(index, entry_of(process));
         result
     }
@@ -298,11 +298,16 @@ impl Processes {
         requires located { pid ≡ index + 1 }
         requires within { index < length self.old }
         requires lives { IfSome (slice_get self.old index) (λ p. is_ended p.status ≡ false) }
-        requires keeps { IfSome (slice_get self.old index) (λ p. KeepsName p (having p.name p.transit process)) }
+        requires keeps { IfSome (slice_get self.old index) (λ p. KeepsName p (with_name_and_transit p.name p.transit process)) }
         ensures { IfSome (slice_get self.old index) (λ p.
-            (self.new ≡ slice_set self.old index (having p.name p.transit process)) × (result ≡ record p { name = None; transit = [] })) }
+            (self.new ≡ slice_set self.old index (with_name_and_transit p.name p.transit process)) × (result ≡ record p { name = None; transit = [] })) }
     {
-        self.complete = add_all(self.complete, &mut self.watched, pid, process.monitors());
+        self.complete = add_all(
+            self.complete,
+            &mut self.monitor_index,
+            pid,
+            process.monitors(),
+        );
         let place = &mut self.items[index];
         let was = place.change(|place| place.replace(process));
         self.agenda.set(index, entry_of(place));
@@ -310,12 +315,12 @@ impl Processes {
     }
 
     /// The index of monitors, if it has those of all processes.
-    pub(crate) fn watchers(&self) -> Option<&Watched>
-        ensures { IfSome result (λ watched. TellAll watched.now self.now) }
+    pub(crate) fn complete_index(&self) -> Option<&MonitorIndex>
+        ensures { IfSome result (λ index. TellAll index.now self.now) }
     {
-        let _ordered = self.watched.len();
+        let _ordered = self.monitor_index.len();
         if self.complete {
-            Some(&self.watched)
+            Some(&self.monitor_index)
         } else {
             None
         }
@@ -327,6 +332,6 @@ impl Processes {
         ensures { self.new ≡ self.old }
     {
         let _references = references;
-        self.watched.sweep(&self.items);
+        self.monitor_index.sweep(&self.items);
     }
 }

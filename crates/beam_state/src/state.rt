@@ -79,7 +79,7 @@ impl State {
 
     /// In every state process n has pid n, no two processes have one name, and the references of each process's monitors rise, and are
     /// among those that were made.
-    pub fn stands(&self)
+    pub fn recall_invariant(&self)
         ensures pids { (n : ℕ) (p : TheProcess) → process_of self.now.processes n ≡ Some p → p.pid ≡ n }
         ensures names { (m n : ℕ) (p q : TheProcess) (name : List ℕ) → process_of self.now.processes m ≡ Some p → process_of self.now.processes n ≡ Some q
             → p.name ≡ Some name → q.name ≡ Some name → m ≡ n }

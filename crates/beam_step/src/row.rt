@@ -13,7 +13,7 @@ use beam_model::place::Place;
 use beam_proc::private::Sent;
 use beam_proc::process::Process;
 use beam_rows::request::Request;
-use beam_rows::run::{Ran, Stop, rows_before_spots};
+use beam_rows::run::{Ran, StopReason, rows_before_spots};
 use beam_term::Term;
 use std::alloc::AllocError;
 
@@ -27,22 +27,22 @@ pub enum Did {
 
 /// How many rows were executed, and why they end, if no more may follow.
 #[derive(Clone, Copy, Debug)]
-pub struct Rows {
+pub struct RowBatch {
     pub count: u32,
     pub end: Option<Cause>,
 }
 
-fn ended(count: u32, end: Cause) -> Rows
+fn ended(count: u32, end: Cause) -> RowBatch
     ensures { result ≡ record { count = count; end = Some end } }
 {
-    Rows {
+    RowBatch {
         count,
         end: Some(end),
     }
 }
 
 /// The rows' end after a row after which the process doesn't run: at the limit, or after that row.
-fn after_row(count: u32, limit: u32) -> Rows
+fn after_row(count: u32, limit: u32) -> RowBatch
     ensures { result ≡ record { count = count; end = Some (if count == limit then Cause.AtLimit else Cause.AfterRow) } }
 {
     if count == limit {
@@ -94,23 +94,23 @@ pub fn some_rows(
     process: &mut Process,
     sent: &mut Vec<Sent>,
     limit: u32,
-) -> Rows
+) -> RowBatch
     requires runs { process.old.status ≡ Status.Running }
     requires finds { AlwaysFinds code.now process.old }
     ensures { DoesRows spots.now passes code.now limit process.old sent.old.items result.count result.end process.new sent.new.items }
 {
     let Ran { count, stop } = rows_before_spots(code, spots, passes, process, limit);
     match stop {
-        Stop::AtLimit => ended(count, Cause::AtLimit),
-        Stop::Waits => after_row(count, limit),
-        Stop::Ends { reason, value } => {
+        StopReason::AtLimit => ended(count, Cause::AtLimit),
+        StopReason::Waits => after_row(count, limit),
+        StopReason::Ends { reason, value } => {
             process.end(reason, value);
             after_row(count + 1, limit)
         }
-        Stop::AtSpot => ended(count, Cause::AtSpot),
-        Stop::Refused => ended(count, Cause::WantOfMemory),
-        Stop::Asks(request) => match respond(process, sent, request) {
-            Ok(Did::ARow) => Rows {
+        StopReason::AtSpot => ended(count, Cause::AtSpot),
+        StopReason::Refused => ended(count, Cause::WantOfMemory),
+        StopReason::Asks(request) => match respond(process, sent, request) {
+            Ok(Did::ARow) => RowBatch {
                 count: count + 1,
                 end: None,
             },

@@ -17,7 +17,7 @@ pub const MAX_ROWS: u32 = 4_000;
 
 /// How many rows were executed, and why they end.
 #[derive(Clone, Copy, Debug)]
-struct Ran {
+struct RunEnd {
     count: u32,
     cause: Cause,
 }
@@ -29,7 +29,7 @@ fn run(
     process: &mut Process,
     sent: &mut Vec<Sent>,
     limit: u32,
-) -> Ran
+) -> RunEnd
     requires none { sent.old.items ≡ [] }
     requires finds { AlwaysFinds code.now process.old }
     ensures { RowsComeTo spots.now passes code.now limit process.old (rows_of process.new sent.new.items result.count result.cause) (is_cut result.cause) }
@@ -38,7 +38,7 @@ fn run(
     let mut passing = passes;
     while count < limit {
         if !process.is_running() {
-            return Ran {
+            return RunEnd {
                 count,
                 cause: Cause::AfterRow,
             };
@@ -47,10 +47,10 @@ fn run(
         count += done.count;
         passing = false;
         if let Some(cause) = done.end {
-            return Ran { count, cause };
+            return RunEnd { count, cause };
         }
     }
-    Ran {
+    RunEnd {
         count: limit,
         cause: Cause::AtLimit,
     }
@@ -75,7 +75,7 @@ pub fn run_private(code: &CodeTable, spots: &[Place], work: Work, limit: u32) ->
     let Work { process, passes } = work;
     let mut process = process;
     let mut sent = Vec::new(process.alloc());
-    let Ran { count, cause } = run(code, spots, passes, &mut process, &mut sent, capped(limit));
+    let RunEnd { count, cause } = run(code, spots, passes, &mut process, &mut sent, capped(limit));
     let rows = Private {
         count,
         process,

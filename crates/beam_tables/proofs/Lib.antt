@@ -1,4 +1,4 @@
-pub mod Answered
+pub mod ReadResults
 pub mod Spellings
 pub mod Literals
 pub mod Loop

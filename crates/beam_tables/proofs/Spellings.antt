@@ -10,8 +10,8 @@ use Rattle.beam_term.specs.TermValue.{TermValue}
 use Rattle.beam_model.specs.External.{IsExternal}
 use Rattle.beam_model.specs.ExternalFault.{ExternalFault}
 use Rattle.beam_model.specs.ExternalReading.{external_at}
-use Rattle.beam_etf.proofs.Again.{external_again}
-use Rattle.beam_etf.proofs.FoundParts.{external_takes}
+use Rattle.beam_etf.proofs.ReadingComplete.{external_again}
+use Rattle.beam_etf.proofs.ReadingSoundParts.{external_takes}
 use Rattle.beam_model.specs.declared.function.Import.{Import}
 use Rattle.beam_model.specs.declared.function.Export.{Export}
 use Rattle.beam_model.specs.Form.{Form}

@@ -10,17 +10,17 @@ use Rattle.beam_tools.specs.Files.{Contents}
 use Rattle.beam_tools.specs.Lines.{LineFault, WrongSays}
 use Rattle.beam_tools.specs.Node.{CallSays, EntrySays, FaultSays, OutcomeSays, RunSays, TellsNoEnd}
 use Rattle.beam_tools.specs.Options.{CallLine, call, line_of, node_app}
-use Rattle.beam_tools.specs.declared.fault.Fault.{Fault}
-use Rattle.beam_tools.specs.declared.fault.Fault.TheVariants.{Exit, File, NoMemory, Spent, Stuck, Unwritten, Wrong}
-use Rattle.beam_tools.specs.declared.rounds.Outcome.{Outcome}
-use Rattle.beam_tools.specs.declared.stop.Wrong.{Wrong as WrongLine}
-use Rattle.beam_tools.specs.declared.stop.Wrong.TheVariants as wrong
+use Rattle.beam_tools.specs.declared.fault.RunFault.{RunFault}
+use Rattle.beam_tools.specs.declared.fault.RunFault.TheVariants.{Exit, File, NoMemory, Spent, Stuck, Unwritten, Wrong}
+use Rattle.beam_tools.specs.declared.rounds.CallOutcome.{CallOutcome}
+use Rattle.beam_tools.specs.declared.early_exit.Wrong.{Wrong as WrongLine}
+use Rattle.beam_tools.specs.declared.early_exit.Wrong.TheVariants as wrong
 use Rattle.beam_tools.specs.Call.{ComesTo}
 use Rattle.beam_tools.specs.Lines.{CallIsWrong}
 
 -- ---- command lines that give nothing to do
 
-pub as_line_says : (files : Contents) (words : List Text) (text : List ℕ) (f : Fault) → LineFault as_app words f → AsSays files words text f
+pub as_line_says : (files : Contents) (words : List Text) (text : List ℕ) (f : RunFault) → LineFault as_app words f → AsSays files words text f
 as_line_says files words text (Wrong w) h = h
 as_line_says files words text NoMemory h = tt
 as_line_says files words text Unwritten h = tt
@@ -29,7 +29,7 @@ as_line_says files words text (Exit t) h = absurd h
 as_line_says files words text Stuck h = absurd h
 as_line_says files words text Spent h = absurd h
 
-pub dis_line_says : (files : Contents) (words : List Text) (f : Fault) → LineFault dis_app words f → DisSays files words f
+pub dis_line_says : (files : Contents) (words : List Text) (f : RunFault) → LineFault dis_app words f → DisSays files words f
 dis_line_says files words (Wrong w) h = h
 dis_line_says files words NoMemory h = tt
 dis_line_says files words Unwritten h = tt
@@ -38,7 +38,7 @@ dis_line_says files words (Exit text) h = absurd h
 dis_line_says files words Stuck h = absurd h
 dis_line_says files words Spent h = absurd h
 
-pub node_line_says : (files : Contents) (words : List Text) (f : Fault) → LineFault node_app words f → FaultSays files words f
+pub node_line_says : (files : Contents) (words : List Text) (f : RunFault) → LineFault node_app words f → FaultSays files words f
 node_line_says files words (Wrong w) h = h
 node_line_says files words NoMemory h = tt
 node_line_says files words Unwritten h = tt
@@ -49,7 +49,7 @@ node_line_says files words Spent h = absurd h
 
 -- ---- a call
 
-pub entry_says : (files : Contents) (line : CallLine) (f : Fault) → EntrySays line f → CallSays files line f
+pub entry_says : (files : Contents) (line : CallLine) (f : RunFault) → EntrySays line f → CallSays files line f
 entry_says files line (Wrong w) h = h
 entry_says files line NoMemory h = tt
 entry_says files line Unwritten h = absurd h
@@ -58,7 +58,7 @@ entry_says files line (Exit text) h = absurd h
 entry_says files line Stuck h = absurd h
 entry_says files line Spent h = absurd h
 
-pub call_runs : (files : Contents) (line : CallLine) (f : Fault) → CallSays files line f → RunSays files line f
+pub call_runs : (files : Contents) (line : CallLine) (f : RunFault) → CallSays files line f → RunSays files line f
 call_runs files line (Wrong w) h = h
 call_runs files line (File f) h = h
 call_runs files line NoMemory h = tt
@@ -67,7 +67,7 @@ call_runs files line (Exit text) h = absurd h
 call_runs files line Stuck h = absurd h
 call_runs files line Spent h = absurd h
 
-pub outcome_runs : (files : Contents) (line : CallLine) (o : Outcome) (f : Fault) → ComesTo files line o → OutcomeSays o f → RunSays files line f
+pub outcome_runs : (files : Contents) (line : CallLine) (o : CallOutcome) (f : RunFault) → ComesTo files line o → OutcomeSays o f → RunSays files line f
 outcome_runs files line o (Exit text) comes h = (h.0, h.1, h.2, subst (ComesTo files line) h.3 comes, h.4)
 outcome_runs files line o Stuck comes h = subst (ComesTo files line) h comes
 outcome_runs files line o Spent comes h = subst (ComesTo files line) h comes
@@ -76,7 +76,7 @@ outcome_runs files line o (File f) comes h = absurd h
 outcome_runs files line o NoMemory comes h = tt
 outcome_runs files line o Unwritten comes h = absurd h
 
-pub no_end_runs : (files : Contents) (line : CallLine) (f : Fault) → TellsNoEnd f → RunSays files line f
+pub no_end_runs : (files : Contents) (line : CallLine) (f : RunFault) → TellsNoEnd f → RunSays files line f
 no_end_runs files line (Exit text) h = absurd h
 no_end_runs files line Stuck h = absurd h
 no_end_runs files line Spent h = absurd h
@@ -86,7 +86,7 @@ no_end_runs files line NoMemory h = tt
 no_end_runs files line Unwritten h = tt
 
 -- a fault that comes before the value is printed isn't a failed write
-pub call_unprinted : (files : Contents) (line : CallLine) (f : Fault) → CallSays files line f → f ≢ Unwritten
+pub call_unprinted : (files : Contents) (line : CallLine) (f : RunFault) → CallSays files line f → f ≢ Unwritten
 call_unprinted files line (Exit text) h = λ e. cc
 call_unprinted files line Stuck h = λ e. cc
 call_unprinted files line Spent h = λ e. cc
@@ -108,7 +108,7 @@ wrong_call words line (wrong.NoLevel text) is h = absurd h
 wrong_call words line (wrong.NoStart text) is h = absurd h
 
 -- a fault that holds of the call of a run holds of the words that ask for that call
-pub run_says : (files : Contents) (words : List Text) (line : CallLine) (f : Fault) → line_of words ≡ Some (call line)
+pub run_says : (files : Contents) (words : List Text) (line : CallLine) (f : RunFault) → line_of words ≡ Some (call line)
     → RunSays files line f → FaultSays files words f
 run_says files words line (Wrong w) is h = wrong_call words line w is h
 run_says files words line (File f) is h = (line, is, h)
@@ -121,7 +121,7 @@ run_says files words line Unwritten is h = tt
 -- ---- statuses
 
 -- status 3 stands for an exit of process 1 alone
-pub exit_said : (files : Contents) (words : List Text) (f : Fault) (status : ℕ) → FaultSays files words f → status ≡ status_of f → status ≡ 3
+pub exit_said : (files : Contents) (words : List Text) (f : RunFault) (status : ℕ) → FaultSays files words f → status ≡ status_of f → status ≡ 3
     → (reason : TermValue) × HasExit files words reason
 exit_said files words (Exit text) status h e three = (h.0, h.1)
 exit_said files words Stuck status h e three = absurd (omega arith)

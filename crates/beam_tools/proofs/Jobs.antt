@@ -4,7 +4,7 @@ use Rattle.std.specs.Prelude.{Err, IfErr, IfOk, Ok, OnOk, Result}
 use Rattle.clap.specs.Words.{Text}
 use Rattle.beam_tools.specs.Job.{IfDone, IfLeft, IsService}
 use Rattle.beam_tools.specs.Options.{CallLine, Line, call, line_of}
-use Rattle.beam_tools.specs.declared.fault.Fault.{Fault}
+use Rattle.beam_tools.specs.declared.fault.RunFault.{RunFault}
 use Rattle.beam_tools.specs.declared.job.Job.{Job}
 use Rattle.beam_tools.specs.declared.job.Job.TheVariants.{Done, Pipe, Serve}
 
@@ -22,20 +22,20 @@ always_left (Serve line) P p = p
 
 -- ---- where all that is asked for is printed
 
-pub printed_done : {T : Type 0} (printed : Result T Fault) (r : Result Job Fault) (P : ℕ → Type 0) → OnOk printed (r ≡ Ok (Done 0))
+pub printed_done : {T : Type 0} (printed : Result T RunFault) (r : Result Job RunFault) (P : ℕ → Type 0) → OnOk printed (r ≡ Ok (Done 0))
     → IfErr printed (λ f. r ≡ Err f) → OnOk printed (P 0) → IfOk r (λ job. IfDone job P)
-printed_done (Ok x) r P is fails h = subst (λ (x : Result Job Fault). IfOk x (λ job. IfDone job P)) (sym is) h
-printed_done (Err f) r P is fails h = subst (λ (x : Result Job Fault). IfOk x (λ job. IfDone job P)) (sym fails) tt
+printed_done (Ok x) r P is fails h = subst (λ (x : Result Job RunFault). IfOk x (λ job. IfDone job P)) (sym is) h
+printed_done (Err f) r P is fails h = subst (λ (x : Result Job RunFault). IfOk x (λ job. IfDone job P)) (sym fails) tt
 
-pub printed_left : {T : Type 0} (printed : Result T Fault) (r : Result Job Fault) (P : Line → Type 0) → OnOk printed (r ≡ Ok (Done 0))
+pub printed_left : {T : Type 0} (printed : Result T RunFault) (r : Result Job RunFault) (P : Line → Type 0) → OnOk printed (r ≡ Ok (Done 0))
     → IfErr printed (λ f. r ≡ Err f) → IfOk r (λ job. IfLeft job P)
-printed_left (Ok x) r P is fails = subst (λ (x : Result Job Fault). IfOk x (λ job. IfLeft job P)) (sym is) tt
-printed_left (Err f) r P is fails = subst (λ (x : Result Job Fault). IfOk x (λ job. IfLeft job P)) (sym fails) tt
+printed_left (Ok x) r P is fails = subst (λ (x : Result Job RunFault). IfOk x (λ job. IfLeft job P)) (sym is) tt
+printed_left (Err f) r P is fails = subst (λ (x : Result Job RunFault). IfOk x (λ job. IfLeft job P)) (sym fails) tt
 
-pub printed_fails : {T : Type 0} (printed : Result T Fault) (r : Result Job Fault) (P : Fault → Type 0) → OnOk printed (r ≡ Ok (Done 0))
+pub printed_fails : {T : Type 0} (printed : Result T RunFault) (r : Result Job RunFault) (P : RunFault → Type 0) → OnOk printed (r ≡ Ok (Done 0))
     → IfErr printed (λ f. r ≡ Err f) → IfErr printed P → IfErr r P
-printed_fails (Ok x) r P is fails h = subst (λ (x : Result Job Fault). IfErr x P) (sym is) tt
-printed_fails (Err f) r P is fails h = subst (λ (x : Result Job Fault). IfErr x P) (sym fails) h
+printed_fails (Ok x) r P is fails h = subst (λ (x : Result Job RunFault). IfErr x P) (sym is) tt
+printed_fails (Err f) r P is fails h = subst (λ (x : Result Job RunFault). IfErr x P) (sym fails) h
 
 -- a call asks for no service
 pub no_service : (words : List Text) (line : CallLine) → line_of words ≡ Some (call line) → IsService (line_of words) → ⊥

@@ -5,10 +5,10 @@ pub mod Jobs
 pub mod Left
 mod Loaded
 mod Numbers
-pub mod Places
+pub mod TextLines
 mod Rows
 mod Services
 pub mod Stops
-pub mod Told
+pub mod AppendedTexts
 pub mod Turns
 mod Whole

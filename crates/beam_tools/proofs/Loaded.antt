@@ -12,8 +12,8 @@ use Rattle.beam_model.specs.Listing.{Listing}
 use Rattle.beam_tools.specs.Call.{AreFilesOf, IsFileOf, Loads}
 use Rattle.beam_tools.specs.Files.{Contents}
 use Rattle.beam_tools.specs.Unloaded.{IsFirstUnloaded, IsNotLoaded}
-use Rattle.beam_tools.specs.declared.fault.Why.{Why}
-use Rattle.beam_tools.specs.declared.fault.Why.TheVariants.{BadFile, NoMemory, NoText, Refused, Syntax, Unassembled, UnknownForm, Unread, Unwritten}
+use Rattle.beam_tools.specs.declared.fault.FileFaultKind.{FileFaultKind}
+use Rattle.beam_tools.specs.declared.fault.FileFaultKind.TheVariants.{BadFile, NoMemory, NoText, Refused, Syntax, Unassembled, UnknownForm, Unread, Unwritten}
 
 -- one more load
 Loads-append : (old s new : State) (ls : List Listing) (l : Listing) (reply : Reply) → Loads old ls s
@@ -54,13 +54,13 @@ one_more_load files names i d old s new within before last =
 
 -- ---- a file that isn't loaded
 
-same_fault : (f g : Contents) (name : Text) (s : State) (why : Why) → ((n : Text) → f n ≡ g n) → IsNotLoaded f name s why → IsNotLoaded g name s why
+same_fault : (f g : Contents) (name : Text) (s : State) (why : FileFaultKind) → ((n : Text) → f n ≡ g n) → IsNotLoaded f name s why → IsNotLoaded g name s why
 same_fault f g name s (Unread e) same h = tt
 same_fault f g name s (BadFile e) same h =
     let P : Option (List ℕ) → Type 0 = λ known. IfSome known (λ bytes. h.0 ≡ bytes) in
     (h.0, subst P (same name) h.1, h.2)
 same_fault f g name s (Refused r) same h = (h.0, same_file f g name h.0 same h.1, h.2)
-same_fault f g name s (Unwritten said) same h = absurd h
+same_fault f g name s (Unwritten os_error) same h = absurd h
 same_fault f g name s NoText same h = absurd h
 same_fault f g name s (Syntax line) same h = absurd h
 same_fault f g name s (UnknownForm line) same h = absurd h
@@ -76,7 +76,7 @@ split_at (x ∷ xs) (suc i) d within =
     let rest = split_at xs i d (omega arith) in
     (rest.0, ap (λ (names : List Text). x.now ∷ names) rest.1)
 
-pub first_unloaded : (files seen : Contents) (names : List (Bor Text)) (i : ℕ) (d : Bor Text) (old s : State) (why : Why) → i < length names
+pub first_unloaded : (files seen : Contents) (names : List (Bor Text)) (i : ℕ) (d : Bor Text) (old s : State) (why : FileFaultKind) → i < length names
     → ((n : Text) → seen n ≡ files n) → (ls : List Listing) × Loads old ls s × AreFilesOf files (texts (take i names)) ls
     → IsNotLoaded seen (get_or names i d).now s why → IsFirstUnloaded files (texts names) old (get_or names i d).now why
 first_unloaded files seen names i d old s why within same before h =

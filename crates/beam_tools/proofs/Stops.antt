@@ -6,9 +6,9 @@ use Rattle.clap.specs.declared.error.kind.ErrorKind.{ErrorKind}
 use Rattle.clap.specs.declared.error.kind.ErrorKind.TheVariants as kind
 use Rattle.beam_tools.specs.Lines.{IsNoLine, NamesStop, OptionsStop, ServeStops, StopSays, StopsBy}
 use Rattle.beam_tools.specs.Options.{call_in, line_in, node_app}
-use Rattle.beam_tools.specs.declared.stop.Stop.{Stop}
-use Rattle.beam_tools.specs.declared.stop.Stop.TheVariants as stop
-use Rattle.beam_tools.specs.declared.stop.Wrong.TheVariants as wrong
+use Rattle.beam_tools.specs.declared.early_exit.EarlyExit.{EarlyExit}
+use Rattle.beam_tools.specs.declared.early_exit.EarlyExit.TheVariants as stop
+use Rattle.beam_tools.specs.declared.early_exit.Wrong.TheVariants as wrong
 
 -- an error other than an allocation failure has a kind that is possible for the words
 among : (app : App) (words : List Text) (k wanted : ErrorKind) → (wanted ≡ kind.OutOfMemory → ⊥) → k ≡ wanted
@@ -22,7 +22,7 @@ refused app words k other (inl memory) = absurd (other memory)
 refused app words k other (inr h) = h
 
 -- what an error was turned into holds of the words, if the words can give errors of that kind
-pub stop_said : (app : App) (words : List Text) (k : ErrorKind) (s : Stop) → (k ≡ kind.OutOfMemory) ⊎ IsAmong k (fault_of app words)
+pub stop_said : (app : App) (words : List Text) (k : ErrorKind) (s : EarlyExit) → (k ≡ kind.OutOfMemory) ⊎ IsAmong k (fault_of app words)
     → StopsBy k s → StopSays app words s
 stop_said app words k stop.Help h is = among app words k kind.DisplayHelp (λ e. cc) is h
 stop_said app words k stop.Version h is = among app words k kind.DisplayVersion (λ e. cc) is h
@@ -39,7 +39,7 @@ stop_said app words k (stop.Wrong (wrong.NoStart text)) h is = absurd is
 stop_said app words k stop.NoMemory h is = tt
 
 -- `call` was entered with matches that make no line
-pub call_stops : (entered : Option (Text × List Row)) (rows : List Row) (s : Stop) → entered ≡ Some (codes "call", rows) → IsNoLine (call_in rows) s
+pub call_stops : (entered : Option (Text × List Row)) (rows : List Row) (s : EarlyExit) → entered ≡ Some (codes "call", rows) → IsNoLine (call_in rows) s
     → OptionsStop entered s
 call_stops entered rows stop.Help is h = absurd h
 call_stops entered rows stop.Version is h = absurd h
@@ -56,7 +56,7 @@ call_stops entered rows (stop.Wrong (wrong.LongFunction name)) is h = absurd h
 call_stops entered rows (stop.Wrong (wrong.NoList text)) is h = absurd h
 
 -- `serve` was entered with matches that make no line
-pub serve_stops : (entered : Option (Text × List Row)) (rows : List Row) (s : Stop) → entered ≡ Some (codes "serve", rows) → ServeStops rows s
+pub serve_stops : (entered : Option (Text × List Row)) (rows : List Row) (s : EarlyExit) → entered ≡ Some (codes "serve", rows) → ServeStops rows s
     → OptionsStop entered s
 serve_stops entered rows stop.Help is h = absurd h
 serve_stops entered rows stop.Version is h = absurd h
@@ -73,7 +73,7 @@ serve_stops entered rows (stop.Wrong (wrong.LongFunction name)) is h = absurd h
 serve_stops entered rows (stop.Wrong (wrong.NoList text)) is h = absurd h
 
 -- the subcommand that the matches have is the one that the words enter
-pub options_say : (words : List Text) (entered : Option (Text × List Row)) (s : Stop) → entered ≡ subcommand_of node_app words → OptionsStop entered s
+pub options_say : (words : List Text) (entered : Option (Text × List Row)) (s : EarlyExit) → entered ≡ subcommand_of node_app words → OptionsStop entered s
     → StopSays node_app words s
 options_say words entered stop.Help is h = absurd h
 options_say words entered stop.Version is h = absurd h
@@ -90,7 +90,7 @@ options_say words entered (stop.Wrong (wrong.LongFunction name)) is h = absurd h
 options_say words entered (stop.Wrong (wrong.NoList text)) is h = absurd h
 
 -- the files that the matches name are those that the words name
-pub names_say : (app : App) (words : List Text) (rows : List Row) (s : Stop) → rows ≡ matches_of app words → NamesStop rows s → StopSays app words s
+pub names_say : (app : App) (words : List Text) (rows : List Row) (s : EarlyExit) → rows ≡ matches_of app words → NamesStop rows s → StopSays app words s
 names_say app words rows stop.Help is h = absurd h
 names_say app words rows stop.Version is h = absurd h
 names_say app words rows stop.NoMemory is h = absurd h

@@ -13,10 +13,10 @@ use Rattle.beam_machine.specs.Process.{Process, is_waiting}
 use Rattle.beam_machine.specs.Ready.{next_deadline}
 use Rattle.beam_machine.specs.Run.{Answers, effective_rows}
 use Rattle.beam_machine.specs.State.{State, live_process, process_of}
-use Rattle.beam_tools.specs.declared.rounds.Outcome.{Outcome}
-use Rattle.beam_tools.specs.declared.rounds.Outcome.TheVariants.{Spent}
+use Rattle.beam_tools.specs.declared.rounds.CallOutcome.{CallOutcome}
+use Rattle.beam_tools.specs.declared.rounds.CallOutcome.TheVariants.{Spent}
 use Rattle.beam_tools.specs.declared.rounds.Rounds.{Rounds}
-use Rattle.beam_tools.specs.Rounds.{IsWhole, onward, outcome_by, outcome_within, rows_of, told, wake, woken}
+use Rattle.beam_tools.specs.Rounds.{IsWhole, onward, outcome_by, outcome_within, rows_of, onward_of, wake, woken}
 
 -- ---- rows
 
@@ -105,7 +105,7 @@ woken_zero (suc m) now s e = absurd (omega arith)
 
 -- ---- turns
 
-pub outcome_on : (m n : ℕ) (r next_one : Rounds) (o : Option Outcome) → m ≡ n + 1 → told o next_one ≡ onward r → outcome_within m r ≡ outcome_by (outcome_within n) (told o next_one)
+pub outcome_on : (m n : ℕ) (r next_one : Rounds) (o : Option CallOutcome) → m ≡ n + 1 → onward_of o next_one ≡ onward r → outcome_within m r ≡ outcome_by (outcome_within n) (onward_of o next_one)
 unfolding outcome_within
 outcome_on zero n r next_one o e is = absurd (omega arith)
 outcome_on (suc m) n r next_one o e is =

@@ -12,12 +12,12 @@ use Rattle.beam_model.specs.Loads.{IsLoadable}
 use Rattle.beam_tools.specs.Fault.{has_word, is_verbose}
 use Rattle.beam_tools.specs.Files.{Contents, HasBytes, Written, with_file}
 use Rattle.beam_tools.specs.Lines.{IsAnswered, WrongSays}
-use Rattle.beam_tools.specs.Told.{told_text}
+use Rattle.beam_tools.specs.Report.{report_text}
 use Rattle.beam_tools.specs.Rules.{positional_rule, verbose_rule, with_version}
-use Rattle.beam_tools.specs.declared.fault.Fault.{Fault}
-use Rattle.beam_tools.specs.declared.fault.Fault.TheVariants as fault
-use Rattle.beam_tools.specs.declared.fault.Why.{Why}
-use Rattle.beam_tools.specs.declared.fault.Why.TheVariants as why
+use Rattle.beam_tools.specs.declared.fault.RunFault.{RunFault}
+use Rattle.beam_tools.specs.declared.fault.RunFault.TheVariants as fault
+use Rattle.beam_tools.specs.declared.fault.FileFaultKind.{FileFaultKind}
+use Rattle.beam_tools.specs.declared.fault.FileFaultKind.TheVariants as why
 use Rattle.beam_tools.specs.declared.program.Program.TheVariants.{Assembler}
 
 -- `--all`
@@ -34,8 +34,8 @@ abbrev pub asks_more : List Text → Bool
 asks_more words = has_word (codes "--all") words || is_verbose words
 
 -- a fault is written to the error output, and then more, if the words ask for it
-abbrev pub IsToldBeside : List Text → List ℕ → Fault → Option (List ℕ) → Option (List ℕ) → Type 0
-IsToldBeside words text f old new = (more : List ℕ) × (new ≡ append_known old (told_text Assembler words text f ++ more))
+abbrev pub IsReportedBeside : List Text → List ℕ → RunFault → Option (List ℕ) → Option (List ℕ) → Type 0
+IsReportedBeside words text f old new = (more : List ℕ) × (new ≡ append_known old (report_text Assembler words text f ++ more))
     × (asks_more words ≡ false → more ≡ [])
 
 -- the files that the words name
@@ -63,7 +63,7 @@ IsWritten files words old new =
     (input : Text) × (output : Text) × (input_of words ≡ Some input) × (output_of words ≡ Some output) × IsWrittenAs files input output old new
 
 -- why this text has no listing with a file
-abbrev pub IsNoListing : List ℕ → Why → Type 0
+abbrev pub IsNoListing : List ℕ → FileFaultKind → Type 0
 IsNoListing text why.NoText = IsUtf8 text → ⊥
 IsNoListing text (why.Syntax line) = listing_of_text text ≡ Err (syntax line)
 IsNoListing text (why.UnknownForm line) = listing_of_text text ≡ Err (unknown line)
@@ -72,22 +72,22 @@ IsNoListing text why.NoMemory = ⊤
 IsNoListing text _ = ⊥
 
 -- why the file of that name, with this text, isn't assembled; a failed device and an allocation failure imply nothing
-abbrev pub IsNotAssembled : Contents → Text → List ℕ → Why → Type 0
+abbrev pub IsNotAssembled : Contents → Text → List ℕ → FileFaultKind → Type 0
 IsNotAssembled files name text (why.Unread e) = ⊤
 IsNotAssembled files name text e = HasBytes files name text × IsNoListing text e
 
 -- the file at which the run fails: the second one where it can't be written, and otherwise the first one, with this text
-abbrev pub FileSays : Contents → Text → Text → List ℕ → Text → Why → Type 0
-FileSays files input output text name (why.Unwritten said) = name ≡ output
+abbrev pub FileSays : Contents → Text → Text → List ℕ → Text → FileFaultKind → Type 0
+FileSays files input output text name (why.Unwritten os_error) = name ≡ output
 FileSays files input output text name e = (name ≡ input) × IsNotAssembled files name text e
 
 -- what a fault implies for the two files
-abbrev pub NameSays : Contents → Text → Text → List ℕ → Fault → Type 0
+abbrev pub NameSays : Contents → Text → Text → List ℕ → RunFault → Type 0
 NameSays files input output text (fault.File f) = FileSays files input output text f.name.now f.why
 NameSays files input output text _ = ⊥
 
 -- what a fault implies for the words, and for the text that was read
-abbrev pub FaultSays : Contents → List Text → List ℕ → Fault → Type 0
+abbrev pub FaultSays : Contents → List Text → List ℕ → RunFault → Type 0
 FaultSays files words text (fault.Wrong w) = WrongSays as_app words w
 FaultSays files words text (fault.File f) =
     (input : Text) × (output : Text) × (input_of words ≡ Some input) × (output_of words ≡ Some output) × FileSays files input output text f.name.now f.why

@@ -9,8 +9,8 @@ use Rattle.beam_machine.specs.declared.event.Reply.{Reply}
 use Rattle.beam_machine.specs.Next.{next}
 use Rattle.beam_machine.specs.Process.{normal}
 use Rattle.beam_machine.specs.State.{State, empty}
-use Rattle.beam_tools.specs.declared.rounds.Outcome.{Outcome}
-use Rattle.beam_tools.specs.declared.rounds.Outcome.TheVariants.{Ended, Spent, Stuck}
+use Rattle.beam_tools.specs.declared.rounds.CallOutcome.{CallOutcome}
+use Rattle.beam_tools.specs.declared.rounds.CallOutcome.TheVariants.{Ended, Spent, Stuck}
 use Rattle.beam_tools.specs.Rounds.{new_round, outcome_of}
 use Rattle.beam_term.specs.TermValue.{TermValue, list_of}
 use Rattle.beam_model.specs.TextReading.{term_of_text}
@@ -28,7 +28,7 @@ abbrev pub with_call : State → CallLine → List TermValue → State
 with_call s line arguments = (next s (Spawn line.module_name line.function_name arguments)).state
 
 -- the outcome of the rounds in which the processes run, once these listings are loaded and the first process has started
-abbrev pub call_of : State → CallLine → List TermValue → Outcome
+abbrev pub call_of : State → CallLine → List TermValue → CallOutcome
 call_of s line arguments = outcome_of (new_round (with_call s line arguments) line.steps)
 
 -- the file of that name has this listing
@@ -51,12 +51,12 @@ StartsCall line event = (arguments : List TermValue) × AreArguments line.argume
     × (event ≡ Spawn line.module_name line.function_name arguments)
 
 -- a call comes to this outcome, with the listings of its files and the arguments in its text
-abbrev pub ComesTo : Contents → CallLine → Outcome → Type 0
+abbrev pub ComesTo : Contents → CallLine → CallOutcome → Type 0
 ComesTo files line outcome = (ls : List Listing) × (s : State) × (arguments : List TermValue)
     × Loads empty ls s × AreFilesOf files line.files ls × AreArguments line.arguments arguments × (outcome ≡ call_of s line arguments)
 
 -- the words ask for a call that comes to this outcome
-abbrev pub CallComesTo : Contents → List Text → Outcome → Type 0
+abbrev pub CallComesTo : Contents → List Text → CallOutcome → Type 0
 CallComesTo files words outcome = (line : CallLine) × (line_of words ≡ Some (call line)) × ComesTo files line outcome
 
 -- process 1 of the call ended with the reason `normal` and this value

@@ -5,14 +5,14 @@ use Rattle.std.specs.Str.{bytes_eq}
 use Rattle.clap.specs.Words.{Text}
 use Rattle.beam_tools.specs.Names.{newline, why_name}
 use Rattle.beam_tools.specs.Program.{name_of, usage_of}
-use Rattle.beam_tools.specs.declared.fault.Fault.{Fault}
-use Rattle.beam_tools.specs.declared.fault.Fault.TheVariants.{Exit, File, NoMemory, Spent, Stuck, Unwritten, Wrong}
+use Rattle.beam_tools.specs.declared.fault.RunFault.{RunFault}
+use Rattle.beam_tools.specs.declared.fault.RunFault.TheVariants.{Exit, File, NoMemory, Spent, Stuck, Unwritten, Wrong}
 use Rattle.beam_tools.specs.declared.program.Program.{Program}
-use Rattle.beam_tools.specs.declared.stop.Wrong.{Wrong as WrongLine}
-use Rattle.beam_tools.specs.declared.stop.Wrong.TheVariants as wrong
+use Rattle.beam_tools.specs.declared.early_exit.Wrong.{Wrong as WrongLine}
+use Rattle.beam_tools.specs.declared.early_exit.Wrong.TheVariants as wrong
 
 -- the status of the program
-abbrev pub status_of : Fault → ℕ
+abbrev pub status_of : RunFault → ℕ
 status_of (File f) = 1
 status_of NoMemory = 1
 status_of Unwritten = 1
@@ -55,7 +55,7 @@ after_word (wrong.NoStart text) = codes " is no M:F"
 after_word _ = []
 
 -- the message of a fault: `PROGRAM: WHAT`, and the usage after a wrong command line; or how process 1 ended
-abbrev pub message_of : Program → Fault → List ℕ
+abbrev pub message_of : Program → RunFault → List ℕ
 message_of p (File f) = name_of p ++ codes ": " ++ f.name.now ++ codes ": " ++ why_name f.why ++ newline
 message_of p NoMemory = name_of p ++ codes ": NoMemory\n"
 message_of p Unwritten = name_of p ++ codes ": output: WriteFailed\n"

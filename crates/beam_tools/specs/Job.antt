@@ -4,12 +4,12 @@ use Rattle.std.specs.Fmt.{decimal}
 use Rattle.std.specs.Str.{chars}
 use Rattle.clap.specs.Words.{Text}
 use Rattle.beam_machine.specs.declared.event.Refused.{Refused}
-use Rattle.beam_remote.specs.declared.error.Why.{Why as SessionWhy}
+use Rattle.beam_remote.specs.declared.error.SessionFailure.{SessionFailure as SessionWhy}
 use Rattle.beam_tools.specs.Fault.{is_verbose, message_of}
 use Rattle.beam_tools.specs.Names.{newline, refusal_name, session_name}
 use Rattle.beam_tools.specs.Options.{Line, pipe, serve, serve_line}
-use Rattle.beam_tools.specs.Place.{file_place, said_line}
-use Rattle.beam_tools.specs.declared.fault.Fault.TheVariants.{File}
+use Rattle.beam_tools.specs.Place.{file_place, os_error_line}
+use Rattle.beam_tools.specs.declared.fault.RunFault.TheVariants.{File}
 use Rattle.beam_tools.specs.declared.job.Job.{Job}
 use Rattle.beam_tools.specs.declared.job.Job.TheVariants.{Done, Pipe, Serve}
 use Rattle.beam_tools.specs.declared.job.JobFault.{JobFault}
@@ -47,8 +47,8 @@ start_message refused = codes "beamnode: serve: " ++ refusal_name refused ++ new
 
 -- the message about a job that isn't done to its end
 abbrev pub job_message : JobFault → List ℕ
-job_message (fault.Pipe why said) = session_message why
-job_message (fault.Net port said) = port_message port
+job_message (fault.Pipe why os_error) = session_message why
+job_message (fault.Net port os_error) = port_message port
 job_message (fault.File f) = message_of Node (File f)
 job_message (fault.Start refused) = start_message refused
 job_message fault.LongName = codes "beamnode: serve: TooLong\n"
@@ -59,8 +59,8 @@ job_message fault.NoMemory = codes "beamnode: NoMemory\n"
 
 -- more about the fault: the operating system's error, or where the fault of a file lies
 abbrev pub job_place : JobFault → List ℕ
-job_place (fault.Pipe why (Some said)) = said_line said
-job_place (fault.Net port said) = said_line said
+job_place (fault.Pipe why (Some os_error)) = os_error_line os_error
+job_place (fault.Net port os_error) = os_error_line os_error
 job_place (fault.File f) = file_place [] f.why
 job_place _ = []
 
@@ -70,8 +70,8 @@ job_text words f = job_message f ++ (if is_verbose words then job_place f else [
 
 -- a network fault is of this port; if that is 0, of the port that the operating system gave
 abbrev pub IsOfPort : ℕ → JobFault → Type 0
-IsOfPort port (fault.Pipe why said) = ⊥
-IsOfPort port (fault.Net p said) = port ≢ 0 → p ≡ port
+IsOfPort port (fault.Pipe why os_error) = ⊥
+IsOfPort port (fault.Net p os_error) = port ≢ 0 → p ≡ port
 IsOfPort port _ = ⊤
 
 -- why no atom has this text; an allocation failure implies nothing

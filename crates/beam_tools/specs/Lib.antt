@@ -13,5 +13,5 @@ pub mod Place
 pub mod Program
 pub mod Rounds
 pub mod Rules
-pub mod Told
+pub mod Report
 pub mod Unloaded

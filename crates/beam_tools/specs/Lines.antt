@@ -9,13 +9,13 @@ use Rattle.beam_term.specs.TermValue.{TermValue}
 use Rattle.beam_tools.specs.Call.{AreArguments}
 use Rattle.beam_tools.specs.Options.{CallLine, Line, call, level_of, line_in, line_of, node_app, serve_in, start_of}
 use Rattle.beam_tools.specs.Program.{help_of, version_of}
-use Rattle.beam_tools.specs.declared.fault.Fault.{Fault}
-use Rattle.beam_tools.specs.declared.fault.Fault.TheVariants as fault
+use Rattle.beam_tools.specs.declared.fault.RunFault.{RunFault}
+use Rattle.beam_tools.specs.declared.fault.RunFault.TheVariants as fault
 use Rattle.beam_tools.specs.declared.program.Program.{Program}
-use Rattle.beam_tools.specs.declared.stop.Stop.{Stop}
-use Rattle.beam_tools.specs.declared.stop.Stop.TheVariants as stop
-use Rattle.beam_tools.specs.declared.stop.Wrong.{Wrong}
-use Rattle.beam_tools.specs.declared.stop.Wrong.TheVariants as wrong
+use Rattle.beam_tools.specs.declared.early_exit.EarlyExit.{EarlyExit}
+use Rattle.beam_tools.specs.declared.early_exit.EarlyExit.TheVariants as stop
+use Rattle.beam_tools.specs.declared.early_exit.Wrong.{Wrong}
+use Rattle.beam_tools.specs.declared.early_exit.Wrong.TheVariants as wrong
 
 -- by this command, the words ask for the help, or for the version
 abbrev pub AskForHelp : App → List Text → Type 0
@@ -76,14 +76,14 @@ WrongSays app words (wrong.NoLevel text) = AskToServeWrongly words (wrong.NoLeve
 WrongSays app words (wrong.NoStart text) = AskToServeWrongly words (wrong.NoStart text)
 
 -- what a stop implies for the words; an allocation failure implies nothing
-abbrev pub StopSays : App → List Text → Stop → Type 0
+abbrev pub StopSays : App → List Text → EarlyExit → Type 0
 StopSays app words stop.Help = AskForHelp app words
 StopSays app words stop.Version = AskForVersion app words
 StopSays app words (stop.Wrong w) = WrongSays app words w
 StopSays app words stop.NoMemory = ⊤
 
 -- this stop is what an error of this kind becomes
-abbrev pub StopsBy : ErrorKind → Stop → Type 0
+abbrev pub StopsBy : ErrorKind → EarlyExit → Type 0
 StopsBy k stop.Help = k ≡ kind.DisplayHelp
 StopsBy k stop.Version = k ≡ kind.DisplayVersion
 StopsBy k (stop.Wrong (wrong.Words text)) = (k ≢ kind.OutOfMemory) × (k ≢ kind.DisplayHelp) × (k ≢ kind.DisplayVersion)
@@ -91,19 +91,19 @@ StopsBy k (stop.Wrong _) = ⊥
 StopsBy k stop.NoMemory = ⊤
 
 -- no line is asked for, or memory was refused
-abbrev pub IsNoLine : Option Line → Stop → Type 0
+abbrev pub IsNoLine : Option Line → EarlyExit → Type 0
 IsNoLine line (stop.Wrong wrong.NoCommand) = line ≡ None
 IsNoLine line stop.NoMemory = ⊤
 IsNoLine line _ = ⊥
 
 -- the matches of `serve` make no service, or memory was refused
-abbrev pub ServeStops : List Row → Stop → Type 0
+abbrev pub ServeStops : List Row → EarlyExit → Type 0
 ServeStops rows (stop.Wrong w) = ServeIsWrong rows w
 ServeStops rows stop.NoMemory = ⊤
 ServeStops rows _ = ⊥
 
 -- the subcommand that was entered makes no line: there is none, or its matches make none
-abbrev pub OptionsStop : Option (Text × List Row) → Stop → Type 0
+abbrev pub OptionsStop : Option (Text × List Row) → EarlyExit → Type 0
 OptionsStop entered (stop.Wrong wrong.NoCommand) = option_and_then line_in entered ≡ None
 OptionsStop entered (stop.Wrong (wrong.NoLevel text)) = EntersWrongly entered (wrong.NoLevel text)
 OptionsStop entered (stop.Wrong (wrong.NoStart text)) = EntersWrongly entered (wrong.NoStart text)
@@ -111,7 +111,7 @@ OptionsStop entered stop.NoMemory = ⊤
 OptionsStop entered _ = ⊥
 
 -- the matches don't name two files, or name one twice
-abbrev pub NamesStop : List Row → Stop → Type 0
+abbrev pub NamesStop : List Row → EarlyExit → Type 0
 NamesStop rows (stop.Wrong (wrong.Same name)) = (first_of (codes "in") rows ≡ Some name.now) × (first_of (codes "out") rows ≡ Some name.now)
 NamesStop rows (stop.Wrong wrong.NoFile) = (first_of (codes "in") rows ≡ None) ⊎ (first_of (codes "out") rows ≡ None)
 NamesStop rows _ = ⊥
@@ -125,7 +125,7 @@ abbrev pub IsAnswered : Program → App → List Text → Option (List ℕ) → 
 IsAnswered p app words old new = (text : List ℕ) × IsAnswer p app words text × Appends old new text
 
 -- what a fault of the command line implies for the words
-abbrev pub LineFault : App → List Text → Fault → Type 0
+abbrev pub LineFault : App → List Text → RunFault → Type 0
 LineFault app words (fault.Wrong w) = WrongSays app words w
 LineFault app words fault.NoMemory = ⊤
 LineFault app words fault.Unwritten = ⊤

@@ -8,15 +8,15 @@ use Rattle.beam_disasm.specs.Refusals.{name_of}
 use Rattle.beam_disasm.specs.declared.error.FileError.TheVariants as file
 use Rattle.beam_machine.specs.declared.event.Refused.{Refused}
 use Rattle.beam_machine.specs.declared.event.Refused.TheVariants as refused
-use Rattle.beam_remote.specs.declared.error.Why.{Why as SessionWhy}
-use Rattle.beam_remote.specs.declared.error.Why.TheVariants as session
-use Rattle.beam_tools.specs.declared.fault.Why.{Why}
-use Rattle.beam_tools.specs.declared.fault.Why.TheVariants as why
+use Rattle.beam_remote.specs.declared.error.SessionFailure.{SessionFailure as SessionWhy}
+use Rattle.beam_remote.specs.declared.error.SessionFailure.TheVariants as session
+use Rattle.beam_tools.specs.declared.fault.FileFaultKind.{FileFaultKind}
+use Rattle.beam_tools.specs.declared.fault.FileFaultKind.TheVariants as why
 use Rattle.beam_tools.specs.declared.files.ReadError.{ReadError}
 use Rattle.beam_tools.specs.declared.files.ReadError.TheVariants as read
 
 abbrev pub read_name : ReadError → List ℕ
-read_name (read.ReadFailed said) = codes "ReadFailed"
+read_name (read.ReadFailed os_error) = codes "ReadFailed"
 read_name read.TooLong = codes "TooLong"
 read_name read.NoMemory = codes "NoMemory"
 
@@ -47,9 +47,9 @@ assembly_name TooManyAtoms = codes "TooManyAtoms"
 assembly_name AtomTooLong = codes "AtomTooLong"
 
 -- why a run fails at a file
-abbrev pub why_name : Why → List ℕ
+abbrev pub why_name : FileFaultKind → List ℕ
 why_name (why.Unread e) = read_name e
-why_name (why.Unwritten said) = codes "WriteFailed"
+why_name (why.Unwritten os_error) = codes "WriteFailed"
 why_name (why.BadFile e) = name_of e
 why_name (why.Refused r) = refusal_name r
 why_name why.NoText = codes "Syntax"

@@ -12,14 +12,14 @@ use Rattle.beam_tools.specs.Lines.{CallIsWrong, IsAnswer, WrongSays}
 use Rattle.beam_tools.specs.Names.{newline}
 use Rattle.beam_tools.specs.Options.{CallLine, call, line_of, node_app}
 use Rattle.beam_tools.specs.Unloaded.{IsFirstUnloaded}
-use Rattle.beam_tools.specs.declared.fault.Fault.{Fault}
-use Rattle.beam_tools.specs.declared.fault.Fault.TheVariants.{Exit, File, NoMemory, Spent, Stuck, Unwritten, Wrong}
+use Rattle.beam_tools.specs.declared.fault.RunFault.{RunFault}
+use Rattle.beam_tools.specs.declared.fault.RunFault.TheVariants.{Exit, File, NoMemory, Spent, Stuck, Unwritten, Wrong}
 use Rattle.beam_tools.specs.declared.program.Program.TheVariants.{Node}
-use Rattle.beam_tools.specs.declared.rounds.Outcome.{Outcome}
-use Rattle.beam_tools.specs.declared.rounds.Outcome.TheVariants as outcome
+use Rattle.beam_tools.specs.declared.rounds.CallOutcome.{CallOutcome}
+use Rattle.beam_tools.specs.declared.rounds.CallOutcome.TheVariants as outcome
 
 -- the outcome of the rounds that a fault reports
-abbrev pub OutcomeSays : Outcome → Fault → Type 0
+abbrev pub OutcomeSays : CallOutcome → RunFault → Type 0
 OutcomeSays o (Exit e) = (reason : TermValue) × (value : TermValue) × (reason ≢ normal)
     × (o ≡ outcome.Ended reason value) × (e.reason.items ≡ text_of reason)
 OutcomeSays o Stuck = o ≡ outcome.Stuck
@@ -28,20 +28,20 @@ OutcomeSays o NoMemory = ⊤
 OutcomeSays o _ = ⊥
 
 -- what a fault implies for a call before it runs: it can't be made
-abbrev pub EntrySays : CallLine → Fault → Type 0
+abbrev pub EntrySays : CallLine → RunFault → Type 0
 EntrySays line (Wrong w) = CallIsWrong line w
 EntrySays line NoMemory = ⊤
 EntrySays line _ = ⊥
 
 -- what a fault before a call has run implies for it: which file isn't loaded, or why the call can't be made
-abbrev pub CallSays : Contents → CallLine → Fault → Type 0
+abbrev pub CallSays : Contents → CallLine → RunFault → Type 0
 CallSays files line (Wrong w) = CallIsWrong line w
 CallSays files line (File f) = IsFirstUnloaded files line.files empty f.name.now f.why
 CallSays files line NoMemory = ⊤
 CallSays files line _ = ⊥
 
 -- what a fault of a run implies for its call
-abbrev pub RunSays : Contents → CallLine → Fault → Type 0
+abbrev pub RunSays : Contents → CallLine → RunFault → Type 0
 RunSays files line (Wrong w) = CallIsWrong line w
 RunSays files line (File f) = IsFirstUnloaded files line.files empty f.name.now f.why
 RunSays files line (Exit e) = (reason : TermValue) × (value : TermValue) × (reason ≢ normal)
@@ -52,7 +52,7 @@ RunSays files line NoMemory = ⊤
 RunSays files line Unwritten = ⊤
 
 -- what a fault implies for the words
-abbrev pub FaultSays : Contents → List Text → Fault → Type 0
+abbrev pub FaultSays : Contents → List Text → RunFault → Type 0
 FaultSays files words (Wrong w) = WrongSays node_app words w
 FaultSays files words (File f) = (line : CallLine) × (line_of words ≡ Some (call line)) × IsFirstUnloaded files line.files empty f.name.now f.why
 FaultSays files words (Exit e) = (reason : TermValue) × HasExit files words reason × (e.reason.items ≡ text_of reason)
@@ -62,7 +62,7 @@ FaultSays files words NoMemory = ⊤
 FaultSays files words Unwritten = ⊤
 
 -- a fault that implies nothing for the outcome of the rounds
-abbrev pub TellsNoEnd : Fault → Type 0
+abbrev pub TellsNoEnd : RunFault → Type 0
 TellsNoEnd NoMemory = ⊤
 TellsNoEnd Unwritten = ⊤
 TellsNoEnd _ = ⊥

@@ -17,7 +17,7 @@ use Rattle.beam_tools.specs.declared.line.Options.{Options}
 use Rattle.beam_tools.specs.declared.line.Serve.{Serve as ServeOptions}
 use Rattle.beam_tools.specs.declared.line.Start.{Start}
 use Rattle.beam_tools.specs.declared.line.Options.TheVariants as options
-use Rattle.beam_tools.specs.declared.serve_options.Numbers.{Numbers}
+use Rattle.beam_tools.specs.declared.serve_options.ServeNumbers.{ServeNumbers}
 
 -- ---- the command
 
@@ -215,7 +215,7 @@ abbrev pub start_of : Text → Option StartLine
 start_of text = start_with (before_first is_colon text) (after_first is_colon text)
 
 -- the numbers of a service, if each of them is there
-abbrev pub numbers_with : Option ℕ → Option ℕ → Option ℕ → Option ℕ → Option ℕ → Option ℕ → Option Numbers
+abbrev pub numbers_with : Option ℕ → Option ℕ → Option ℕ → Option ℕ → Option ℕ → Option ℕ → Option ServeNumbers
 numbers_with (Some port) (Some connections) (Some clients) (Some schedulers) (Some idle) (Some limit) = Some (record {
   port = port;
   connections = connections;
@@ -226,7 +226,7 @@ numbers_with (Some port) (Some connections) (Some clients) (Some schedulers) (So
 })
 numbers_with _ _ _ _ _ _ = None
 
-abbrev pub numbers_in : List Row → Option Numbers
+abbrev pub numbers_in : List Row → Option ServeNumbers
 numbers_in rows = numbers_with (option_and_then port_of (one_of (codes "port") rows)) (option_and_then number_of (one_of (codes "connections") rows))
     (option_and_then count_of (one_of (codes "clients") rows)) (option_and_then count_of (one_of (codes "schedulers") rows))
     (option_and_then number_of (one_of (codes "idle") rows)) (option_and_then number_of (one_of (codes "journal-limit") rows))
@@ -249,7 +249,7 @@ abbrev pub files_in : List Row → List Text
 files_in rows = unwrap_or (all_of (codes "file") rows) []
 
 -- a service with these parts, if each of them is there
-abbrev pub serve_with : Option Numbers → Option LogLevel → Option (Option StartLine) → Bool → List Text → Option Line
+abbrev pub serve_with : Option ServeNumbers → Option LogLevel → Option (Option StartLine) → Bool → List Text → Option Line
 serve_with (Some n) (Some log) (Some start) stops files = Some (serve (record {
   port = n.port;
   connections = n.connections;

@@ -5,14 +5,14 @@ use Rattle.beam_code.specs.declared.error.CodeError.TheVariants.{BadOperand, Uns
 use Rattle.beam_disasm.specs.declared.error.FileError.TheVariants.{Code}
 use Rattle.beam_tools.specs.Fault.{word_of}
 use Rattle.beam_tools.specs.Names.{kind_text, newline}
-use Rattle.beam_tools.specs.declared.fault.Fault.{Fault}
-use Rattle.beam_tools.specs.declared.fault.Fault.TheVariants.{Exit, File, Wrong}
-use Rattle.beam_tools.specs.declared.fault.Why.{Why}
-use Rattle.beam_tools.specs.declared.fault.Why.TheVariants.{BadFile, Syntax, UnknownForm, Unread, Unwritten}
+use Rattle.beam_tools.specs.declared.fault.RunFault.{RunFault}
+use Rattle.beam_tools.specs.declared.fault.RunFault.TheVariants.{Exit, File, Wrong}
+use Rattle.beam_tools.specs.declared.fault.FileFaultKind.{FileFaultKind}
+use Rattle.beam_tools.specs.declared.fault.FileFaultKind.TheVariants.{BadFile, Syntax, UnknownForm, Unread, Unwritten}
 use Rattle.beam_tools.specs.declared.files.ReadError.TheVariants.{ReadFailed}
-use Rattle.beam_tools.specs.declared.said.Said.{Said}
-use Rattle.beam_tools.specs.declared.stop.Wrong.{Wrong as WrongLine}
-use Rattle.beam_tools.specs.declared.stop.Wrong.TheVariants.{Words}
+use Rattle.beam_tools.specs.declared.os_error.OsError.{OsError}
+use Rattle.beam_tools.specs.declared.early_exit.Wrong.{Wrong as WrongLine}
+use Rattle.beam_tools.specs.declared.early_exit.Wrong.TheVariants.{Words}
 
 -- ---- parts of a text
 
@@ -72,13 +72,13 @@ error_text zero = []
 error_text (suc n) = codes ", error " ++ decimal (suc n)
 
 -- the operating system's error of a device that failed
-abbrev pub said_line : Said → List ℕ
-said_line said = codes "  system: " ++ kind_text said.kind ++ error_text said.code ++ newline
+abbrev pub os_error_line : OsError → List ℕ
+os_error_line os_error = codes "  system: " ++ kind_text os_error.kind ++ error_text os_error.code ++ newline
 
 -- where the fault of a file with this text lies, or the operating system's error
-abbrev pub file_place : List ℕ → Why → List ℕ
-file_place text (Unread (ReadFailed said)) = said_line said
-file_place text (Unwritten said) = said_line said
+abbrev pub file_place : List ℕ → FileFaultKind → List ℕ
+file_place text (Unread (ReadFailed os_error)) = os_error_line os_error
+file_place text (Unwritten os_error) = os_error_line os_error
 file_place text (Syntax n) = text_line n text
 file_place text (UnknownForm n) = text_line n text
 file_place text (BadFile (Code (UnsupportedOpcode opcode at))) = opcode_line opcode at
@@ -86,7 +86,7 @@ file_place text (BadFile (Code (BadOperand at))) = operand_line at
 file_place text _ = []
 
 -- where a fault lies, or nothing where that isn't known; of an exit, the lines about the end of process 1
-abbrev pub place_text : List ℕ → Fault → List ℕ
+abbrev pub place_text : List ℕ → RunFault → List ℕ
 place_text text (Wrong w) = word_line (culprit w)
 place_text text (File f) = file_place text f.why
 place_text text (Exit e) = e.place.items

@@ -13,8 +13,8 @@ use Rattle.beam_machine.specs.NodeNative.{most_processes}
 use Rattle.beam_machine.specs.Process.{Process}
 use Rattle.beam_machine.specs.Ready.{next_deadline, ready_after}
 use Rattle.beam_machine.specs.State.{State, process_of}
-use Rattle.beam_tools.specs.declared.rounds.Outcome.{Outcome}
-use Rattle.beam_tools.specs.declared.rounds.Outcome.TheVariants.{Ended, Spent, Stuck}
+use Rattle.beam_tools.specs.declared.rounds.CallOutcome.{CallOutcome}
+use Rattle.beam_tools.specs.declared.rounds.CallOutcome.TheVariants.{Ended, Spent, Stuck}
 use Rattle.beam_tools.specs.declared.rounds.Rounds.{Rounds}
 
 -- the state of the rounds: the node; the pid after which the next process that can go on is looked for, where 0 begins a round; whether a
@@ -78,7 +78,7 @@ at_time now s = woken most_processes now (next s (Clock now)).state
 -- what follows a step: the rounds go on, or come to their outcome
 pub data Onward : Type 0 where
   goes_on : Rounds → Onward
-  comes_to : Outcome → Onward
+  comes_to : CallOutcome → Onward
 
 -- after a round in which nothing ran, the clock moves to the least deadline; without a deadline no process can run
 abbrev pub by_deadline : Rounds → Option (ℕ × ℕ) → Onward
@@ -95,16 +95,16 @@ by_ready r (Some pid) = goes_on (turn r pid)
 by_ready r None = after_round r
 
 -- the rounds end when process 1 has ended, or when no row is left of the budget
-abbrev pub by_end : Rounds → Option Outcome → Onward
+abbrev pub by_end : Rounds → Option CallOutcome → Onward
 by_end r (Some outcome) = comes_to outcome
 by_end r None = if r.left == 0 then comes_to Spent else by_ready r (ready_after r.after r.node.processes)
 
-abbrev pub end_by : Status → Option Outcome
+abbrev pub end_by : Status → Option CallOutcome
 end_by (status.Ended reason value) = Some (Ended reason value)
 end_by _ = None
 
 -- how a process ended, if it has
-abbrev pub end_of : Option Process → Option Outcome
+abbrev pub end_of : Option Process → Option CallOutcome
 end_of (Some p) = end_by p.status
 end_of None = None
 
@@ -112,21 +112,21 @@ abbrev pub onward : Rounds → Onward
 onward r = by_end r (end_of (process_of r.node.processes 1))
 
 -- what a turn or a wait comes to: an outcome, or how far the rounds have come
-abbrev pub told : Option Outcome → Rounds → Onward
-told (Some outcome) r = comes_to outcome
-told None r = goes_on r
+abbrev pub onward_of : Option CallOutcome → Rounds → Onward
+onward_of (Some outcome) r = comes_to outcome
+onward_of None r = goes_on r
 
 -- ---- their outcome
 
-abbrev pub outcome_by : (Rounds → Outcome) → Onward → Outcome
+abbrev pub outcome_by : (Rounds → CallOutcome) → Onward → CallOutcome
 outcome_by rest (goes_on r) = rest r
 outcome_by rest (comes_to outcome) = outcome
 
 -- the outcome of the rounds within n turns and waits
-unfoldable pub outcome_within : ℕ → Rounds → Outcome
+unfoldable pub outcome_within : ℕ → Rounds → CallOutcome
 outcome_within zero r = Spent
 outcome_within (suc n) r = outcome_by (outcome_within n) (onward r)
 
 -- the outcome of the rounds; a budget of 32 bits lasts for less than 2^64 - 1 turns and waits
-abbrev pub outcome_of : Rounds → Outcome
+abbrev pub outcome_of : Rounds → CallOutcome
 outcome_of r = outcome_within 18446744073709551615 r

@@ -6,8 +6,8 @@ use Rattle.clap.specs.declared.builder.value_parser.ValueParser.TheVariants.{Sig
 use Rattle.beam_tools.specs.declared.table.ArgumentRow.{ArgumentRow}
 use Rattle.beam_tools.specs.declared.table.CommandTable.{CommandTable}
 use Rattle.beam_tools.specs.declared.table.SubcommandRow.{SubcommandRow}
-use Rattle.beam_tools.specs.declared.table.Form.{Form}
-use Rattle.beam_tools.specs.declared.table.Form.TheVariants.{Long, Number, Positional, Short}
+use Rattle.beam_tools.specs.declared.table.ArgumentForm.{ArgumentForm}
+use Rattle.beam_tools.specs.declared.table.ArgumentForm.TheVariants.{Long, Number, Positional, Short}
 
 -- `-v`, `--verbose`
 abbrev pub verbose_rule : Rule
@@ -22,7 +22,7 @@ abbrev pub positional_rule : Text → Rule
 positional_rule id = record (new_rule id) { value_names = 1; action = Some Set; required = true }
 
 -- the rule of an argument that is written in this form
-abbrev pub written_as : Form → Text → Rule → Rule
+abbrev pub written_as : ArgumentForm → Text → Rule → Rule
 written_as Positional id rule = rule
 written_as Long id rule = record rule { long = Some id }
 written_as (Short letter) id rule = record rule { long = Some id; short = Some letter }

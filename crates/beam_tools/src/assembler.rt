@@ -3,20 +3,20 @@ ghost use Rattle.std.specs.Prelude.{◌≡◌, ◌≢◌, ◌<◌, ◌⊎◌, If
 ghost use Rattle.clap.specs.Walk.{texts};
 ghost use Rattle.beam_model.specs.ListingReading.{listing_of_text};
 ghost use Rattle.beam_tools.specs.Assembler.{FaultSays, HasFileOf, IsAssembled, IsDone, IsNoListing, IsNotAssembled};
-ghost use Rattle.beam_tools.specs.Assembler.{IsToldBeside, IsWrittenAs, NameSays, as_app};
+ghost use Rattle.beam_tools.specs.Assembler.{IsReportedBeside, IsWrittenAs, NameSays, as_app};
 ghost use Rattle.beam_tools.specs.Fault.{status_of};
 ghost use Rattle.beam_tools.specs.Lines.{IsAnswer};
 ghost use Rattle.beam_tools.specs.Output.{Leaves};
-ghost use Rattle.beam_tools.specs.declared.fault.Fault.{Fault as TheFault};
+ghost use Rattle.beam_tools.specs.declared.fault.RunFault.{RunFault as TheFault};
 ghost use Rattle.beam_tools.specs.declared.program.Program.TheVariants.{Assembler};
 
 use crate::as_options::names;
 use crate::errors::Errors;
-use crate::fault::{Fault, FileFault, Why};
+use crate::fault::{FileFault, FileFaultKind, RunFault};
 use crate::files::{Files, WriteError};
+use crate::listing_report::report_beside;
 use crate::output::answer;
 use crate::program::Program;
-use crate::refused::report_beside;
 use beam_asm::assemble;
 use beam_listing::{ListingError, read_listing};
 use beam_model::listing::Listing;
@@ -24,30 +24,30 @@ use std::alloc::Global;
 use std::io::Write;
 
 // The listing in a text.
-fn listing_of(alloc: Global, text: &[u8]) -> Result<Listing, Why>
+fn listing_of(alloc: Global, text: &[u8]) -> Result<Listing, FileFaultKind>
     ensures listing { IfOk result (λ l. listing_of_text text.now ≡ Ok l) }
     ensures refused { IfErr result (IsNoListing text.now) }
 {
     let Ok(text) = str::from_utf8(text) else {
-        return Err(Why::NoText);
+        return Err(FileFaultKind::NoText);
     };
     match read_listing(alloc, text) {
         Ok(listing) => Ok(listing),
-        Err(ListingError::Syntax(line)) => Err(Why::Syntax(line)),
-        Err(ListingError::UnknownForm(line)) => Err(Why::UnknownForm(line)),
-        Err(ListingError::NoMemory) => Err(Why::NoMemory),
+        Err(ListingError::Syntax(line)) => Err(FileFaultKind::Syntax(line)),
+        Err(ListingError::UnknownForm(line)) => Err(FileFaultKind::UnknownForm(line)),
+        Err(ListingError::NoMemory) => Err(FileFaultKind::NoMemory),
     }
 }
 
 // The file of the listing in a text.
-fn file_of(alloc: Global, text: &[u8]) -> Result<Vec<u8>, Why>
+fn file_of(alloc: Global, text: &[u8]) -> Result<Vec<u8>, FileFaultKind>
     ensures file { IfOk result (λ bytes. HasFileOf text.now bytes.items) }
     ensures refused { IfErr result (IsNoListing text.now) }
 {
     let listing = listing_of(alloc, text)?;
     match assemble(alloc, &listing) {
         Ok(bytes) => Ok(bytes),
-        Err(error) => Err(Why::Unassembled(error)),
+        Err(error) => Err(FileFaultKind::Unassembled(error)),
     }
 }
 
@@ -57,7 +57,7 @@ fn assembled<F: Files>(
     files: &mut F,
     name: &str,
     text: &mut Vec<u8>,
-) -> Result<Vec<u8>, Why>
+) -> Result<Vec<u8>, FileFaultKind>
     ensures is { IfOk result (λ bytes. IsAssembled (F.contents files.old) name.now bytes.items) }
     ensures refused { IfErr result (IsNotAssembled (F.contents files.old) name.now text.new.items) }
     ensures unwritten { F.written files.new ≡ F.written files.old }
@@ -67,7 +67,7 @@ fn assembled<F: Files>(
             *text = bytes;
             file_of(alloc, text)
         }
-        Err(error) => Err(Why::Unread(error)),
+        Err(error) => Err(FileFaultKind::Unread(error)),
     }
 }
 
@@ -77,7 +77,7 @@ fn assemble_file<'a, F: Files>(
     names: (&'a str, &'a str),
     files: &mut F,
     text: &mut Vec<u8>,
-) -> Result<(), Fault<'a>>
+) -> Result<(), RunFault<'a>>
     ensures written { OnOk result (IsWrittenAs (F.contents files.old) names.entry.0.now names.entry.1.now (F.written files.old) (F.written files.new)) }
     ensures fault { IfErr result (NameSays (F.contents files.old) names.entry.0.now names.entry.1.now text.new.items) }
     ensures unwritten { OnErr result (F.written files.new ≡ F.written files.old) }
@@ -85,13 +85,13 @@ fn assemble_file<'a, F: Files>(
     let (input, output) = names;
     let bytes = match assembled(alloc, files, input, text) {
         Ok(bytes) => bytes,
-        Err(why) => return Err(Fault::File(FileFault { name: input, why })),
+        Err(why) => return Err(RunFault::File(FileFault { name: input, why })),
     };
     match files.write(output, &bytes) {
         Ok(()) => Ok(()),
-        Err(WriteError::WriteFailed(said)) => Err(Fault::File(FileFault {
+        Err(WriteError::WriteFailed(os_error)) => Err(RunFault::File(FileFault {
             name: output,
-            why: Why::Unwritten(said),
+            why: FileFaultKind::Unwritten(os_error),
         })),
     }
 }
@@ -103,7 +103,7 @@ fn give<'a, F: Files, O: Write>(
     files: &mut F,
     output: &mut O,
     text: &mut Vec<u8>,
-) -> Result<(), Fault<'a>>
+) -> Result<(), RunFault<'a>>
     ensures done { OnOk result (IsDone (F.contents files.old) (texts words.entry.now) (F.written files.old) (F.written files.new)
         (O.contents output.old) (O.contents output.new)) }
     ensures fault { IfErr result (FaultSays (F.contents files.old) (texts words.entry.now) text.new.items) }
@@ -141,7 +141,7 @@ pub fn as_run<'a, F: Files, O: Write, E: Errors>(
     ensures unwritten { result ≢ 0 → F.written files.new ≡ F.written files.old }
     ensures fault { result ≢ 0 → (f : TheFault) × (text : List ℕ) × (result ≡ status_of f)
         × FaultSays (F.contents files.old) (texts words.entry.now) text f
-        × IsToldBeside (texts words.entry.now) text f (E.told errors.old) (E.told errors.new)
+        × IsReportedBeside (texts words.entry.now) text f (E.told errors.old) (E.told errors.new)
         × Leaves O.contents (IsAnswer Assembler as_app (texts words.entry.now)) f output.old output.new }
     ensures wrong { result ≡ 2 → files.new ≡ files.old }
     ensures untouched { 1 < result → output.new ≡ output.old }

@@ -11,12 +11,12 @@ ghost use Rattle.beam_tools.specs.Options.{call_line};
 ghost use Rattle.beam_tools.specs.Rounds.{RunsNoRows};
 
 use crate::arguments::{NoElements, elements};
-use crate::fault::Fault;
+use crate::early_exit::Wrong;
+use crate::fault::RunFault;
 use crate::files::Files;
 use crate::line::Call;
 use crate::load::load_files;
-use crate::rounds::{Outcome, Rounds, happen};
-use crate::stop::Wrong;
+use crate::rounds::{CallOutcome, Rounds, happen};
 use beam_core::node::Core;
 use beam_erltext::{TextError, read_erl};
 use beam_image::Image;
@@ -24,25 +24,25 @@ use beam_machine::event::{Event, Refused, SpawnArguments};
 use beam_term::{Atom, AtomError, Term};
 use std::alloc::Global;
 
-fn module_of<'a>(alloc: Global, call: &Call<'a>) -> Result<Atom, Fault<'a>>
+fn module_of<'a>(alloc: Global, call: &Call<'a>) -> Result<Atom, RunFault<'a>>
     ensures text { IfOk result (λ a. a ≡ call.now.module.now) }
     ensures fault { IfErr result (EntrySays (call_line call.now)) }
 {
     match Atom::new(alloc, call.module) {
         Ok(atom) => Ok(atom),
-        Err(AtomError::TooLong) => Err(Fault::Wrong(Wrong::LongModule(call.module))),
-        Err(AtomError::NoMemory) => Err(Fault::NoMemory),
+        Err(AtomError::TooLong) => Err(RunFault::Wrong(Wrong::LongModule(call.module))),
+        Err(AtomError::NoMemory) => Err(RunFault::NoMemory),
     }
 }
 
-fn function_of<'a>(alloc: Global, call: &Call<'a>) -> Result<Atom, Fault<'a>>
+fn function_of<'a>(alloc: Global, call: &Call<'a>) -> Result<Atom, RunFault<'a>>
     ensures text { IfOk result (λ a. a ≡ call.now.function.now) }
     ensures fault { IfErr result (EntrySays (call_line call.now)) }
 {
     match Atom::new(alloc, call.function) {
         Ok(atom) => Ok(atom),
-        Err(AtomError::TooLong) => Err(Fault::Wrong(Wrong::LongFunction(call.function))),
-        Err(AtomError::NoMemory) => Err(Fault::NoMemory),
+        Err(AtomError::TooLong) => Err(RunFault::Wrong(Wrong::LongFunction(call.function))),
+        Err(AtomError::NoMemory) => Err(RunFault::NoMemory),
     }
 }
 
@@ -58,24 +58,24 @@ fn items_of(alloc: Global, text: &str) -> Result<Vec<Term>, NoElements>
     }
 }
 
-fn arguments_of<'a>(alloc: Global, call: &Call<'a>) -> Result<SpawnArguments, Fault<'a>>
+fn arguments_of<'a>(alloc: Global, call: &Call<'a>) -> Result<SpawnArguments, RunFault<'a>>
     ensures list { IfOk result (λ xs. AreArguments call.now.arguments.now xs) }
     ensures fault { IfErr result (EntrySays (call_line call.now)) }
 {
     match items_of(alloc, call.arguments) {
         Ok(items) => match SpawnArguments::new(items) {
             Some(arguments) => Ok(arguments),
-            None => Err(Fault::Wrong(Wrong::NoList(call.arguments))),
+            None => Err(RunFault::Wrong(Wrong::NoList(call.arguments))),
         },
-        Err(NoElements::NoList) => Err(Fault::Wrong(Wrong::NoList(call.arguments))),
-        Err(NoElements::NoMemory) => Err(Fault::NoMemory),
+        Err(NoElements::NoList) => Err(RunFault::Wrong(Wrong::NoList(call.arguments))),
+        Err(NoElements::NoMemory) => Err(RunFault::NoMemory),
     }
 }
 
 /// The event that starts a process with the function of a call.
 ///
 /// `Wrong` where a name has more than 255 characters or the text of the arguments is no list of at most 255 terms; `NoMemory`.
-pub fn start_of<'a>(alloc: Global, call: &Call<'a>) -> Result<Event<Image>, Fault<'a>>
+pub fn start_of<'a>(alloc: Global, call: &Call<'a>) -> Result<Event<Image>, RunFault<'a>>
     ensures event { IfOk result (λ e. StartsCall (call_line call.now) e) }
     ensures fault { IfErr result (EntrySays (call_line call.now)) }
 {
@@ -105,7 +105,7 @@ pub fn call<'a, F: Files>(
     alloc: Global,
     call: &Call<'a>,
     files: &mut F,
-) -> Result<(Outcome, u32), Fault<'a>>
+) -> Result<(CallOutcome, u32), RunFault<'a>>
     ensures comes { IfOk result (λ o. ComesTo (F.contents files.old) (call_line call.now) o.0) }
     ensures fault { IfErr result (CallSays (F.contents files.old) (call_line call.now)) }
     ensures wrong { IfErr result (λ f. status_of f ≡ 2 → files.new ≡ files.old) }
@@ -119,6 +119,6 @@ pub fn call<'a, F: Files>(
     start(&mut rounds.node, event)?;
     match rounds.run() {
         Ok(outcome) => Ok((outcome, call.steps.saturating_sub(rounds.left))),
-        Err(_refused) => Err(Fault::NoMemory),
+        Err(_refused) => Err(RunFault::NoMemory),
     }
 }

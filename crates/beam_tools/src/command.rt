@@ -5,8 +5,8 @@ ghost use Rattle.clap.specs.Walk.{texts};
 ghost use Rattle.beam_tools.specs.Lines.{StopSays, StopsBy};
 ghost use Rattle.beam_tools.specs.Rules.{app_by};
 
+use crate::early_exit::{EarlyExit, Wrong};
 use crate::lines::Lines;
-use crate::stop::{Stop, Wrong};
 use crate::table::{CommandTable, command};
 use clap::ArgMatches;
 use clap::error::ErrorKind;
@@ -20,7 +20,7 @@ pub fn parse<'a>(
     alloc: Global,
     table: &CommandTable,
     words: &'a [&'a str],
-) -> Result<ArgMatches<'a>, Stop<'a>>
+) -> Result<ArgMatches<'a>, EarlyExit<'a>>
     ensures matches { IfOk result (HasMatchesOf (app_by table.now) (texts words.entry.now)) }
     ensures taken { is_simple_and_free (app_by table.now) ≡ true
         → IfOk result (λ _. fault_of (app_by table.now) (texts words.entry.now) ≡ []) }
@@ -28,7 +28,7 @@ pub fn parse<'a>(
         → IfErr result (StopSays (app_by table.now) (texts words.entry.now)) }
 {
     let Ok(command) = command(alloc, table) else {
-        return Err(Stop::NoMemory);
+        return Err(EarlyExit::NoMemory);
     };
     match command.try_get_matches_from(words) {
         Ok(matches) => Ok(matches),
@@ -37,16 +37,16 @@ pub fn parse<'a>(
 }
 
 // Why the command line gives nothing to do, by the command's error.
-fn stop<'a>(alloc: Global, error: &clap::Error) -> Stop<'a>
+fn stop<'a>(alloc: Global, error: &clap::Error) -> EarlyExit<'a>
     ensures { StopsBy (kind_of error.now) result }
 {
     match error.kind() {
-        ErrorKind::DisplayHelp => Stop::Help,
-        ErrorKind::DisplayVersion => Stop::Version,
-        ErrorKind::OutOfMemory => Stop::NoMemory,
+        ErrorKind::DisplayHelp => EarlyExit::Help,
+        ErrorKind::DisplayVersion => EarlyExit::Version,
+        ErrorKind::OutOfMemory => EarlyExit::NoMemory,
         _ => match reason(alloc, error) {
-            Ok(reason) => Stop::Wrong(Wrong::Words(reason)),
-            Err(_) => Stop::NoMemory,
+            Ok(reason) => EarlyExit::Wrong(Wrong::Words(reason)),
+            Err(_) => EarlyExit::NoMemory,
         },
     }
 }

@@ -7,35 +7,35 @@ ghost use Rattle.beam_model.specs.ListingText.{listing_text};
 ghost use Rattle.beam_tools.specs.Call.{IsFileOf};
 ghost use Rattle.beam_tools.specs.Dis.{FaultSays, FileSays, IsDone, IsNotListed, IsTextOf, Leaves, Prints, StopsPrinting};
 ghost use Rattle.beam_tools.specs.Fault.{status_of};
-ghost use Rattle.beam_tools.specs.Told.{IsTold};
-ghost use Rattle.beam_tools.specs.declared.fault.Fault.{Fault as TheFault};
+ghost use Rattle.beam_tools.specs.Report.{IsReported};
+ghost use Rattle.beam_tools.specs.declared.fault.RunFault.{RunFault as TheFault};
 ghost use Rattle.beam_tools.specs.declared.program.Program.TheVariants.{Disassembler};
 
 use crate::dis_options::input;
 use crate::errors::Errors;
-use crate::fault::{Fault, FileFault, Why};
+use crate::fault::{FileFault, FileFaultKind, RunFault};
 use crate::files::Files;
 use crate::output::{answer, flush};
 use crate::program::Program;
 use crate::report::report;
 use beam_disasm::disassemble;
 use beam_model::listing::Listing;
-use beam_print::WriteError;
+use beam_print::PrintError;
 use beam_print::write::write_listing;
 use std::alloc::Global;
 use std::io::Write;
 
 // The listing that the file of that name spells.
-fn listing_of<F: Files>(alloc: Global, files: &mut F, name: &str) -> Result<Listing, Why>
+fn listing_of<F: Files>(alloc: Global, files: &mut F, name: &str) -> Result<Listing, FileFaultKind>
     ensures listing { IfOk result (λ l. IsFileOf (F.contents files.old) name.now l) }
     ensures refused { IfErr result (IsNotListed (F.contents files.old) name.now) }
-    ensures unprinted { IfErr result (λ why. why ≢ Why.NoMemory) }
+    ensures unprinted { IfErr result (λ why. why ≢ FileFaultKind.NoMemory) }
     ensures unwritten { F.written files.new ≡ F.written files.old }
 {
-    let bytes = files.read(alloc, name).map_err(Why::Unread)?;
+    let bytes = files.read(alloc, name).map_err(FileFaultKind::Unread)?;
     match disassemble(alloc, &bytes) {
         Ok(listing) => Ok(listing),
-        Err(error) => Err(Why::BadFile(error)),
+        Err(error) => Err(FileFaultKind::BadFile(error)),
     }
 }
 
@@ -45,17 +45,17 @@ fn print_listing<'a, O: Write>(
     name: &'a str,
     listing: &Listing,
     output: &mut O,
-) -> Result<(), Fault<'a>>
+) -> Result<(), RunFault<'a>>
     ensures printed { OnOk result (Appends (O.contents output.old) (O.contents output.new) (listing_text listing.now)) }
     ensures begun { OnErr result (IsBegun (O.contents output.old) (O.contents output.new) (listing_text listing.now)) }
     ensures fault { IfErr result (StopsPrinting name.entry.now) }
 {
     match write_listing(alloc, listing, output) {
         Ok(()) => flush(output),
-        Err(WriteError::Unwritten) => Err(Fault::Unwritten),
-        Err(WriteError::NoMemory) => Err(Fault::File(FileFault {
+        Err(PrintError::Unwritten) => Err(RunFault::Unwritten),
+        Err(PrintError::NoMemory) => Err(RunFault::File(FileFault {
             name,
-            why: Why::NoMemory,
+            why: FileFaultKind::NoMemory,
         })),
     }
 }
@@ -66,7 +66,7 @@ fn print_file<'a, F: Files, O: Write>(
     name: &'a str,
     files: &mut F,
     output: &mut O,
-) -> Result<(), Fault<'a>>
+) -> Result<(), RunFault<'a>>
     ensures printed { OnOk result ((text : List ℕ) × IsTextOf (F.contents files.old) name.entry.now text
         × Appends (O.contents output.old) (O.contents output.new) text) }
     ensures fault { IfErr result (FileSays (F.contents files.old) name.entry.now) }
@@ -75,7 +75,7 @@ fn print_file<'a, F: Files, O: Write>(
 {
     match listing_of(alloc, files, name) {
         Ok(listing) => print_listing(alloc, name, &listing, output),
-        Err(why) => Err(Fault::File(FileFault { name, why })),
+        Err(why) => Err(RunFault::File(FileFault { name, why })),
     }
 }
 
@@ -85,7 +85,7 @@ fn give<'a, F: Files, O: Write>(
     words: &'a [&'a str],
     files: &mut F,
     output: &mut O,
-) -> Result<(), Fault<'a>>
+) -> Result<(), RunFault<'a>>
     ensures done { OnOk result (IsDone (F.contents files.old) (texts words.entry.now) (O.contents output.old) (O.contents output.new)) }
     ensures fault { IfErr result (FaultSays (F.contents files.old) (texts words.entry.now)) }
     ensures left { IfErr result (λ f. Leaves O.contents (Prints (F.contents files.old) (texts words.entry.now)) f output.old output.new) }
@@ -121,7 +121,7 @@ pub fn dis_run<'a, F: Files, O: Write, E: Errors>(
     ensures done { result ≡ 0 → IsDone (F.contents files.old) (texts words.entry.now) (O.contents output.old) (O.contents output.new) }
     ensures quiet { result ≡ 0 → E.told errors.new ≡ E.told errors.old }
     ensures fault { result ≢ 0 → (f : TheFault) × (result ≡ status_of f) × FaultSays (F.contents files.old) (texts words.entry.now) f
-        × IsTold Disassembler (texts words.entry.now) [] f (E.told errors.old) (E.told errors.new)
+        × IsReported Disassembler (texts words.entry.now) [] f (E.told errors.old) (E.told errors.new)
         × Leaves O.contents (Prints (F.contents files.old) (texts words.entry.now)) f output.old output.new }
     ensures wrong { result ≡ 2 → files.new ≡ files.old }
     ensures untouched { 1 < result → output.new ≡ output.old }

@@ -2,22 +2,22 @@
 ghost use Rattle.std.specs.Prelude.{◌≡◌};
 ghost use Rattle.beam_tools.specs.Fault.{status_of};
 ghost use Rattle.beam_tools.specs.Names.{assembly_name, refusal_name};
-ghost use Rattle.beam_tools.specs.declared.fault.Fault.TheVariants.{File, NoMemory};
+ghost use Rattle.beam_tools.specs.declared.fault.RunFault.TheVariants.{File, NoMemory};
 
+use crate::early_exit::Wrong;
 use crate::files::ReadError;
-use crate::said::Said;
-use crate::stop::Wrong;
+use crate::os_error::OsError;
 use beam_asm::AsmError;
 use beam_disasm::FileError;
 use beam_machine::event::Refused;
 
 /// Why a file isn't read, written, loaded, listed or assembled.
 #[derive(Clone, Copy)]
-pub enum Why {
+pub enum FileFaultKind {
     /// The file can't be read.
     Unread(ReadError),
     /// The file can't be written: the operating system's error.
-    Unwritten(Said),
+    Unwritten(OsError),
     /// The file is no module's file.
     BadFile(FileError),
     /// The node refuses to load it.
@@ -34,7 +34,7 @@ pub enum Why {
     NoMemory,
 }
 
-impl Why {
+impl FileFaultKind {
     ghost use Rattle.beam_tools.specs.Names.{why_name};
 
     /// The refusal's name.
@@ -42,14 +42,14 @@ impl Why {
         ensures { result.now ≡ why_name self.now }
     {
         match self {
-            Why::Unread(error) => error.name(),
-            Why::Unwritten(_) => "WriteFailed",
-            Why::BadFile(error) => error.name(),
-            Why::Refused(refused) => refusal_name(*refused),
-            Why::NoText | Why::Syntax(_) => "Syntax",
-            Why::UnknownForm(_) => "UnknownForm",
-            Why::Unassembled(error) => assembly_name(*error),
-            Why::NoMemory => "NoMemory",
+            FileFaultKind::Unread(error) => error.name(),
+            FileFaultKind::Unwritten(_) => "WriteFailed",
+            FileFaultKind::BadFile(error) => error.name(),
+            FileFaultKind::Refused(refused) => refusal_name(*refused),
+            FileFaultKind::NoText | FileFaultKind::Syntax(_) => "Syntax",
+            FileFaultKind::UnknownForm(_) => "UnknownForm",
+            FileFaultKind::Unassembled(error) => assembly_name(*error),
+            FileFaultKind::NoMemory => "NoMemory",
         }
     }
 }
@@ -87,7 +87,7 @@ fn assembly_name(error: AsmError) -> &'static str
 #[derive(Clone, Copy)]
 pub struct FileFault<'a> {
     pub name: &'a str,
-    pub why: Why,
+    pub why: FileFaultKind,
 }
 
 /// How process 1 ended.
@@ -108,7 +108,7 @@ impl Drop for Exit {
 }
 
 /// Why a run fails.
-pub enum Fault<'a> {
+pub enum RunFault<'a> {
     /// The command line is wrong.
     Wrong(Wrong<'a>),
     /// The run fails at a file.
@@ -125,44 +125,48 @@ pub enum Fault<'a> {
     Spent,
 }
 
-impl Drop for Fault<'_> {
+impl Drop for RunFault<'_> {
     fn drop(self) {
         match self {
-            Fault::Wrong(_wrong) => {}
-            Fault::Exit(_exit) => {}
-            Fault::File(_) | Fault::NoMemory | Fault::Unwritten | Fault::Stuck | Fault::Spent => {}
+            RunFault::Wrong(_wrong) => {}
+            RunFault::Exit(_exit) => {}
+            RunFault::File(_)
+            | RunFault::NoMemory
+            | RunFault::Unwritten
+            | RunFault::Stuck
+            | RunFault::Spent => {}
         }
     }
 }
 
-impl Fault<'_> {
+impl RunFault<'_> {
     /// The status of the program.
     pub fn status(&self) -> u8
         ensures { result ≡ status_of self.now }
     {
         match self {
-            Fault::File(_) | Fault::NoMemory | Fault::Unwritten => 1,
-            Fault::Wrong(_) => 2,
-            Fault::Exit(_) => 3,
-            Fault::Stuck => 4,
-            Fault::Spent => 5,
+            RunFault::File(_) | RunFault::NoMemory | RunFault::Unwritten => 1,
+            RunFault::Wrong(_) => 2,
+            RunFault::Exit(_) => 3,
+            RunFault::Stuck => 4,
+            RunFault::Spent => 5,
         }
     }
 }
 
-impl<'a> From<FileFault<'a>> for Fault<'a> {
+impl<'a> From<FileFault<'a>> for RunFault<'a> {
     ghost from_gives = { λ given f. f ≡ File given };
 
-    fn from(fault: FileFault<'a>) -> Fault<'a> {
-        Fault::File(fault)
+    fn from(fault: FileFault<'a>) -> RunFault<'a> {
+        RunFault::File(fault)
     }
 }
 
-impl<'a> From<Refused> for Fault<'a> {
+impl<'a> From<Refused> for RunFault<'a> {
     ghost from_gives = { λ _ f. f ≡ NoMemory };
 
     // The rounds are refused for want of memory alone.
-    fn from(_refused: Refused) -> Fault<'a> {
-        Fault::NoMemory
+    fn from(_refused: Refused) -> RunFault<'a> {
+        RunFault::NoMemory
     }
 }

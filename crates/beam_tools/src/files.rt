@@ -3,7 +3,7 @@ ghost use Rattle.std.specs.Prelude.{◌≡◌, ◌≤◌, ℕ, List, Option, Non
 ghost use Rattle.beam_tools.specs.Files.{with_file};
 ghost use Rattle.beam_tools.specs.declared.files.ReadError.TheVariants.{NoMemory};
 
-use crate::said::Said;
+use crate::os_error::OsError;
 use std::alloc::{AllocError, AllocFailed, Global};
 use std::io::Read;
 use std::{fs, io, rt};
@@ -17,7 +17,7 @@ pub const MAX_FILE: usize = 8_388_608;
 pub enum ReadError {
     /// The device failed, or there is no such file: the operating system's error.
     #[error("ReadFailed")]
-    ReadFailed(Said),
+    ReadFailed(OsError),
     /// The file has more than 8,388,608 bytes.
     #[error("TooLong")]
     TooLong,
@@ -61,7 +61,7 @@ impl<T: Drop> From<AllocFailed<T>> for ReadError {
 #[derive(Clone, Copy, Debug, Error)]
 pub enum WriteError {
     #[error("WriteFailed")]
-    WriteFailed(Said),
+    WriteFailed(OsError),
 }
 
 /// Reads and writes files whole.
@@ -99,7 +99,7 @@ impl<R: rt::Files> Files for FileSystem<'_, R> {
     fn write(&mut self, name: &str, bytes: &[u8]) -> Result<(), WriteError> {
         match fs::write(self.0, name, bytes) {
             Ok(()) => Ok(()),
-            Err(error) => Err(WriteError::WriteFailed(Said::of(&error))),
+            Err(error) => Err(WriteError::WriteFailed(OsError::of(&error))),
         }
     }
 }
@@ -107,7 +107,7 @@ impl<R: rt::Files> Files for FileSystem<'_, R> {
 fn refusal(error: &io::Error) -> ReadError {
     match error.kind() {
         io::ErrorKind::OutOfMemory => ReadError::NoMemory,
-        _ => ReadError::ReadFailed(Said::of(error)),
+        _ => ReadError::ReadFailed(OsError::of(error)),
     }
 }
 

@@ -10,13 +10,13 @@ ghost use Rattle.beam_tools.specs.Names.{session_name};
 use crate::errors::{Errors, tell_three};
 use crate::fault::{FileFault, refusal_name};
 use crate::line::{Serve, Start};
-use crate::place::{tell_file_place, tell_said};
+use crate::os_error::OsError;
+use crate::place::{tell_file_place, tell_os_error};
 use crate::program::Program;
 use crate::report::{is_verbose, tell_file};
-use crate::said::Said;
 use beam_image::Image;
 use beam_machine::event::{Event, Refused, SpawnArguments};
-use beam_remote::Why;
+use beam_remote::SessionFailure;
 use beam_term::{Atom, AtomError};
 use itoa::Buffer;
 use std::alloc::Global;
@@ -36,9 +36,9 @@ pub enum Job<'a> {
 #[derive(Clone, Copy)]
 pub enum JobFault<'a> {
     /// The session over the standard streams stops; the operating system's error, if a stream failed.
-    Pipe(Why, Option<Said>),
+    Pipe(SessionFailure, Option<OsError>),
     /// Listening or accepting fails at this port of 127.0.0.1: the operating system's error.
-    Net(u16, Said),
+    Net(u16, OsError),
     /// A file can't be loaded.
     File(FileFault<'a>),
     /// The node refuses to start the process.
@@ -55,15 +55,15 @@ pub enum JobFault<'a> {
     NoMemory,
 }
 
-fn session_name(why: Why) -> &'static str
+fn session_name(why: SessionFailure) -> &'static str
     ensures { result.now ≡ session_name why }
 {
     match why {
-        Why::ReadFailed => "ReadFailed",
-        Why::WriteFailed => "WriteFailed",
-        Why::CutFrame => "CutFrame",
-        Why::BadFrame(_) => "BadFrame",
-        Why::NoMemory => "NoMemory",
+        SessionFailure::ReadFailed => "ReadFailed",
+        SessionFailure::WriteFailed => "WriteFailed",
+        SessionFailure::CutFrame => "CutFrame",
+        SessionFailure::BadFrame(_) => "BadFrame",
+        SessionFailure::NoMemory => "NoMemory",
     }
 }
 
@@ -75,7 +75,7 @@ fn tell_net<E: Errors>(port: u16, errors: &mut E)
     tell_three(b"beamnode: 127.0.0.1:", port_text, b": NetFailed\n", errors);
 }
 
-fn tell_session<E: Errors>(why: Why, errors: &mut E)
+fn tell_session<E: Errors>(why: SessionFailure, errors: &mut E)
     ensures { E.told errors.new ≡ append_known (E.told errors.old) (session_message why) }
 {
     tell_three(
@@ -118,8 +118,8 @@ fn tell_cause<E: Errors>(fault: &JobFault<'_>, errors: &mut E)
     ensures { E.told errors.new ≡ append_known (E.told errors.old) (job_place fault.now) }
 {
     match fault {
-        JobFault::Pipe(_, Some(said)) => tell_said(*said, errors),
-        JobFault::Net(_, said) => tell_said(*said, errors),
+        JobFault::Pipe(_, Some(os_error)) => tell_os_error(*os_error, errors),
+        JobFault::Net(_, os_error) => tell_os_error(*os_error, errors),
         JobFault::File(file) => tell_file_place(file.why, &[], errors),
         _ => {}
     }

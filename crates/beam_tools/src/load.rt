@@ -10,7 +10,7 @@ ghost use Rattle.beam_machine.specs.State.{State};
 ghost use Rattle.beam_tools.specs.Call.{AreFilesOf, IsFileOf, Loads};
 ghost use Rattle.beam_tools.specs.Unloaded.{IsFirstUnloaded, IsNotLoaded, IsRefusal};
 
-use crate::fault::{FileFault, Why};
+use crate::fault::{FileFault, FileFaultKind};
 use crate::files::Files;
 use beam_core::node::Core;
 use beam_image::Image;
@@ -32,20 +32,25 @@ fn load_image(core: &mut Core, image: Image) -> Result<(), Refused>
 /// The image of the file of that name.
 ///
 /// `Unread` where the file can't be read, and `BadFile` where it is no module's file. The node may still refuse to load the image.
-pub fn image_of<F: Files>(alloc: Global, files: &mut F, name: &str) -> Result<Image, Why>
+pub fn image_of<F: Files>(alloc: Global, files: &mut F, name: &str) -> Result<Image, FileFaultKind>
     ensures listing { IfOk result (λ l. IsFileOf (F.contents files.old) name.now l) }
     ensures well_formed { IfOk result (λ l. IsWellFormed l) }
     ensures refused { IfErr result (λ why. (s : State) → IsNotLoaded (F.contents files.old) name.now s why) }
     ensures keeps { (n : List ℕ) → F.contents files.new n ≡ F.contents files.old n }
 {
-    let bytes = files.read(alloc, name).map_err(Why::Unread)?;
+    let bytes = files.read(alloc, name).map_err(FileFaultKind::Unread)?;
     match Image::prepare(alloc, &bytes) {
         Ok(image) => Ok(image),
-        Err(error) => Err(Why::BadFile(error)),
+        Err(error) => Err(FileFaultKind::BadFile(error)),
     }
 }
 
-fn load_file<F: Files>(alloc: Global, core: &mut Core, files: &mut F, name: &str) -> Result<(), Why>
+fn load_file<F: Files>(
+    alloc: Global,
+    core: &mut Core,
+    files: &mut F,
+    name: &str,
+) -> Result<(), FileFaultKind>
     ensures loaded { IfOk result (λ _. (l : Listing) × IsFileOf (F.contents files.old) name.now l × IsWellFormed l
         × ((reply : TheReply) × (next core.old (Load l) ≡ record { answer = Ok reply; state = core.new }))) }
     ensures refused { IfErr result (IsNotLoaded (F.contents files.old) name.now core.old) }
@@ -57,7 +62,7 @@ fn load_file<F: Files>(alloc: Global, core: &mut Core, files: &mut F, name: &str
     };
     match load_image(core, image) {
         Ok(()) => Ok(()),
-        Err(refused) => Err(Why::Refused(refused)),
+        Err(refused) => Err(FileFaultKind::Refused(refused)),
     }
 }
 

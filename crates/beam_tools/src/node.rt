@@ -11,17 +11,17 @@ ghost use Rattle.beam_tools.specs.Call.{ComesTo, HasExit, IsSpent, IsStuck};
 ghost use Rattle.beam_tools.specs.Fault.{status_of};
 ghost use Rattle.beam_tools.specs.Node.{FaultSays, IsDone, IsValueLine, OutcomeSays, Prints, RunSays, TellsNoEnd, value_line};
 ghost use Rattle.beam_tools.specs.Output.{Leaves};
-ghost use Rattle.beam_tools.specs.Told.{IsTold};
+ghost use Rattle.beam_tools.specs.Report.{IsReported};
 ghost use Rattle.beam_tools.specs.Job.{IfDone, IfLeft, IsService};
 ghost use Rattle.beam_tools.specs.Options.{call_line, line_of, node_app};
-ghost use Rattle.beam_tools.specs.declared.fault.Fault.{Fault as TheFault};
+ghost use Rattle.beam_tools.specs.declared.fault.RunFault.{RunFault as TheFault};
 ghost use Rattle.beam_tools.specs.declared.program.Program.TheVariants.{Node};
-ghost use Rattle.beam_tools.specs.declared.rounds.Outcome.TheVariants.{Ended};
+ghost use Rattle.beam_tools.specs.declared.rounds.CallOutcome.TheVariants.{Ended};
 
 use crate::call::call;
-use crate::ended::end_place;
+use crate::end_place::end_place;
 use crate::errors::Errors;
-use crate::fault::{Exit, Fault};
+use crate::fault::{Exit, RunFault};
 use crate::files::Files;
 use crate::job::Job;
 use crate::line::{Call, Options};
@@ -29,7 +29,7 @@ use crate::options::options;
 use crate::output::{answer, print};
 use crate::program::Program;
 use crate::report::{is_verbose, report};
-use crate::rounds::Outcome;
+use crate::rounds::CallOutcome;
 use beam_erltext::print_erl;
 use beam_term::{Term, TermView};
 use std::alloc::Global;
@@ -45,20 +45,20 @@ fn is_normal(reason: &Term) -> bool
 }
 
 // A term as Erlang text.
-fn printed<'a>(alloc: Global, term: &Term) -> Result<Vec<u8>, Fault<'a>>
+fn printed<'a>(alloc: Global, term: &Term) -> Result<Vec<u8>, RunFault<'a>>
     ensures text { IfOk result (λ text. text.items ≡ text_of term.now) }
     ensures memory { IsOkUnless result Fault.NoMemory }
 {
     let mut text = Vec::new(alloc);
     match print_erl(term, &mut text) {
         Ok(()) => Ok(text),
-        Err(_) => Err(Fault::NoMemory),
+        Err(_) => Err(RunFault::NoMemory),
     }
 }
 
-fn is_exit(outcome: &Outcome) -> bool {
+fn is_exit(outcome: &CallOutcome) -> bool {
     match outcome {
-        Outcome::Ended { reason, .. } => !is_normal(reason),
+        CallOutcome::Ended { reason, .. } => !is_normal(reason),
         _ => false,
     }
 }
@@ -79,21 +79,21 @@ fn place_of<F: Files>(
 }
 
 // The value of a process that ended with the reason `normal`. `place` is for one that ended with another reason: where it stood.
-fn value_of<'a>(alloc: Global, outcome: Outcome, place: Vec<u8>) -> Result<Term, Fault<'a>>
+fn value_of<'a>(alloc: Global, outcome: CallOutcome, place: Vec<u8>) -> Result<Term, RunFault<'a>>
     ensures value { IfOk result (λ v. outcome ≡ Ended normal v) }
     ensures fault { IfErr result (OutcomeSays outcome) }
 {
     match outcome {
-        Outcome::Ended { reason, value } => {
+        CallOutcome::Ended { reason, value } => {
             if is_normal(&reason) {
                 Ok(value)
             } else {
                 let reason = printed(alloc, &reason)?;
-                Err(Fault::Exit(Exit { reason, place }))
+                Err(RunFault::Exit(Exit { reason, place }))
             }
         }
-        Outcome::Stuck => Err(Fault::Stuck),
-        Outcome::Spent => Err(Fault::Spent),
+        CallOutcome::Stuck => Err(RunFault::Stuck),
+        CallOutcome::Spent => Err(RunFault::Spent),
     }
 }
 
@@ -103,7 +103,7 @@ fn run<'a, F: Files>(
     line: &Call<'a>,
     verbose: bool,
     files: &mut F,
-) -> Result<Term, Fault<'a>>
+) -> Result<Term, RunFault<'a>>
     ensures value { IfOk result (λ v. ComesTo (F.contents files.old) (call_line line.now) (Ended normal v)) }
     ensures fault { IfErr result (RunSays (F.contents files.old) (call_line line.now)) }
     ensures unprinted { IfErr result (λ f. f ≢ Fault.Unwritten) }
@@ -118,14 +118,18 @@ fn run<'a, F: Files>(
     }
 }
 
-fn print_value<'a, O: Write>(alloc: Global, value: &Term, output: &mut O) -> Result<(), Fault<'a>>
+fn print_value<'a, O: Write>(
+    alloc: Global,
+    value: &Term,
+    output: &mut O,
+) -> Result<(), RunFault<'a>>
     ensures printed { OnOk result (Appends (O.contents output.old) (O.contents output.new) (value_line value.now)) }
     ensures fault { IfErr result TellsNoEnd }
     ensures left { IfErr result (λ f. Leaves O.contents (λ text. text ≡ value_line value.now) f output.old output.new) }
 {
     let mut line = printed(alloc, value)?;
     if line.push(b'\n').is_err() {
-        return Err(Fault::NoMemory);
+        return Err(RunFault::NoMemory);
     }
     print(&line, output)
 }
@@ -137,7 +141,7 @@ fn print_call<'a, F: Files, O: Write>(
     verbose: bool,
     files: &mut F,
     output: &mut O,
-) -> Result<(), Fault<'a>>
+) -> Result<(), RunFault<'a>>
     ensures value { OnOk result ((v : TermValue) × ComesTo (F.contents files.old) (call_line line.now) (Ended normal v)
         × Appends (O.contents output.old) (O.contents output.new) (value_line v)) }
     ensures left { IfErr result (λ f. Leaves O.contents (IsValueLine (F.contents files.old) (call_line line.now)) f output.old output.new) }
@@ -151,7 +155,7 @@ fn print_call<'a, F: Files, O: Write>(
 }
 
 // Where all that was asked for is printed, nothing is left to be done.
-fn done<'a>(printed: Result<(), Fault<'a>>) -> Result<Job<'a>, Fault<'a>>
+fn done<'a>(printed: Result<(), RunFault<'a>>) -> Result<Job<'a>, RunFault<'a>>
     ensures done { OnOk printed.entry (result ≡ Ok (Job.Done 0)) }
     ensures fault { IfErr printed.entry (λ f. result ≡ Err f) }
 {
@@ -167,7 +171,7 @@ fn give<'a, F: Files, O: Write>(
     words: &'a [&'a str],
     files: &mut F,
     output: &mut O,
-) -> Result<Job<'a>, Fault<'a>>
+) -> Result<Job<'a>, RunFault<'a>>
     ensures done { IfOk result (λ job. IfDone job (λ status. (status ≡ 0)
         × IsDone (F.contents files.old) (texts words.entry.now) (O.contents output.old) (O.contents output.new))) }
     ensures asked { IfOk result (λ job. IfLeft job (λ line. line_of (texts words.entry.now) ≡ Some line)) }
@@ -217,7 +221,7 @@ pub fn node_run<'a, F: Files, O: Write, E: Errors>(
     ensures quiet { IfDone result (λ status. status ≡ 0 → E.told errors.new ≡ E.told errors.old) }
     ensures fault { IfDone result (λ status. status ≢ 0 →
         (f : TheFault) × (status ≡ status_of f) × FaultSays (F.contents files.old) (texts words.entry.now) f
-        × IsTold Node (texts words.entry.now) [] f (E.told errors.old) (E.told errors.new)
+        × IsReported Node (texts words.entry.now) [] f (E.told errors.old) (E.told errors.new)
         × Leaves O.contents (Prints (F.contents files.old) (texts words.entry.now)) f output.old output.new) }
     ensures unread { IsService (line_of (texts words.entry.now)) → files.new ≡ files.old }
     ensures exit { IfDone result (λ status. status ≡ 3 →

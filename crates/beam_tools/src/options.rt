@@ -6,10 +6,12 @@ ghost use Rattle.beam_tools.specs.Lines.{IsNoLine, OptionsStop, StopSays};
 ghost use Rattle.beam_tools.specs.Options.{as_line, call_in, line_in, line_of, node_app};
 
 use crate::command::{parse, text_of};
+use crate::early_exit::{EarlyExit, Wrong};
 use crate::line::{Call, Options};
 use crate::serve_options::{SERVE, serve_in};
-use crate::stop::{Stop, Wrong};
-use crate::table::{ArgumentRow, CommandTable, Form, OPTION, POSITIONAL, SubcommandRow, VERBOSE};
+use crate::table::{
+    ArgumentForm, ArgumentRow, CommandTable, OPTION, POSITIONAL, SubcommandRow, VERBOSE,
+};
 use crate::values::{number_of, texts_of};
 use clap::{ArgAction, ArgMatches};
 use std::alloc::Global;
@@ -36,7 +38,7 @@ const CALL: [ArgumentRow; 6] = [
     },
     ArgumentRow {
         id: "steps",
-        form: Form::Number(0, 4_294_967_295),
+        form: ArgumentForm::Number(0, 4_294_967_295),
         value_names: &["N"],
         defaults: &["1000000"],
         ..OPTION
@@ -73,7 +75,7 @@ const TABLE: CommandTable = CommandTable {
 /// `Wrong` where the command doesn't take the words: an unknown or a repeated name, a missing one, a number of steps that doesn't fit 32
 /// bits, no file for `call`, an impossible value for `serve`; or where they name no subcommand. `Help` and `Version` where they ask for
 /// them, and `NoMemory`.
-pub fn options<'a>(alloc: Global, words: &'a [&'a str]) -> Result<Options<'a>, Stop<'a>>
+pub fn options<'a>(alloc: Global, words: &'a [&'a str]) -> Result<Options<'a>, EarlyExit<'a>>
     ensures told { IfOk result (λ o. line_of (texts words.entry.now) ≡ Some (as_line o)) }
     ensures taken { IfOk result (λ _. fault_of node_app (texts words.entry.now) ≡ []) }
     ensures stop { IfErr result (StopSays node_app (texts words.entry.now)) }
@@ -85,7 +87,7 @@ pub fn options<'a>(alloc: Global, words: &'a [&'a str]) -> Result<Options<'a>, S
 }
 
 // What the matches ask for.
-fn options_in<'a>(alloc: Global, matches: &ArgMatches<'a>) -> Result<Options<'a>, Stop<'a>>
+fn options_in<'a>(alloc: Global, matches: &ArgMatches<'a>) -> Result<Options<'a>, EarlyExit<'a>>
     ensures told { IfOk result (λ o. option_and_then line_in (subcommand_rows_of matches.now) ≡ Some (as_line o)) }
     ensures stop { IfErr result (OptionsStop (subcommand_rows_of matches.now)) }
 {
@@ -93,25 +95,25 @@ fn options_in<'a>(alloc: Global, matches: &ArgMatches<'a>) -> Result<Options<'a>
         Some(("call", inner)) => call_in(alloc, inner),
         Some(("pipe", _)) => Ok(Options::Pipe),
         Some(("serve", inner)) => serve_in(alloc, inner),
-        _ => Err(Stop::Wrong(Wrong::NoCommand)),
+        _ => Err(EarlyExit::Wrong(Wrong::NoCommand)),
     }
 }
 
 // The call in the matches of `call`.
-fn call_in<'a>(alloc: Global, matches: &ArgMatches<'a>) -> Result<Options<'a>, Stop<'a>>
+fn call_in<'a>(alloc: Global, matches: &ArgMatches<'a>) -> Result<Options<'a>, EarlyExit<'a>>
     ensures told { IfOk result (λ o. call_in (rows_of (found_of matches.now)) ≡ Some (as_line o)) }
     ensures stop { IfErr result (IsNoLine (call_in (rows_of (found_of matches.now)))) }
 {
     let (Some(module), Some(function)) = (text_of(matches, "module"), text_of(matches, "function"))
     else {
-        return Err(Stop::Wrong(Wrong::NoCommand));
+        return Err(EarlyExit::Wrong(Wrong::NoCommand));
     };
     let (Some(arguments), Some(steps)) = (text_of(matches, "args"), number_of(matches, "steps"))
     else {
-        return Err(Stop::Wrong(Wrong::NoCommand));
+        return Err(EarlyExit::Wrong(Wrong::NoCommand));
     };
     let Some(names) = texts_of(matches, "file") else {
-        return Err(Stop::Wrong(Wrong::NoCommand));
+        return Err(EarlyExit::Wrong(Wrong::NoCommand));
     };
     match Vec::from_slice(alloc, names) {
         Ok(files) => Ok(Options::Call(Call {
@@ -121,6 +123,6 @@ fn call_in<'a>(alloc: Global, matches: &ArgMatches<'a>) -> Result<Options<'a>, S
             steps,
             files,
         })),
-        Err(_) => Err(Stop::NoMemory),
+        Err(_) => Err(EarlyExit::NoMemory),
     }
 }

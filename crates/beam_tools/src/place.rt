@@ -2,13 +2,13 @@
 ghost use Rattle.std.specs.Prelude.{◌≡◌};
 ghost use Rattle.std.specs.Io.KnownBytes.{append_known};
 ghost use Rattle.beam_tools.specs.Place.{after_mark, byte_text, culprit, file_place, line_in, opcode_line, operand_line};
-ghost use Rattle.beam_tools.specs.Place.{place_text, said_line, text_line, up_to, word_line};
+ghost use Rattle.beam_tools.specs.Place.{place_text, os_error_line, text_line, up_to, word_line};
 
+use crate::early_exit::Wrong;
 use crate::errors::{Errors, tell_three, tell_two};
-use crate::fault::{Fault, Why};
+use crate::fault::{FileFaultKind, RunFault};
 use crate::files::ReadError;
-use crate::said::Said;
-use crate::stop::Wrong;
+use crate::os_error::OsError;
 use beam_code::CodeError;
 use beam_disasm::FileError;
 use itoa::Buffer;
@@ -106,31 +106,36 @@ fn tell_operand<E: Errors>(at: usize, errors: &mut E)
 }
 
 /// Writes the operating system's error, as a line.
-pub fn tell_said<E: Errors>(said: Said, errors: &mut E)
-    ensures { E.told errors.new ≡ append_known (E.told errors.old) (said_line said) }
+pub fn tell_os_error<E: Errors>(os_error: OsError, errors: &mut E)
+    ensures { E.told errors.new ≡ append_known (E.told errors.old) (os_error_line os_error) }
 {
     errors.tell(b"  system: ");
-    errors.tell(said.kind_text().as_bytes());
-    if said.code == 0 {
+    errors.tell(os_error.kind_text().as_bytes());
+    if os_error.code == 0 {
         errors.tell(b"\n");
         return;
     }
     let mut digits = Buffer::new();
-    let code = digits.format(said.code).as_bytes();
+    let code = digits.format(os_error.code).as_bytes();
     tell_three(b", error ", code, b"\n", errors);
 }
 
 /// Writes where the fault of a file with this text lies, as a line.
-pub fn tell_file_place<E: Errors>(why: Why, text: &[u8], errors: &mut E)
+pub fn tell_file_place<E: Errors>(why: FileFaultKind, text: &[u8], errors: &mut E)
     ensures { E.told errors.new ≡ append_known (E.told errors.old) (file_place text.now why) }
 {
     match why {
-        Why::Unread(ReadError::ReadFailed(said)) | Why::Unwritten(said) => tell_said(said, errors),
-        Why::Syntax(number) | Why::UnknownForm(number) => tell_line(number, text, errors),
-        Why::BadFile(FileError::Code(CodeError::UnsupportedOpcode(opcode, at))) => {
+        FileFaultKind::Unread(ReadError::ReadFailed(os_error))
+        | FileFaultKind::Unwritten(os_error) => tell_os_error(os_error, errors),
+        FileFaultKind::Syntax(number) | FileFaultKind::UnknownForm(number) => tell_line(
+            number, text, errors,
+        ),
+        FileFaultKind::BadFile(FileError::Code(CodeError::UnsupportedOpcode(opcode, at))) => {
             tell_opcode(opcode, at, errors);
         }
-        Why::BadFile(FileError::Code(CodeError::BadOperand(at))) => tell_operand(at, errors),
+        FileFaultKind::BadFile(FileError::Code(CodeError::BadOperand(at))) => tell_operand(
+            at, errors,
+        ),
         _ => {}
     }
 }
@@ -138,13 +143,13 @@ pub fn tell_file_place<E: Errors>(why: Why, text: &[u8], errors: &mut E)
 /// Writes where a fault lies, as a line: of a wrong command line the word, of the text of a listing the line, of a file's instructions the
 /// byte in the code chunk, of a device that failed the operating system's error, and of an exit the row that ended process 1. Writes
 /// nothing where that isn't known.
-pub fn tell_place<E: Errors>(fault: &Fault<'_>, text: &[u8], errors: &mut E)
+pub fn tell_place<E: Errors>(fault: &RunFault<'_>, text: &[u8], errors: &mut E)
     ensures { E.told errors.new ≡ append_known (E.told errors.old) (place_text text.now fault.now) }
 {
     match fault {
-        Fault::Wrong(wrong) => tell_word(culprit(wrong), errors),
-        Fault::File(file) => tell_file_place(file.why, text, errors),
-        Fault::Exit(exit) => errors.tell(&exit.place),
+        RunFault::Wrong(wrong) => tell_word(culprit(wrong), errors),
+        RunFault::File(file) => tell_file_place(file.why, text, errors),
+        RunFault::Exit(exit) => errors.tell(&exit.place),
         _ => {}
     }
 }

@@ -7,6 +7,7 @@ macro_rules! version {
         concat!($($before,)? "0.1.0" $(, $after)?)
     };
 }
+
 pub(crate) use version;
 
 const ASSEMBLER_HELP: &str =

@@ -3,13 +3,13 @@ ghost use Rattle.std.specs.Prelude.{◌≡◌};
 ghost use Rattle.std.specs.Io.KnownBytes.{append_known};
 ghost use Rattle.clap.specs.Walk.{texts};
 ghost use Rattle.beam_tools.specs.Fault.{after_word, before_word, has_word, is_verbose, message_of, status_of, word_of};
-ghost use Rattle.beam_tools.specs.Told.{IsTold};
+ghost use Rattle.beam_tools.specs.Report.{IsReported};
 
+use crate::early_exit::Wrong;
 use crate::errors::{Errors, tell_three, tell_two};
-use crate::fault::{Fault, FileFault};
+use crate::fault::{FileFault, RunFault};
 use crate::place::tell_place;
 use crate::program::Program;
-use crate::stop::Wrong;
 
 impl Wrong<'_> {
     // The text before the wrong word.
@@ -102,17 +102,17 @@ fn tell_no_memory<E: Errors>(program: Program, errors: &mut E)
     tell_two(program.name().as_bytes(), b": NoMemory\n", errors);
 }
 
-fn tell_message<E: Errors>(program: Program, fault: &Fault<'_>, errors: &mut E)
+fn tell_message<E: Errors>(program: Program, fault: &RunFault<'_>, errors: &mut E)
     ensures { E.told errors.new ≡ append_known (E.told errors.old) (message_of program fault.now) }
 {
     match fault {
-        Fault::Wrong(wrong) => tell_wrong(program, wrong, errors),
-        Fault::File(file) => tell_file(program, file, errors),
-        Fault::NoMemory => tell_no_memory(program, errors),
-        Fault::Unwritten => tell_unwritten(program, errors),
-        Fault::Exit(exit) => tell_three(b"exit: ", &exit.reason, b"\n", errors),
-        Fault::Stuck => errors.tell(b"no process can run\n"),
-        Fault::Spent => errors.tell(b"budget spent\n"),
+        RunFault::Wrong(wrong) => tell_wrong(program, wrong, errors),
+        RunFault::File(file) => tell_file(program, file, errors),
+        RunFault::NoMemory => tell_no_memory(program, errors),
+        RunFault::Unwritten => tell_unwritten(program, errors),
+        RunFault::Exit(exit) => tell_three(b"exit: ", &exit.reason, b"\n", errors),
+        RunFault::Stuck => errors.tell(b"no process can run\n"),
+        RunFault::Spent => errors.tell(b"budget spent\n"),
     }
 }
 
@@ -135,12 +135,12 @@ pub fn is_verbose(words: &[&str]) -> bool
 pub fn report<E: Errors>(
     program: Program,
     words: &[&str],
-    fault: &Fault<'_>,
+    fault: &RunFault<'_>,
     text: &[u8],
     errors: &mut E,
 ) -> u8
     ensures status { result ≡ status_of fault.now }
-    ensures told { IsTold program (texts words.now) text.now fault.now (E.told errors.old) (E.told errors.new) }
+    ensures told { IsReported program (texts words.now) text.now fault.now (E.told errors.old) (E.told errors.new) }
 {
     tell_message(program, fault, errors);
     if is_verbose(words) {

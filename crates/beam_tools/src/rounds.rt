@@ -5,7 +5,7 @@ ghost use Rattle.beam_machine.specs.Next.{next};
 ghost use Rattle.beam_machine.specs.NodeNative.{most_processes};
 ghost use Rattle.beam_machine.specs.Ready.{next_deadline, ready_after};
 ghost use Rattle.beam_machine.specs.State.{process_of};
-ghost use Rattle.beam_tools.specs.Rounds.{at_time, by_deadline, by_ready, end_by, end_of, new_round, onward, outcome_of, rows_of, told, turn, woken, IsWhole, RunsNoRows};
+ghost use Rattle.beam_tools.specs.Rounds.{at_time, by_deadline, by_ready, end_by, end_of, new_round, onward, outcome_of, rows_of, onward_of, turn, woken, IsWhole, RunsNoRows};
 
 use beam_core::node::Core;
 use beam_image::Image;
@@ -24,7 +24,7 @@ pub const FIRST: u32 = 1;
 
 /// The outcome of the rounds.
 #[derive(Drop)]
-pub enum Outcome {
+pub enum CallOutcome {
     /// Process 1 ended.
     Ended { reason: Term, value: Term },
     /// No process can go on, and none has a deadline.
@@ -130,12 +130,12 @@ fn pass_time(node: &mut Core, now: u64) -> Result<(), Refused>
 }
 
 // How a process ended, if it has.
-fn end_by(process: &ProcessEntry) -> Result<Option<Outcome>, Refused>
+fn end_by(process: &ProcessEntry) -> Result<Option<CallOutcome>, Refused>
     ensures end { IfOk result (λ o. o ≡ end_by process.now.status) }
     ensures memory { IsOkUnless result Refused.NoMemory }
 {
     match process.end() {
-        Some((reason, value)) => Ok(Some(Outcome::Ended {
+        Some((reason, value)) => Ok(Some(CallOutcome::Ended {
             reason: reason.clone()?,
             value: value.clone()?,
         })),
@@ -157,7 +157,7 @@ impl Rounds {
     }
 
     // How process 1 ended, if it has.
-    fn end(&self) -> Result<Option<Outcome>, Refused>
+    fn end(&self) -> Result<Option<CallOutcome>, Refused>
         ensures end { IfOk result (λ o. o ≡ end_of (process_of self.now.node.processes 1)) }
         ensures memory { IsOkUnless result Refused.NoMemory }
     {
@@ -189,12 +189,12 @@ impl Rounds {
     }
 
     // Moves the clock to the least deadline, and begins a round; without a deadline no process can run.
-    fn wait(&mut self) -> Result<Option<Outcome>, Refused>
-        ensures onward { IfOk result (λ o. told o self.new ≡ by_deadline self.old (next_deadline self.old.node.processes)) }
+    fn wait(&mut self) -> Result<Option<CallOutcome>, Refused>
+        ensures onward { IfOk result (λ o. onward_of o self.new ≡ by_deadline self.old (next_deadline self.old.node.processes)) }
         ensures memory { IsOkUnless result Refused.NoMemory }
     {
         let Some((at, _)) = self.node.next_deadline() else {
-            return Ok(Some(Outcome::Stuck));
+            return Ok(Some(CallOutcome::Stuck));
         };
         pass_time(&mut self.node, at)?;
         self.begin_round();
@@ -202,8 +202,8 @@ impl Rounds {
     }
 
     // Gives the next process its turn, or begins the next round.
-    fn advance(&mut self) -> Result<Option<Outcome>, Refused>
-        ensures onward { IfOk result (λ o. told o self.new ≡ by_ready self.old (ready_after self.old.after self.old.node.processes)) }
+    fn advance(&mut self) -> Result<Option<CallOutcome>, Refused>
+        ensures onward { IfOk result (λ o. onward_of o self.new ≡ by_ready self.old (ready_after self.old.after self.old.node.processes)) }
         ensures memory { IsOkUnless result Refused.NoMemory }
     {
         if let Some(pid) = self.node.ready(self.after) {
@@ -218,15 +218,15 @@ impl Rounds {
     }
 
     // Takes one step of the rounds. Answers the outcome, or `None` if they go on.
-    fn go_on(&mut self) -> Result<Option<Outcome>, Refused>
-        ensures onward { IfOk result (λ o. told o self.new ≡ onward self.old) }
+    fn go_on(&mut self) -> Result<Option<CallOutcome>, Refused>
+        ensures onward { IfOk result (λ o. onward_of o self.new ≡ onward self.old) }
         ensures memory { IsOkUnless result Refused.NoMemory }
     {
         if let Some(outcome) = self.end()? {
             return Ok(Some(outcome));
         }
         if self.left == 0 {
-            return Ok(Some(Outcome::Spent));
+            return Ok(Some(CallOutcome::Spent));
         }
         self.advance()
     }
@@ -234,7 +234,7 @@ impl Rounds {
     /// Runs the processes until process 1 has ended, the budget is spent, or none can run.
     ///
     /// `NoMemory` where memory was refused on the way.
-    pub fn run(&mut self) -> Result<Outcome, Refused>
+    pub fn run(&mut self) -> Result<CallOutcome, Refused>
         ensures outcome { IfOk result (λ o. o ≡ outcome_of self.old) }
         ensures memory { IsOkUnless result Refused.NoMemory }
     {
@@ -243,6 +243,6 @@ impl Rounds {
                 return Ok(outcome);
             }
         }
-        Ok(Outcome::Spent)
+        Ok(CallOutcome::Spent)
     }
 }

@@ -5,9 +5,9 @@ ghost use Rattle.beam_tools.specs.Lines.{ServeStops};
 ghost use Rattle.beam_tools.specs.Options.{as_line, files_in, is_stop_set, level_of, log_in, numbers_in, serve_in, start_in, start_line, start_of};
 
 use crate::command::text_of;
+use crate::early_exit::{EarlyExit, Wrong};
 use crate::line::{LogLevel, Options, Serve, Start};
-use crate::stop::{Stop, Wrong};
-use crate::table::{ArgumentRow, FLAG, Form, OPTION, POSITIONAL, VERBOSE};
+use crate::table::{ArgumentForm, ArgumentRow, FLAG, OPTION, POSITIONAL, VERBOSE};
 use crate::values::{count_of, number_of, port_of, texts_of};
 use clap::{ArgAction, ArgMatches};
 use std::alloc::Global;
@@ -17,28 +17,28 @@ pub const SERVE: [ArgumentRow; 11] = [
     VERBOSE,
     ArgumentRow {
         id: "port",
-        form: Form::Number(0, 65_535),
+        form: ArgumentForm::Number(0, 65_535),
         value_names: &["P"],
         required: true,
         ..OPTION
     },
     ArgumentRow {
         id: "connections",
-        form: Form::Number(0, 4_294_967_295),
+        form: ArgumentForm::Number(0, 4_294_967_295),
         value_names: &["K"],
         defaults: &["0"],
         ..OPTION
     },
     ArgumentRow {
         id: "clients",
-        form: Form::Number(1, 16),
+        form: ArgumentForm::Number(1, 16),
         value_names: &["C"],
         defaults: &["1"],
         ..OPTION
     },
     ArgumentRow {
         id: "schedulers",
-        form: Form::Number(1, 64),
+        form: ArgumentForm::Number(1, 64),
         value_names: &["N"],
         defaults: &["2"],
         ..OPTION
@@ -51,7 +51,7 @@ pub const SERVE: [ArgumentRow; 11] = [
     },
     ArgumentRow {
         id: "idle",
-        form: Form::Number(0, 4_294_967_295),
+        form: ArgumentForm::Number(0, 4_294_967_295),
         value_names: &["SECONDS"],
         defaults: &["0"],
         ..OPTION
@@ -62,7 +62,7 @@ pub const SERVE: [ArgumentRow; 11] = [
     },
     ArgumentRow {
         id: "journal-limit",
-        form: Form::Number(1, 16_777_216),
+        form: ArgumentForm::Number(1, 16_777_216),
         value_names: &["N"],
         defaults: &["16777216"],
         ..OPTION
@@ -106,7 +106,7 @@ fn start_of(text: &str) -> Option<Start<'_>>
 
 // The numbers of a service.
 #[derive(Clone, Copy)]
-struct Numbers {
+struct ServeNumbers {
     port: u16,
     connections: u32,
     clients: u8,
@@ -115,10 +115,10 @@ struct Numbers {
     journal_limit: u32,
 }
 
-fn numbers_in(matches: &ArgMatches<'_>) -> Option<Numbers>
+fn numbers_in(matches: &ArgMatches<'_>) -> Option<ServeNumbers>
     ensures { result ≡ numbers_in (rows_of (found_of matches.now)) }
 {
-    Some(Numbers {
+    Some(ServeNumbers {
         port: port_of(matches, "port")?,
         connections: number_of(matches, "connections")?,
         clients: count_of(matches, "clients")?,
@@ -129,16 +129,16 @@ fn numbers_in(matches: &ArgMatches<'_>) -> Option<Numbers>
 }
 
 #[tactic(auto, using(crate::proofs::Services::no_log))]
-fn log_in<'a>(matches: &ArgMatches<'a>) -> Result<LogLevel, Stop<'a>>
+fn log_in<'a>(matches: &ArgMatches<'a>) -> Result<LogLevel, EarlyExit<'a>>
     ensures level { IfOk result (λ level. log_in (rows_of (found_of matches.now)) ≡ Some level) }
     ensures stop { IfErr result (ServeStops (rows_of (found_of matches.now))) }
 {
     let Some(text) = text_of(matches, "log") else {
-        return Err(Stop::Wrong(Wrong::NoCommand));
+        return Err(EarlyExit::Wrong(Wrong::NoCommand));
     };
     match level_of(text) {
         Some(level) => Ok(level),
-        None => Err(Stop::Wrong(Wrong::NoLevel(text))),
+        None => Err(EarlyExit::Wrong(Wrong::NoLevel(text))),
     }
 }
 
@@ -151,7 +151,7 @@ fn is_stop_set(matches: &ArgMatches<'_>) -> bool
     }
 }
 
-fn start_in<'a>(matches: &ArgMatches<'a>) -> Result<Option<Start<'a>>, Stop<'a>>
+fn start_in<'a>(matches: &ArgMatches<'a>) -> Result<Option<Start<'a>>, EarlyExit<'a>>
     ensures start { IfOk result (λ start. start_in (rows_of (found_of matches.now)) ≡ Some (option_map start_line start)) }
     ensures stop { IfErr result (ServeStops (rows_of (found_of matches.now))) }
 {
@@ -160,11 +160,11 @@ fn start_in<'a>(matches: &ArgMatches<'a>) -> Result<Option<Start<'a>>, Stop<'a>>
     };
     match start_of(text) {
         Some(start) => Ok(Some(start)),
-        None => Err(Stop::Wrong(Wrong::NoStart(text))),
+        None => Err(EarlyExit::Wrong(Wrong::NoStart(text))),
     }
 }
 
-fn files_in<'a>(alloc: Global, matches: &ArgMatches<'a>) -> Result<Vec<&'a str>, Stop<'a>>
+fn files_in<'a>(alloc: Global, matches: &ArgMatches<'a>) -> Result<Vec<&'a str>, EarlyExit<'a>>
     ensures files { IfOk result (λ v. files_in (rows_of (found_of matches.now)) ≡ map (λ s. s.now) v.items) }
     ensures stop { IfErr result (ServeStops (rows_of (found_of matches.now))) }
 {
@@ -173,19 +173,19 @@ fn files_in<'a>(alloc: Global, matches: &ArgMatches<'a>) -> Result<Vec<&'a str>,
     };
     match Vec::from_slice(alloc, names) {
         Ok(files) => Ok(files),
-        Err(_) => Err(Stop::NoMemory),
+        Err(_) => Err(EarlyExit::NoMemory),
     }
 }
 
 /// The service in the matches of `serve`.
 ///
 /// `Wrong` where the level of the log is unknown, or the function to start has no name or no module; `NoMemory`.
-pub fn serve_in<'a>(alloc: Global, matches: &ArgMatches<'a>) -> Result<Options<'a>, Stop<'a>>
+pub fn serve_in<'a>(alloc: Global, matches: &ArgMatches<'a>) -> Result<Options<'a>, EarlyExit<'a>>
     ensures told { IfOk result (λ o. serve_in (rows_of (found_of matches.now)) ≡ Some (as_line o)) }
     ensures stop { IfErr result (ServeStops (rows_of (found_of matches.now))) }
 {
     let Some(numbers) = numbers_in(matches) else {
-        return Err(Stop::Wrong(Wrong::NoCommand));
+        return Err(EarlyExit::Wrong(Wrong::NoCommand));
     };
     let log = log_in(matches)?;
     let start = start_in(matches)?;

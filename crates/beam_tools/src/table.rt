@@ -11,7 +11,7 @@ use std::alloc::{AllocError, Global};
 
 /// How an argument is written.
 #[derive(Clone, Copy)]
-pub enum Form {
+pub enum ArgumentForm {
     /// By its place alone.
     Positional,
     /// `--ID`
@@ -27,7 +27,7 @@ pub enum Form {
 pub struct ArgumentRow {
     /// The name by which its values are found.
     pub id: &'static str,
-    pub form: Form,
+    pub form: ArgumentForm,
     /// What messages call its value.
     pub value_names: &'static [&'static str],
     pub action: ArgAction,
@@ -39,7 +39,7 @@ pub struct ArgumentRow {
 /// A flag, without its name.
 pub const FLAG: ArgumentRow = ArgumentRow {
     id: "",
-    form: Form::Long,
+    form: ArgumentForm::Long,
     value_names: &[],
     action: ArgAction::SetTrue,
     defaults: &[],
@@ -54,7 +54,7 @@ pub const OPTION: ArgumentRow = ArgumentRow {
 
 /// A positional that has to be there, without its name.
 pub const POSITIONAL: ArgumentRow = ArgumentRow {
-    form: Form::Positional,
+    form: ArgumentForm::Positional,
     required: true,
     ..OPTION
 };
@@ -62,7 +62,7 @@ pub const POSITIONAL: ArgumentRow = ArgumentRow {
 /// The flag `-v`, `--verbose`.
 pub const VERBOSE: ArgumentRow = ArgumentRow {
     id: "verbose",
-    form: Form::Short('v'),
+    form: ArgumentForm::Short('v'),
     ..FLAG
 };
 
@@ -100,10 +100,10 @@ fn argument<'a>(alloc: Global, row: &ArgumentRow) -> Arg<'a>
 {
     let argument = placed_argument(alloc, row);
     match row.form {
-        Form::Positional => argument,
-        Form::Long => argument.long(row.id),
-        Form::Short(letter) => argument.long(row.id).short(letter),
-        Form::Number(least, most) => argument
+        ArgumentForm::Positional => argument,
+        ArgumentForm::Long => argument.long(row.id),
+        ArgumentForm::Short(letter) => argument.long(row.id).short(letter),
+        ArgumentForm::Number(least, most) => argument
             .long(row.id)
             .value_parser(ValueParser::Signed(least, most)),
     }

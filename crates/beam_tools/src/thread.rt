@@ -1,10 +1,10 @@
 //! The thread on which a program does its work.
 ghost use Rattle.std.specs.Prelude.{◌≡◌, ◌⊎◌, [], ℕ, ⊤};
-ghost use Rattle.beam_tools.specs.Told.{IsTold};
-ghost use Rattle.beam_tools.specs.declared.fault.Fault.TheVariants.{NoMemory};
+ghost use Rattle.beam_tools.specs.Report.{IsReported};
+ghost use Rattle.beam_tools.specs.declared.fault.RunFault.TheVariants.{NoMemory};
 
 use crate::errors::Errors;
-use crate::fault::Fault;
+use crate::fault::RunFault;
 use crate::program::Program;
 use crate::report::report;
 use std::thread::{Builder, Promise, Threads};
@@ -33,13 +33,13 @@ pub fn on_thread<
     requires runs { F.pre work }
     requires keeps { (status : ℕ) → F.post work status → P.kept_by promise status }
     ensures { (P.kept_by promise result × (errors.new ≡ errors.old))
-        ⊎ ((result ≡ 1) × IsTold program [] [] NoMemory (E.told errors.old) (E.told errors.new)) }
+        ⊎ ((result ≡ 1) × IsReported program [] [] NoMemory (E.told errors.old) (E.told errors.new)) }
 {
     let thread = Builder::new()
         .stack_size(STACK)
         .spawn_with(rt, promise, work);
     match thread {
         Ok(thread) => thread.join(rt),
-        Err(_) => report(program, &[], &Fault::NoMemory, &[], errors),
+        Err(_) => report(program, &[], &RunFault::NoMemory, &[], errors),
     }
 }

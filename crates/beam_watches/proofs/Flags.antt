@@ -11,7 +11,7 @@ use Rattle.std.proofs.lemmas.List.Sorted.{IsNonDecreasingBy-from_default}
 use Rattle.beam_term.specs.TermValue.{TermValue, nil_term}
 use Rattle.beam_machine.specs.declared.process.Monitor.{Monitor}
 use Rattle.beam_machine.specs.Process.{monitor_of, without_monitor}
-use Rattle.beam_watches.specs.Kept.{monitors_in, AreBelow, kept_of, reference_at, AreRising, IsPlaceOf, IsAbsent, AreKept}
+use Rattle.beam_watches.specs.MonitorEntries.{monitors_in, AreBelow, flagged, reference_at, AreRising, IsPlaceOf, IsAbsent, AreFlagged}
 
 abbrev Entries : Type 0
 Entries = List (ℕ × TermValue)
@@ -24,21 +24,21 @@ absent_rest e es n absent i within same = absent (suc i) (omega arith) same
 other : (n k : ℕ) → (k ≡ n → ⊥) → (k == n) ≡ false
 other n k differs = grind (arith, nat_tests, differs)
 
-pub none_found : (n : ℕ) (es : Entries) (fs : List Bool) → IsAbsent es n → monitor_of n (monitors_in (kept_of es fs)) ≡ None
+pub none_found : (n : ℕ) (es : Entries) (fs : List Bool) → IsAbsent es n → monitor_of n (monitors_in (flagged es fs)) ≡ None
 none_found n [] fs absent = refl
 none_found n (e ∷ es) [] absent = refl
 none_found n (e ∷ es) (false ∷ fs) absent = none_found n es fs (absent_rest e es n absent)
 none_found n (e ∷ es) (true ∷ fs) absent =
     let m : Monitor = record { reference = e.0; pid = e.1 } in
-    ap (λ b. cond b (Some m) (monitor_of n (monitors_in (kept_of es fs)))) (other n e.0 (absent 0 (omega arith))) ∙ none_found n es fs (absent_rest e es n absent)
+    ap (λ b. cond b (Some m) (monitor_of n (monitors_in (flagged es fs)))) (other n e.0 (absent 0 (omega arith))) ∙ none_found n es fs (absent_rest e es n absent)
 
-pub none_removed : (n : ℕ) (es : Entries) (fs : List Bool) → IsAbsent es n → monitors_in (kept_of es fs) ≡ without_monitor n (monitors_in (kept_of es fs))
+pub none_removed : (n : ℕ) (es : Entries) (fs : List Bool) → IsAbsent es n → monitors_in (flagged es fs) ≡ without_monitor n (monitors_in (flagged es fs))
 none_removed n [] fs absent = refl
 none_removed n (e ∷ es) [] absent = refl
 none_removed n (e ∷ es) (false ∷ fs) absent = none_removed n es fs (absent_rest e es n absent)
 none_removed n (e ∷ es) (true ∷ fs) absent =
     let m : Monitor = record { reference = e.0; pid = e.1 } in
-    let rest = without_monitor n (monitors_in (kept_of es fs)) in
+    let rest = without_monitor n (monitors_in (flagged es fs)) in
     ap (λ ms. m ∷ ms) (none_removed n es fs (absent_rest e es n absent)) ∙ sym (ap (λ b. cond (not b) (m ∷ rest) rest) (other n e.0 (absent 0 (omega arith))))
 
 -- ---- an entry is the only one of a reference
@@ -66,43 +66,43 @@ same_reference : (n k : ℕ) → k ≡ n → (k == n) ≡ true
 same_reference n k same = grind (arith, nat_tests, same)
 
 pub found : (n i : ℕ) (es : Entries) (fs : List Bool) → IsPlaceOf es n i → IsOnly es n i
-    → option_map (λ m. m.pid) (monitor_of n (monitors_in (kept_of es fs))) ≡ cond (get_or fs i false) (Some (get_or es i (0, nil_term)).1) None
+    → option_map (λ m. m.pid) (monitor_of n (monitors_in (flagged es fs))) ≡ cond (get_or fs i false) (Some (get_or es i (0, nil_term)).1) None
 found n i [] fs at only = absurd (omega (arith, at.within))
 found n i (e ∷ es) [] at only = refl
 found n zero (e ∷ es) (false ∷ fs) at only = ap (option_map (λ m. m.pid)) (none_found n es fs (absent_after e es n only))
 found n zero (e ∷ es) (true ∷ fs) at only =
     let m : Monitor = record { reference = e.0; pid = e.1 } in
-    ap (λ b. option_map (λ m. m.pid) (cond b (Some m) (monitor_of n (monitors_in (kept_of es fs))))) (same_reference n e.0 at.same)
+    ap (λ b. option_map (λ m. m.pid) (cond b (Some m) (monitor_of n (monitors_in (flagged es fs))))) (same_reference n e.0 at.same)
 found n (suc i) (e ∷ es) (false ∷ fs) at only = found n i es fs (place_rest e es n i at) (only_rest e es n i only)
 found n (suc i) (e ∷ es) (true ∷ fs) at only =
     let m : Monitor = record { reference = e.0; pid = e.1 } in
-    ap (λ b. option_map (λ m. m.pid) (cond b (Some m) (monitor_of n (monitors_in (kept_of es fs))))) (first_other e es n i only)
+    ap (λ b. option_map (λ m. m.pid) (cond b (Some m) (monitor_of n (monitors_in (flagged es fs))))) (first_other e es n i only)
     ∙ found n i es fs (place_rest e es n i at) (only_rest e es n i only)
 
 pub removed : (n i : ℕ) (es : Entries) (fs : List Bool) → IsPlaceOf es n i → IsOnly es n i
-    → monitors_in (kept_of es (set fs i false)) ≡ without_monitor n (monitors_in (kept_of es fs))
+    → monitors_in (flagged es (set fs i false)) ≡ without_monitor n (monitors_in (flagged es fs))
 removed n i [] fs at only = absurd (omega (arith, at.within))
 removed n i (e ∷ es) [] at only = refl
 removed n zero (e ∷ es) (false ∷ fs) at only = none_removed n es fs (absent_after e es n only)
 removed n zero (e ∷ es) (true ∷ fs) at only =
     let m : Monitor = record { reference = e.0; pid = e.1 } in
-    let rest = without_monitor n (monitors_in (kept_of es fs)) in
+    let rest = without_monitor n (monitors_in (flagged es fs)) in
     none_removed n es fs (absent_after e es n only) ∙ sym (ap (λ b. cond (not b) (m ∷ rest) rest) (same_reference n e.0 at.same))
 removed n (suc i) (e ∷ es) (false ∷ fs) at only = removed n i es fs (place_rest e es n i at) (only_rest e es n i only)
 removed n (suc i) (e ∷ es) (true ∷ fs) at only =
     let m : Monitor = record { reference = e.0; pid = e.1 } in
-    let rest = without_monitor n (monitors_in (kept_of es fs)) in
+    let rest = without_monitor n (monitors_in (flagged es fs)) in
     ap (λ ms. m ∷ ms) (removed n i es fs (place_rest e es n i at) (only_rest e es n i only)) ∙ sym (ap (λ b. cond (not b) (m ∷ rest) rest) (first_other e es n i only))
 
 -- an entry whose flag isn't set has no monitor to take away
 pub removed_before : (n i : ℕ) (es : Entries) (fs : List Bool) → IsPlaceOf es n i → IsOnly es n i → get_or fs i false ≡ false
-    → monitors_in (kept_of es fs) ≡ without_monitor n (monitors_in (kept_of es fs))
+    → monitors_in (flagged es fs) ≡ without_monitor n (monitors_in (flagged es fs))
 removed_before n i es fs at only unset =
-    ap (λ l. monitors_in (kept_of es l)) (sym (set-get_or fs i false) ∙ ap (λ b. set fs i b) unset) ∙ removed n i es fs at only
+    ap (λ l. monitors_in (flagged es l)) (sym (set-get_or fs i false) ∙ ap (λ b. set fs i b) unset) ∙ removed n i es fs at only
 
 -- ---- how many are kept
 
-pub cleared : (es : Entries) (fs : List Bool) (i : ℕ) → i < length es → get_or fs i false ≡ true → length (kept_of es (set fs i false)) + 1 ≡ length (kept_of es fs)
+pub cleared : (es : Entries) (fs : List Bool) (i : ℕ) → i < length es → get_or fs i false ≡ true → length (flagged es (set fs i false)) + 1 ≡ length (flagged es fs)
 cleared [] fs i within flag = absurd (omega (arith, within))
 cleared (e ∷ es) [] i within flag = absurd (false≢true flag)
 cleared (e ∷ es) (false ∷ fs) zero within flag = absurd (false≢true flag)
@@ -110,17 +110,17 @@ cleared (e ∷ es) (true ∷ fs) zero within flag = omega arith
 cleared (e ∷ es) (false ∷ fs) (suc i) within flag = cleared es fs i (omega (arith, within)) flag
 cleared (e ∷ es) (true ∷ fs) (suc i) within flag = omega (arith, cleared es fs i (omega (arith, within)) flag)
 
-pub kept_short : (es : Entries) (fs : List Bool) → length (kept_of es fs) ≤ length fs
-kept_short [] fs = omega arith
-kept_short (e ∷ es) [] = omega arith
-kept_short (e ∷ es) (false ∷ fs) = omega (arith, kept_short es fs)
-kept_short (e ∷ es) (true ∷ fs) = omega (arith, kept_short es fs)
+pub flagged_short : (es : Entries) (fs : List Bool) → length (flagged es fs) ≤ length fs
+flagged_short [] fs = omega arith
+flagged_short (e ∷ es) [] = omega arith
+flagged_short (e ∷ es) (false ∷ fs) = omega (arith, flagged_short es fs)
+flagged_short (e ∷ es) (true ∷ fs) = omega (arith, flagged_short es fs)
 
-pub kept_whole : (es : Entries) → kept_of es (replicate (length es) true) ≡ es
-kept_whole [] = refl
-kept_whole (e ∷ es) = ap (λ l. e ∷ l) (kept_whole es)
+pub flagged_whole : (es : Entries) → flagged es (replicate (length es) true) ≡ es
+flagged_whole [] = refl
+flagged_whole (e ∷ es) = ap (λ l. e ∷ l) (flagged_whole es)
 
-pub pushed : (es : Entries) (fs : List Bool) (e : ℕ × TermValue) → length es ≡ length fs → kept_of (es ++ e ∷ []) (fs ++ true ∷ []) ≡ kept_of es fs ++ e ∷ []
+pub pushed : (es : Entries) (fs : List Bool) (e : ℕ × TermValue) → length es ≡ length fs → flagged (es ++ e ∷ []) (fs ++ true ∷ []) ≡ flagged es fs ++ e ∷ []
 pushed [] [] e same = refl
 pushed [] (f ∷ fs) e same = absurd (omega (arith, same))
 pushed (x ∷ es) [] e same = absurd (omega (arith, same))
@@ -132,20 +132,20 @@ pushed (x ∷ es) (true ∷ fs) e same = ap (λ l. x ∷ l) (pushed es fs e (ome
 rising_rest : (e : ℕ × TermValue) (es : Entries) → AreRising (e ∷ es) → AreRising es
 rising_rest e es rising i j less within = rising (suc i) (suc j) (omega arith) (omega arith)
 
-above : (k : ℕ) (es : Entries) (fs : List Bool) → ((j : ℕ) → j < length es → k < reference_at es j) → (j : ℕ) → j < length (kept_of es fs) → k < reference_at (kept_of es fs) j
+above : (k : ℕ) (es : Entries) (fs : List Bool) → ((j : ℕ) → j < length es → k < reference_at es j) → (j : ℕ) → j < length (flagged es fs) → k < reference_at (flagged es fs) j
 above k [] fs greater j within = absurd (omega (arith, within))
 above k (e ∷ es) [] greater j within = absurd (omega (arith, within))
 above k (e ∷ es) (false ∷ fs) greater j within = above k es fs (λ l h. greater (suc l) (omega arith)) j within
 above k (e ∷ es) (true ∷ fs) greater zero within = greater zero (omega arith)
 above k (e ∷ es) (true ∷ fs) greater (suc j) within = above k es fs (λ l h. greater (suc l) (omega arith)) j (omega arith)
 
-pub kept_rising : (es : Entries) (fs : List Bool) → AreRising es → AreRising (kept_of es fs)
-kept_rising [] fs rising i j less within = absurd (omega (arith, within))
-kept_rising (e ∷ es) [] rising i j less within = absurd (omega (arith, within))
-kept_rising (e ∷ es) (false ∷ fs) rising i j less within = kept_rising es fs (rising_rest e es rising) i j less within
-kept_rising (e ∷ es) (true ∷ fs) rising i zero less within = absurd (omega (arith, less))
-kept_rising (e ∷ es) (true ∷ fs) rising zero (suc j) less within = above e.0 es fs (λ k h. rising zero (suc k) (omega arith) (omega arith)) j (omega arith)
-kept_rising (e ∷ es) (true ∷ fs) rising (suc i) (suc j) less within = kept_rising es fs (rising_rest e es rising) i j (omega arith) (omega arith)
+pub flagged_rising : (es : Entries) (fs : List Bool) → AreRising es → AreRising (flagged es fs)
+flagged_rising [] fs rising i j less within = absurd (omega (arith, within))
+flagged_rising (e ∷ es) [] rising i j less within = absurd (omega (arith, within))
+flagged_rising (e ∷ es) (false ∷ fs) rising i j less within = flagged_rising es fs (rising_rest e es rising) i j less within
+flagged_rising (e ∷ es) (true ∷ fs) rising i zero less within = absurd (omega (arith, less))
+flagged_rising (e ∷ es) (true ∷ fs) rising zero (suc j) less within = above e.0 es fs (λ k h. rising zero (suc k) (omega arith) (omega arith)) j (omega arith)
+flagged_rising (e ∷ es) (true ∷ fs) rising (suc i) (suc j) less within = flagged_rising es fs (rising_rest e es rising) i j (omega arith) (omega arith)
 
 pub below_each : (n : ℕ) (es : Entries) → AreBelow n (monitors_in es) → (j : ℕ) → j < length es → reference_at es j < n
 below_each n [] below j within = absurd (omega (arith, within))
@@ -185,69 +185,69 @@ searched n es rising (Err at) within parted = record {
 
 -- ---- changes of the kept entries
 
-pub kept_past : (es : Entries) (fs : List Bool) → length fs ≡ 0 → kept_of es fs ≡ []
-kept_past [] fs past = refl
-kept_past (e ∷ es) [] past = refl
-kept_past (e ∷ es) (f ∷ fs) past = absurd (omega (arith, past))
+pub flagged_past : (es : Entries) (fs : List Bool) → length fs ≡ 0 → flagged es fs ≡ []
+flagged_past [] fs past = refl
+flagged_past (e ∷ es) [] past = refl
+flagged_past (e ∷ es) (f ∷ fs) past = absurd (omega (arith, past))
 
-pub whole_is : (es : Entries) (fs : List Bool) (count : ℕ) → count ≡ length es → fs ≡ replicate count true → kept_of es fs ≡ es
-whole_is es fs count many all = ap (kept_of es) (all ∙ ap (λ k. replicate k true) many) ∙ kept_whole es
+pub whole_is : (es : Entries) (fs : List Bool) (count : ℕ) → count ≡ length es → fs ≡ replicate count true → flagged es fs ≡ es
+whole_is es fs count many all = ap (flagged es) (all ∙ ap (λ k. replicate k true) many) ∙ flagged_whole es
 
-pub are_whole : (es : Entries) (fs : List Bool) (count : ℕ) → AreRising es → count ≡ length es → fs ≡ replicate count true → AreKept es fs count
+pub are_whole : (es : Entries) (fs : List Bool) (count : ℕ) → AreRising es → count ≡ length es → fs ≡ replicate count true → AreFlagged es fs count
 are_whole es fs count rising many all = record {
   each = sym many ∙ sym (ap length all ∙ length-replicate count true);
   rising = rising;
   counted = many ∙ sym (ap length (whole_is es fs count many all));
 }
 
-pub are_pushed : (es : Entries) (fs : List Bool) (count : ℕ) (e : ℕ × TermValue) → AreKept es fs count → AreRising (es ++ e ∷ [])
-    → AreKept (es ++ e ∷ []) (fs ++ true ∷ []) (count + 1)
+pub are_pushed : (es : Entries) (fs : List Bool) (count : ℕ) (e : ℕ × TermValue) → AreFlagged es fs count → AreRising (es ++ e ∷ [])
+    → AreFlagged (es ++ e ∷ []) (fs ++ true ∷ []) (count + 1)
 are_pushed es fs count e kept rising = record {
   each = omega (arith, length-append es (e ∷ []), length-append fs (true ∷ []), kept.each);
   rising = rising;
-  counted = omega (arith, kept.counted, ap length (pushed es fs e kept.each), length-append (kept_of es fs) (e ∷ []));
+  counted = omega (arith, kept.counted, ap length (pushed es fs e kept.each), length-append (flagged es fs) (e ∷ []));
 }
 
-pub are_cleared : (es : Entries) (fs : List Bool) (count i : ℕ) → AreKept es fs count → i < length es → get_or fs i false ≡ true → AreKept es (set fs i false) (count - 1)
+pub are_cleared : (es : Entries) (fs : List Bool) (count i : ℕ) → AreFlagged es fs count → i < length es → get_or fs i false ≡ true → AreFlagged es (set fs i false) (count - 1)
 are_cleared es fs count i kept within flag = record {
   each = kept.each ∙ sym (length-set fs i false);
   rising = kept.rising;
   counted = omega (arith, kept.counted, cleared es fs i within flag);
 }
 
-pub none_read : (n : ℕ) (es : Entries) (fs : List Bool) → IsAbsent es n → None ≡ option_map (λ m. m.pid) (monitor_of n (monitors_in (kept_of es fs)))
+pub none_read : (n : ℕ) (es : Entries) (fs : List Bool) → IsAbsent es n → None ≡ option_map (λ m. m.pid) (monitor_of n (monitors_in (flagged es fs)))
 none_read n es fs absent = sym (ap (option_map (λ m. m.pid)) (none_found n es fs absent))
 
 -- of an entry at a place, whose flag was read
-module _ (es : Entries) (fs : List Bool) (count n i : ℕ) (kept : AreKept es fs count) (at : IsPlaceOf es n i) (b : Bool) (read : b ≡ get_or fs i b) where
+module _ (es : Entries) (fs : List Bool) (count n i : ℕ) (kept : AreFlagged es fs count) (at : IsPlaceOf es n i) (b : Bool) (read : b ≡ get_or fs i b) where
   spot : IsOnly es n i
   spot = only es n i kept.rising at
 
   flag_is : get_or fs i false ≡ b
   flag_is = get_or_default fs i false b (omega (arith, kept.each, at.within)) ∙ sym read
 
-  pub kept_read : (e : ℕ × TermValue) → e ≡ get_or es i e → b ≡ true → Some e.1 ≡ option_map (λ m. m.pid) (monitor_of n (monitors_in (kept_of es fs)))
-  kept_read e here is =
+  pub flagged_read : (e : ℕ × TermValue) → e ≡ get_or es i e → b ≡ true → Some e.1 ≡ option_map (λ m. m.pid) (monitor_of n (monitors_in (flagged es fs)))
+  flagged_read e here is =
       sym (found n i es fs at spot
       ∙ ap (λ f. cond f (Some (get_or es i (0, nil_term)).1) None) (flag_is ∙ is)
       ∙ ap (λ (x : ℕ × TermValue). Some x.1) (get_or_default es i (0, nil_term) e at.within ∙ sym here))
 
-  pub dropped_read : b ≡ false → None ≡ option_map (λ m. m.pid) (monitor_of n (monitors_in (kept_of es fs)))
+  pub dropped_read : b ≡ false → None ≡ option_map (λ m. m.pid) (monitor_of n (monitors_in (flagged es fs)))
   dropped_read is = sym (found n i es fs at spot ∙ ap (λ f. cond f (Some (get_or es i (0, nil_term)).1) None) (flag_is ∙ is))
 
-  pub kept_removed : monitors_in (kept_of es (set fs i false)) ≡ without_monitor n (monitors_in (kept_of es fs))
-  kept_removed = removed n i es fs at spot
+  pub flagged_removed : monitors_in (flagged es (set fs i false)) ≡ without_monitor n (monitors_in (flagged es fs))
+  flagged_removed = removed n i es fs at spot
 
-  pub dropped_removed : b ≡ false → monitors_in (kept_of es fs) ≡ without_monitor n (monitors_in (kept_of es fs))
+  pub dropped_removed : b ≡ false → monitors_in (flagged es fs) ≡ without_monitor n (monitors_in (flagged es fs))
   dropped_removed is = removed_before n i es fs at spot (flag_is ∙ is)
 
-  pub are_left : b ≡ true → AreKept es (set fs i false) (count - 1)
+  pub are_left : b ≡ true → AreFlagged es (set fs i false) (count - 1)
   are_left is = are_cleared es fs count i kept at.within (flag_is ∙ is)
 
-  pub some_kept : b ≡ true → 1 ≤ count
-  some_kept is = omega (arith, kept.counted, cleared es fs i at.within (flag_is ∙ is))
+  pub some_flagged : b ≡ true → 1 ≤ count
+  some_flagged is = omega (arith, kept.counted, cleared es fs i at.within (flag_is ∙ is))
 
 pub pushed_monitors : (es : Entries) (fs : List Bool) (n : ℕ) (t : TermValue) → length es ≡ length fs
-    → monitors_in (kept_of (es ++ (n, t) ∷ []) (fs ++ true ∷ [])) ≡ monitors_in (kept_of es fs) ++ record { reference = n; pid = t } ∷ []
+    → monitors_in (flagged (es ++ (n, t) ∷ []) (fs ++ true ∷ [])) ≡ monitors_in (flagged es fs) ++ record { reference = n; pid = t } ∷ []
 pushed_monitors es fs n t same =
-    ap monitors_in (pushed es fs (n, t) same) ∙ map-append {B = Monitor} (λ (e : ℕ × TermValue). record { reference = e.0; pid = e.1 }) (kept_of es fs) ((n, t) ∷ [])
+    ap monitors_in (pushed es fs (n, t) same) ∙ map-append {B = Monitor} (λ (e : ℕ × TermValue). record { reference = e.0; pid = e.1 }) (flagged es fs) ((n, t) ∷ [])

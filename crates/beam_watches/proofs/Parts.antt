@@ -8,7 +8,7 @@ use Rattle.std.proofs.lemmas.List.Folds.{find-append}
 use Rattle.beam_term.specs.TermValue.{TermValue, nil_term}
 use Rattle.beam_machine.specs.declared.process.Monitor.{Monitor}
 use Rattle.beam_machine.specs.Process.{monitor_of, without_monitor}
-use Rattle.beam_watches.specs.Kept.{monitors_in, AreBelow, AreApart, AreRising, reference_at}
+use Rattle.beam_watches.specs.MonitorEntries.{monitors_in, AreBelow, AreApart, AreRising, reference_at}
 use Rattle.beam_watches.proofs.Flags.{below_each}
 
 abbrev Entries : Type 0

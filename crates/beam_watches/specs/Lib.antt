@@ -1,2 +1,2 @@
-pub mod Index
-pub mod Kept
+pub mod Origins
+pub mod MonitorEntries

@@ -1,7 +1,7 @@
 //! Monitors: those of one process, and over all processes an index by the monitored process.
 #![tactic(auto)]
 
-mod kept;
+pub mod monitored_by;
 pub mod monitors;
-mod part;
-pub mod watches;
+mod segment;
+mod shared_monitors;

@@ -8,10 +8,10 @@ ghost use Rattle.beam_machine.specs.Process.{monitor_of, without_monitor};
 ghost use Rattle.beam_machine.specs.Row.{own_number};
 ghost use Rattle.beam_machine.specs.State.{monitors_process};
 ghost use Rattle.beam_model.specs.Listing.{is_this_number};
-ghost use Rattle.beam_watches.specs.Kept.{monitors_in, AreBelow};
+ghost use Rattle.beam_watches.specs.MonitorEntries.{monitors_in, AreBelow};
 
-use crate::kept::Entries;
-use crate::part::Part;
+use crate::segment::Segment;
+use crate::shared_monitors::FlaggedEntries;
 use beam_term::{Term, TermView};
 use std::alloc::{AllocError, Global};
 use std::marker::Model;
@@ -24,8 +24,8 @@ const NEWEST: usize = 256;
 #[derive(Debug)]
 pub struct Monitors {
     alloc: Global,
-    older: Part,
-    newest: Part,
+    older: Segment,
+    newest: Segment,
 }
 
 impl Drop for Monitors {
@@ -43,7 +43,7 @@ impl Model for Monitors {
     ghost use Rattle.std.specs.Coded.{codes};
     ghost use Rattle.beam_term.specs.Coding.{term_code};
     ghost use Rattle.beam_machine.specs.declared.process.Monitor.{Monitor};
-    ghost use Rattle.beam_watches.specs.Kept.{AreApart};
+    ghost use Rattle.beam_watches.specs.MonitorEntries.{AreApart};
 
     ghost Value = { List Monitor };
 
@@ -57,8 +57,8 @@ impl Model for Monitors {
 /// An iterator over monitors: the numbers of their references, each with its pid, in their order.
 #[derive(Drop)]
 pub struct Iter<'a> {
-    older: Entries<'a>,
-    newest: Entries<'a>,
+    older: FlaggedEntries<'a>,
+    newest: FlaggedEntries<'a>,
 }
 
 impl<'a> Model for Iter<'a> {
@@ -122,8 +122,8 @@ impl Monitors {
     {
         Monitors {
             alloc,
-            older: Part::none(),
-            newest: Part::none(),
+            older: Segment::none(),
+            newest: Segment::none(),
         }
     }
 
@@ -171,7 +171,7 @@ impl Monitors {
             return Ok(());
         }
         self.older = self.older.joined(self.alloc, &self.newest)?;
-        self.newest = Part::none();
+        self.newest = Segment::none();
         Ok(())
     }
 
@@ -186,7 +186,7 @@ impl Monitors {
     }
 
     /// Whether a monitor watches the process of a number. It takes no memory.
-    pub fn watches(&self, number: u32) -> bool
+    pub fn monitors_process(&self, number: u32) -> bool
         ensures { result ≡ list_any (monitors_process number) self.now }
     {
         for (_reference, pid) in self.iter() {

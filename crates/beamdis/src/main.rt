@@ -2,7 +2,7 @@
 #![tactic(auto)]
 
 use beam_tools::dis::dis_run;
-use beam_tools::fault::Fault;
+use beam_tools::fault::RunFault;
 use beam_tools::files::FileSystem;
 use beam_tools::program::Program;
 use beam_tools::report::report;
@@ -10,14 +10,14 @@ use beam_tools::thread::{AnyStatus, on_thread};
 use beam_tools::words::words;
 use std::process::ExitCode;
 
-fn run<'a>(rt: &HostRuntime, words: &[String]) -> Result<u8, Fault<'a>> {
+fn run<'a>(rt: &HostRuntime, words: &[String]) -> Result<u8, RunFault<'a>> {
     let alloc = rt.alloc();
     let Ok(words) = words
         .iter()
         .map(|word| word.as_str())
         .collect::<Vec<&str>>(alloc)
     else {
-        return Err(Fault::NoMemory);
+        return Err(RunFault::NoMemory);
     };
     let mut files = FileSystem(rt);
     Ok(dis_run(

@@ -2,7 +2,7 @@
 #![tactic(auto)]
 
 use beam_serve::{pipe, serve};
-use beam_tools::fault::Fault;
+use beam_tools::fault::RunFault;
 use beam_tools::files::FileSystem;
 use beam_tools::job::{Job, job_status};
 use beam_tools::node::node_run;
@@ -12,10 +12,10 @@ use beam_tools::thread::{AnyStatus, on_thread};
 use beam_tools::words::words;
 use std::process::ExitCode;
 
-fn texts<'b, 'a>(rt: &HostRuntime, words: &'b [String]) -> Result<Vec<&'b str>, Fault<'a>> {
+fn texts<'b, 'a>(rt: &HostRuntime, words: &'b [String]) -> Result<Vec<&'b str>, RunFault<'a>> {
     match words.iter().map(|word| word.as_str()).collect(rt.alloc()) {
         Ok(words) => Ok(words),
-        Err(_) => Err(Fault::NoMemory),
+        Err(_) => Err(RunFault::NoMemory),
     }
 }
 
@@ -31,7 +31,7 @@ fn job<'a>(rt: &HostRuntime, words: &'a [&'a str]) -> Job<'a> {
     )
 }
 
-fn fails(rt: &HostRuntime, fault: &Fault<'_>) -> u8 {
+fn fails(rt: &HostRuntime, fault: &RunFault<'_>) -> u8 {
     report(Program::Node, &[], fault, &[], &mut rt.stderr())
 }
 

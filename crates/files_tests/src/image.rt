@@ -29,7 +29,7 @@ fn is_integer(source: &Source<'_>, number: i64) -> bool {
 
 /// The rows of t.beam, by what they do.
 #[derive(Clone, Copy)]
-enum Kind {
+enum RowEffect {
     RaisesFunctionClause,
     /// It goes to the first row after label 4.
     JumpsTo8,
@@ -41,40 +41,40 @@ enum Kind {
     Other,
 }
 
-fn kind_of_control(control: &Control<'_>) -> Kind {
+fn kind_of_control(control: &Control<'_>) -> RowEffect {
     match control {
-        Control::Jump(Some(8)) => Kind::JumpsTo8,
-        Control::Return => Kind::Returns,
-        _ => Kind::Other,
+        Control::Jump(Some(8)) => RowEffect::JumpsTo8,
+        Control::Return => RowEffect::Returns,
+        _ => RowEffect::Other,
     }
 }
 
-fn kind_of_test(test: &Test<'_>) -> Kind {
+fn kind_of_test(test: &Test<'_>) -> RowEffect {
     match test {
         Test::Compare {
             comparison: Comparison::Equal,
             left,
             right,
-        } if is_x(left, 0) && is_integer(right, 0) => Kind::TestsX0,
-        _ => Kind::Other,
+        } if is_x(left, 0) && is_integer(right, 0) => RowEffect::TestsX0,
+        _ => RowEffect::Other,
     }
 }
 
-fn kind_of_compute(compute: &Compute<'_>) -> Kind {
+fn kind_of_compute(compute: &Compute<'_>) -> RowEffect {
     match compute {
         Compute::Of2 {
             native: Binary::Compute(Arithmetic::Subtract),
             left,
             right,
             dest: Register::X(0),
-        } if is_x(left, 0) && is_integer(right, 1) => Kind::DecrementsX0,
-        _ => Kind::Other,
+        } if is_x(left, 0) && is_integer(right, 1) => RowEffect::DecrementsX0,
+        _ => RowEffect::Other,
     }
 }
 
-fn kind_of(action: &Action<'_>) -> Kind {
+fn kind_of(action: &Action<'_>) -> RowEffect {
     match action {
-        Action::Catching(Catching::Raise(Fault::FunctionClause)) => Kind::RaisesFunctionClause,
+        Action::Catching(Catching::Raise(Fault::FunctionClause)) => RowEffect::RaisesFunctionClause,
         Action::Control(control) => kind_of_control(control),
         Action::Test {
             test,
@@ -84,15 +84,15 @@ fn kind_of(action: &Action<'_>) -> Kind {
             compute,
             fail: OnFault::Raises,
         } => kind_of_compute(compute),
-        _ => Kind::Other,
+        _ => RowEffect::Other,
     }
 }
 
 /// The kind of the row at a position. The one function that owns a step.
-fn kind_at(image: &Image, at: usize) -> Kind {
+fn kind_at(image: &Image, at: usize) -> RowEffect {
     match image.step(at) {
         Some(step) => kind_of(&step.action),
-        None => Kind::Other,
+        None => RowEffect::Other,
     }
 }
 
@@ -136,13 +136,13 @@ fn finds_rows(rt: HostRuntime) -> Result<(), Fail> {
 }
 
 fn has_actions(rt: &impl Abort, image: &Image) {
-    assert!(rt; matches!(kind_at(image, 1), Kind::RaisesFunctionClause));
+    assert!(rt; matches!(kind_at(image, 1), RowEffect::RaisesFunctionClause));
     for at in [4, 14] {
-        assert!(rt; matches!(kind_at(image, at), Kind::JumpsTo8));
+        assert!(rt; matches!(kind_at(image, at), RowEffect::JumpsTo8));
     }
-    assert!(rt; matches!(kind_at(image, 8), Kind::TestsX0));
-    assert!(rt; matches!(kind_at(image, 10), Kind::Returns));
-    assert!(rt; matches!(kind_at(image, 13), Kind::DecrementsX0));
+    assert!(rt; matches!(kind_at(image, 8), RowEffect::TestsX0));
+    assert!(rt; matches!(kind_at(image, 10), RowEffect::Returns));
+    assert!(rt; matches!(kind_at(image, 13), RowEffect::DecrementsX0));
 }
 
 #[test]

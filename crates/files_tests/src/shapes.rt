@@ -11,7 +11,7 @@ use std::test::Fail;
 
 /// An operand, as plain numbers.
 #[derive(Clone, Copy)]
-enum Shape {
+enum PlainOperand {
     Label(u32),
     Number(u32),
     X(u32),
@@ -29,16 +29,20 @@ fn import(alloc: Global) -> Result<Operand, Fail> {
     }))
 }
 
-fn operand(alloc: Global, shape: Shape) -> Result<Operand, Fail> {
+fn operand(alloc: Global, shape: PlainOperand) -> Result<Operand, Fail> {
     match shape {
-        Shape::Label(number) => Ok(Operand::One(Argument::Label(number))),
-        Shape::Number(number) => Ok(Operand::One(Argument::Number(number))),
-        Shape::X(number) => Ok(Operand::One(Argument::X(number))),
-        Shape::Import => import(alloc),
+        PlainOperand::Label(number) => Ok(Operand::One(Argument::Label(number))),
+        PlainOperand::Number(number) => Ok(Operand::One(Argument::Number(number))),
+        PlainOperand::X(number) => Ok(Operand::One(Argument::X(number))),
+        PlainOperand::Import => import(alloc),
     }
 }
 
-fn push_operands(alloc: Global, items: &mut Vec<Operand>, shapes: &[Shape]) -> Result<(), Fail> {
+fn push_operands(
+    alloc: Global,
+    items: &mut Vec<Operand>,
+    shapes: &[PlainOperand],
+) -> Result<(), Fail> {
     for shape in shapes {
         items.push(operand(alloc, *shape)?)?;
     }
@@ -54,7 +58,7 @@ fn print(instruction: &Instruction, out: &mut Vec<u8>) -> Result<(), Fail> {
 fn print_shapes(
     alloc: Global,
     opcode: Opcode,
-    shapes: &[Shape],
+    shapes: &[PlainOperand],
     out: &mut Vec<u8>,
 ) -> Result<(), Fail> {
     let mut items = Vec::new(alloc);
@@ -70,7 +74,7 @@ fn is_printed(
     rt: &impl Abort,
     alloc: Global,
     opcode: Opcode,
-    shapes: &[Shape],
+    shapes: &[PlainOperand],
     text: &str,
 ) -> Result<(), Fail> {
     let mut out = Vec::new(alloc);
@@ -90,9 +94,13 @@ fn no_operands(rt: HostRuntime) -> Result<(), Fail> {
 #[test]
 fn few_operands(rt: HostRuntime) -> Result<(), Fail> {
     let alloc = rt.alloc();
-    let shapes = [Shape::Label(1)];
+    let shapes = [PlainOperand::Label(1)];
     is_printed(&rt, alloc, Opcode::IsLt, &shapes, "{test,is_lt,{f,1},[]}")?;
-    let shapes = [Shape::Label(0), Shape::Number(2), Shape::X(0)];
+    let shapes = [
+        PlainOperand::Label(0),
+        PlainOperand::Number(2),
+        PlainOperand::X(0),
+    ];
     is_printed(
         &rt,
         alloc,
@@ -100,6 +108,10 @@ fn few_operands(rt: HostRuntime) -> Result<(), Fail> {
         &shapes,
         "{gc_bif2,{f,0},2,{x,0}}",
     )?;
-    let shapes = [Shape::Label(0), Shape::Number(2), Shape::Import];
+    let shapes = [
+        PlainOperand::Label(0),
+        PlainOperand::Number(2),
+        PlainOperand::Import,
+    ];
     is_printed(&rt, alloc, Opcode::GcBif2, &shapes, "{gc_bif,f,{f,0},2,[]}")
 }

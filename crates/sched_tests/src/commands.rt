@@ -4,11 +4,11 @@ use beam_asm::{AsmError, assemble};
 use beam_image::Image;
 use beam_listing::{ListingError, read_listing};
 use beam_machine::debug::{DebugEvent, Spot, Version};
-use beam_machine::event::{Event, Images, Mode, SpawnArguments};
-use beam_queue::Queues;
-use beam_receipts::room::Room;
+use beam_machine::event::{Event, Images, SpawnArguments, UpgradeMode};
+use beam_queue::QueueBrand;
+use beam_receipts::brand::NodeBrand;
 use beam_sched::shared::Shared;
-use beam_sched::station::Station;
+use beam_sched::thread_context::ThreadContext;
 use beam_term::{Atom, Pid, Term, list};
 use std::alloc::Global;
 use std::sync::Wait;
@@ -28,7 +28,7 @@ pub enum Argument {
 
 /// Why a command couldn't be made.
 #[derive(Clone, Copy, Debug)]
-enum Fault {
+enum CommandFault {
     Listing(ListingError),
     Assembly(AsmError),
     /// The layer and the number of a file's refusal.
@@ -76,31 +76,31 @@ fn terms(alloc: Global, arguments: &[Argument]) -> Option<SpawnArguments> {
 }
 
 /// The file of the listing in this text.
-fn file(alloc: Global, text: &str) -> Result<Vec<u8>, Fault> {
+fn file(alloc: Global, text: &str) -> Result<Vec<u8>, CommandFault> {
     match read_listing(alloc, text) {
         Ok(listing) => match assemble(alloc, &listing) {
             Ok(file) => Ok(file),
-            Err(why) => Err(Fault::Assembly(why)),
+            Err(why) => Err(CommandFault::Assembly(why)),
         },
-        Err(why) => Err(Fault::Listing(why)),
+        Err(why) => Err(CommandFault::Listing(why)),
     }
 }
 
-fn image(alloc: Global, text: &str) -> Result<Image, Fault> {
+fn image(alloc: Global, text: &str) -> Result<Image, CommandFault> {
     match file(alloc, text) {
         Ok(file) => match Image::prepare(alloc, &file) {
             Ok(image) => Ok(image),
-            Err(why) => Err(Fault::File(why.layer(), why.number())),
+            Err(why) => Err(CommandFault::File(why.layer(), why.number())),
         },
         Err(why) => Err(why),
     }
 }
 
-fn images(alloc: Global, texts: &[String]) -> Result<Images<Image>, Fault> {
+fn images(alloc: Global, texts: &[String]) -> Result<Images<Image>, CommandFault> {
     let mut images = Vec::new(alloc);
     for text in texts {
         if images.push(image(alloc, text)?).is_err() {
-            return Err(Fault::Term);
+            return Err(CommandFault::Term);
         }
     }
     Ok(Images::new(images))
@@ -136,7 +136,7 @@ fn spawned(
 pub struct Commands {
     alloc: Global,
     events: Vec<DebugEvent<Image>>,
-    fault: Option<Fault>,
+    fault: Option<CommandFault>,
 }
 
 impl Drop for Commands {
@@ -169,11 +169,11 @@ impl Commands {
 
     fn push(&mut self, event: DebugEvent<Image>) {
         if self.events.push(event).is_err() {
-            self.fault = Some(Fault::Term);
+            self.fault = Some(CommandFault::Term);
         }
     }
 
-    fn fail(self, why: Fault) -> Commands {
+    fn fail(self, why: CommandFault) -> Commands {
         let mut commands = self;
         commands.fault = Some(why);
         commands
@@ -184,7 +184,7 @@ impl Commands {
         let mut commands = self;
         match event {
             Some(event) => commands.push(DebugEvent::Node(event)),
-            None => commands.fault = Some(Fault::Term),
+            None => commands.fault = Some(CommandFault::Term),
         }
         commands
     }
@@ -198,7 +198,7 @@ impl Commands {
     }
 
     /// Adds an upgrade to the modules of listings.
-    pub fn atomic_load(self, mode: Mode, texts: &[String]) -> Commands {
+    pub fn atomic_load(self, mode: UpgradeMode, texts: &[String]) -> Commands {
         match images(self.alloc, texts) {
             Ok(images) => self.and(Some(Event::AtomicLoad { mode, images })),
             Err(why) => self.fail(why),
@@ -260,7 +260,7 @@ impl Commands {
     pub fn purge(self, module: &str) -> Commands {
         match Atom::new(self.alloc, module) {
             Ok(module) => self.and(Some(Event::Purge(module))),
-            Err(_) => self.fail(Fault::Term),
+            Err(_) => self.fail(CommandFault::Term),
         }
     }
 
@@ -268,7 +268,7 @@ impl Commands {
     pub fn soft_purge(self, module: &str) -> Commands {
         match Atom::new(self.alloc, module) {
             Ok(module) => self.and(Some(Event::SoftPurge(module))),
-            Err(_) => self.fail(Fault::Term),
+            Err(_) => self.fail(CommandFault::Term),
         }
     }
 
@@ -276,7 +276,7 @@ impl Commands {
     pub fn delete(self, module: &str) -> Commands {
         match Atom::new(self.alloc, module) {
             Ok(module) => self.and(Some(Event::Delete(module))),
-            Err(_) => self.fail(Fault::Term),
+            Err(_) => self.fail(CommandFault::Term),
         }
     }
 
@@ -290,7 +290,7 @@ impl Commands {
                 label,
                 rows: 0,
             })),
-            Err(_) => commands.fault = Some(Fault::Term),
+            Err(_) => commands.fault = Some(CommandFault::Term),
         }
         commands
     }
@@ -300,20 +300,20 @@ impl Commands {
         mem::replace(&mut self.events, Vec::new(self.alloc))
     }
 
-    /// Gives the commands to the node of a station, with a pause before each. Tells whether all were accepted; after one that wasn't, no
+    /// Gives the commands to the node of a thread context, with a pause before each. Tells whether all were accepted; after one that wasn't, no
     /// more are given.
-    pub fn give<B: Room + Queues, R: Wait + Clock>(
+    pub fn give<B: NodeBrand + QueueBrand, R: Wait + Clock>(
         &mut self,
         rt: &R,
         shared: &Shared<B>,
-        station: &mut Station<B>,
+        context: &mut ThreadContext<B>,
         pause: Duration,
     ) -> bool {
         for event in self.take() {
             if !pause.is_zero() {
                 thread::sleep(rt, pause);
             }
-            if shared.command(rt, station, event).is_err() {
+            if shared.command(rt, context, event).is_err() {
                 return false;
             }
         }

@@ -1,8 +1,8 @@
 //! Processes that start, name, look up, end and catch each other while their code changes.
 use crate::commands::Argument::Integer;
 use crate::commands::Commands;
-use crate::crew::Story;
 use crate::listings::{CHILD, PARENT};
+use crate::scenario::Scenario;
 use crate::shared::play_here;
 use std::alloc::Global;
 use std::process::Abort;
@@ -35,14 +35,14 @@ fn change_parents(commands: Commands, parent: u32) -> Commands {
 }
 
 /// Parents start, and after each start the code of both modules changes.
-fn crowd(alloc: Global) -> Story {
+fn crowd(alloc: Global) -> Scenario {
     let mut then = Commands::new(alloc);
     for parent in 0..PARENTS {
         then = then.spawn("a", "main", &[Integer(CHILDREN)]);
         then = change_parents(change_children(then, parent), parent);
     }
     let first = Commands::new(alloc).load(PARENT).load(CHILD);
-    Story::meeting(first, (0, 0), then, PARENTS * (1 + CHILDREN))
+    Scenario::with_barrier(first, (0, 0), then, PARENTS * (1 + CHILDREN))
 }
 
 /// Plays a crowd with `workers` workers. Its code changes as often as it should, and the journal leads to the state of the processes at the

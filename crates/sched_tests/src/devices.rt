@@ -1,7 +1,7 @@
 //! Devices over memory.
 
-use beam_queue::Queues;
-use beam_receipts::room::Room;
+use beam_queue::QueueBrand;
+use beam_receipts::brand::NodeBrand;
 use beam_remote::memory::Memory;
 use beam_remote::{Port, ServeError, Served};
 use beam_serve::{SeatDesk, Streams, session};
@@ -90,7 +90,7 @@ pub fn ended(alloc: Global, written: &[u8], end: Result<Served, ServeError>) -> 
     text.ok()
 }
 
-fn over_memory<B: Room + Queues, R: Wait + Log + AllocGlobal>(
+fn over_memory<B: NodeBrand + QueueBrand, R: Wait + Log + AllocGlobal>(
     alloc: Global,
     memory: Memory,
     desk: &mut SeatDesk<'_, B, R>,
@@ -100,7 +100,7 @@ fn over_memory<B: Room + Queues, R: Wait + Log + AllocGlobal>(
     ended(alloc, memory.taken(), end)
 }
 
-fn over_streams<B: Room + Queues, R: Wait + Log + AllocGlobal>(
+fn over_streams<B: NodeBrand + QueueBrand, R: Wait + Log + AllocGlobal>(
     alloc: Global,
     input: Vec<u8>,
     desk: &mut SeatDesk<'_, B, R>,
@@ -121,7 +121,7 @@ fn over_streams<B: Room + Queues, R: Wait + Log + AllocGlobal>(
 
 impl Device {
     /// The bytes that a session over the device with this input writes, and how it ends.
-    pub fn session<B: Room + Queues, R: Wait + Log + AllocGlobal>(
+    pub fn session<B: NodeBrand + QueueBrand, R: Wait + Log + AllocGlobal>(
         self,
         alloc: Global,
         input: Vec<u8>,

@@ -2,9 +2,11 @@
 #![tactic(auto)]
 
 #[cfg(test)]
+mod barrier_gate;
+#[cfg(test)]
 mod commands;
 #[cfg(test)]
-mod crew;
+mod concurrent_sessions;
 #[cfg(test)]
 mod crowds;
 #[cfg(test)]
@@ -12,17 +14,9 @@ mod deep;
 #[cfg(test)]
 mod devices;
 #[cfg(test)]
-mod gates;
-#[cfg(test)]
-mod lanes;
-#[cfg(test)]
 mod limits;
 #[cfg(test)]
 mod listings;
-#[cfg(test)]
-mod moments;
-#[cfg(test)]
-mod patience;
 #[cfg(test)]
 mod played;
 #[cfg(test)]
@@ -31,6 +25,10 @@ mod queues;
 mod receipts;
 #[cfg(test)]
 mod rings;
+#[cfg(test)]
+mod run_queues;
+#[cfg(test)]
+mod scenario;
 #[cfg(test)]
 mod sessions;
 #[cfg(test)]
@@ -46,10 +44,12 @@ mod talks;
 #[cfg(test)]
 mod telling;
 #[cfg(test)]
+mod test_deadline;
+#[cfg(test)]
 mod timeouts;
 #[cfg(test)]
 mod upgrades;
 #[cfg(test)]
-mod visits;
+mod wait_start;
 #[cfg(test)]
 mod watchers;

@@ -3,13 +3,13 @@ ghost use Rattle.std.specs.Prelude.{◌≡◌};
 
 use crate::commands::Argument::Integer;
 use crate::commands::Commands;
-use crate::crew::{Story, Wanted};
 use crate::listings::SUM;
 use crate::queues::endless;
+use crate::scenario::{Scenario, Wanted};
 use crate::shared::play_here;
 use beam_journal::journal::MOST_ENTRIES;
-use beam_receipts::keeper::Blank;
-use beam_receipts::room::Room;
+use beam_receipts::brand::NodeBrand;
+use beam_receipts::keeper::UnbrandedKeeper;
 use beam_receipts::seat::SeatReceipt;
 use beam_shared::node::Node;
 use std::alloc::Global;
@@ -31,13 +31,13 @@ fn leaves_its_process<R: Threads + Wait + Clock + Sync + Abort + AllocGlobal>(
     percents: u64,
 ) -> Result<(), Fail> {
     let alloc = rt.alloc();
-    let mut story = Story::until(alloc, endless(alloc, 1), Wanted::Entries(entries));
-    story.limit = limit;
-    story.stops = stops;
-    let played = play_here(rt, 1, story)?;
+    let mut scenario = Scenario::until(alloc, endless(alloc, 1), Wanted::Entries(entries));
+    scenario.limit = limit;
+    scenario.stops = stops;
+    let played = play_here(rt, 1, scenario)?;
     let (moments, _) = played.counts.moments;
     assert_eq!(rt;
-        (played.told.percents, moments <= 2, played.ready),
+        (played.report.percents, moments <= 2, played.ready),
         (percents, true, Some(1))
     );
     Ok(())
@@ -54,7 +54,7 @@ fn a_worker_that_is_stopped_leaves_its_process(rt: HostRuntime) -> Result<(), Fa
 }
 
 /// The number of the refusal of the last command, or 0.
-fn last_refusal<B: Room>(
+fn last_refusal<B: NodeBrand>(
     node: &mut Node<B>,
     seat: &mut SeatReceipt<B>,
     commands: &mut Commands,
@@ -71,7 +71,7 @@ fn last_refusal<B: Room>(
 
 /// Runs one row of the first process apart and commits it. Answers the number of the reason for which it is dropped, or 0; 100 and more if
 /// the checkout is refused.
-fn row_apart<B: Room>(node: &mut Node<B>) -> u8 {
+fn row_apart<B: NodeBrand>(node: &mut Node<B>) -> u8 {
     let checkout = match node.checkout(1) {
         Ok(checkout) => checkout,
         Err(refusal) => return 100 + refusal.number() % 100,
@@ -82,14 +82,14 @@ fn row_apart<B: Room>(node: &mut Node<B>) -> u8 {
     }
 }
 
-fn refusals<B: Room>(
+fn refusals<B: NodeBrand>(
     alloc: Global,
-    blank: Blank,
+    unbranded: UnbrandedKeeper,
     commands: &mut Commands,
 ) -> Result<(u8, u8, u8), Fail>
-    requires { blank ≡ B.table }
+    requires { unbranded ≡ B.table }
 {
-    let mut node = Node::<B>::with_limit(alloc, blank, 3);
+    let mut node = Node::<B>::with_limit(alloc, unbranded, 3);
     let mut seat = node.seat()?;
     let command = last_refusal(&mut node, &mut seat, commands);
     let row = row_apart(&mut node);
@@ -103,8 +103,8 @@ fn refusals_here(alloc: Global) -> Result<(u8, u8, u8), Fail> {
         .spawn("t", "sum", &[Integer(4)]);
     let mut commands = first.steps(1, 1).steps(1, 1);
     commands.made()?;
-    let blank = Blank::new(alloc)?;
-    refusals::<Brand>(alloc, blank, &mut commands)
+    let unbranded = UnbrandedKeeper::new(alloc)?;
+    refusals::<Brand>(alloc, unbranded, &mut commands)
 }
 
 #[test]

@@ -1,6 +1,6 @@
-//! The outcome of a story: the journal, and the state to which it has to lead.
+//! The outcome of a scenario: the journal, and the state to which it has to lead.
 
-use crate::gates::Told;
+use crate::barrier_gate::GateReport;
 use beam_debug::debugger::Debugger;
 use beam_image::Image;
 use beam_journal::journal::Journal;
@@ -10,10 +10,10 @@ use std::alloc::Global;
 use std::test::Fail;
 
 /// A node that was closed.
-pub struct Closed {
+pub struct ClosedNode {
     pub journal: Journal,
     /// What workers reported to the gate.
-    pub told: Told,
+    pub report: GateReport,
     /// Which process could go on in the end.
     pub ready: Option<u32>,
     /// The views of its processes from 1 to `ends`, as text.
@@ -24,11 +24,11 @@ pub struct Closed {
     pub left: Vec<u32>,
 }
 
-impl Drop for Closed {
+impl Drop for ClosedNode {
     fn drop(self) {
-        let Closed {
+        let ClosedNode {
             journal: _journal,
-            told: _told,
+            report: _report,
             ready: _ready,
             text: _text,
             ends: _ends,
@@ -39,7 +39,7 @@ impl Drop for Closed {
 
 /// What a journal has.
 #[derive(Clone, Copy)]
-pub struct Counts {
+pub struct JournalCounts {
     /// How many entries ran rows, and how many rows these are.
     pub slices: (u32, u64),
     /// How many loads come before the first rows.
@@ -52,15 +52,15 @@ pub struct Counts {
     pub moments: (u32, u64),
 }
 
-/// The outcome of a story.
+/// The outcome of a scenario.
 #[derive(Clone, Copy)]
 pub struct Played {
     /// What workers reported to the gate.
-    pub told: Told,
+    pub report: GateReport,
     /// Which process could go on in the end.
     pub ready: Option<u32>,
     /// What its journal has.
-    pub counts: Counts,
+    pub counts: JournalCounts,
     /// Whether the journal, run again, leads to the views of the processes at the end.
     pub replays: bool,
 }
@@ -78,10 +78,10 @@ fn more(count: u32) -> u32 {
     count.saturating_add(1)
 }
 
-impl Counts {
+impl JournalCounts {
     /// The counts of a journal.
-    pub fn of(journal: &Journal) -> Counts {
-        let mut counts = Counts {
+    pub fn of(journal: &Journal) -> JournalCounts {
+        let mut counts = JournalCounts {
             slices: (0, 0),
             loads_before_rows: 0,
             changes: 0,
@@ -127,7 +127,7 @@ impl Counts {
     }
 }
 
-impl Closed {
+impl ClosedNode {
     /// Whether this is the text of the processes' views.
     pub fn has_text(&self, text: &str) -> bool {
         self.text.as_slice() == text.as_bytes()
@@ -135,9 +135,9 @@ impl Closed {
 
     /// The pids that were left in the queues.
     pub fn into_left(self) -> Vec<u32> {
-        let Closed {
+        let ClosedNode {
             journal: _journal,
-            told: _told,
+            report: _report,
             ready: _ready,
             text: _text,
             ends: _ends,
@@ -151,13 +151,13 @@ impl Closed {
         Ok(text_of(alloc, &node, self.ends)? == self.text)
     }
 
-    /// The outcome of the story.
+    /// The outcome of the scenario.
     pub fn played(&self, alloc: Global) -> Result<Played, Fail> {
         let replays = self.replays(alloc)?;
         Ok(Played {
-            told: self.told,
+            report: self.report,
             ready: self.ready,
-            counts: Counts::of(&self.journal),
+            counts: JournalCounts::of(&self.journal),
             replays,
         })
     }

@@ -1,8 +1,8 @@
 //! The queues of workers: which processes are in them, and that all of these are taken.
 use crate::commands::Argument::Integer;
 use crate::commands::Commands;
-use crate::crew::{Story, Wanted};
 use crate::listings::{LOOP, SLEEP, SUM};
+use crate::scenario::{Scenario, Wanted};
 use crate::shared::left_here;
 use std::alloc::Global;
 use std::process::Abort;
@@ -27,38 +27,38 @@ pub fn endless(alloc: Global, count: u32) -> Commands {
 }
 
 /// A process that never ends, and after it one that does.
-fn one_beside(alloc: Global) -> Story {
+fn one_beside(alloc: Global) -> Scenario {
     let first = endless(alloc, 1).load(SUM);
     let first = first.spawn("t", "sum", &[Integer(4)]);
-    Story::until(alloc, first, Wanted::End(2))
+    Scenario::until(alloc, first, Wanted::End(2))
 }
 
 /// Many processes, to each of which three messages are sent, and no workers.
-fn unattended(alloc: Global) -> Story {
+fn unattended(alloc: Global) -> Scenario {
     let first = endless(alloc, MANY)
         .send_to_each(MANY, 0)
         .send_to_each(MANY, 1)
         .send_to_each(MANY, 2);
-    Story::until(alloc, first, Wanted::Nothing)
+    Scenario::until(alloc, first, Wanted::Nothing)
 }
 
 /// Many processes are run while other code is loaded again and again. After each load workers look at all of them.
-fn looked_at(alloc: Global) -> Story {
+fn looked_at(alloc: Global) -> Scenario {
     let mut first = endless(alloc, MANY);
     for _ in 0..20 {
         first = first.load(SLEEP);
     }
-    Story::until(alloc, first, Wanted::Entries(4 * MANY))
+    Scenario::until(alloc, first, Wanted::Entries(4 * MANY))
 }
 
-/// After a story the queues have exactly the processes from 1 to `count`, each once.
+/// After a scenario the queues have exactly the processes from 1 to `count`, each once.
 fn are_left<R: Threads + Wait + Clock + Sync + Abort + AllocGlobal>(
     rt: &R,
     workers: u32,
-    story: Story,
+    scenario: Scenario,
     count: u32,
 ) -> Result<(), Fail> {
-    let left = left_here(rt, workers, story)?;
+    let left = left_here(rt, workers, scenario)?;
     assert!(rt; are_each_once(&left, count));
     Ok(())
 }

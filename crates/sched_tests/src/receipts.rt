@@ -3,8 +3,8 @@ ghost use Rattle.std.specs.Prelude.{◌≡◌, ◌+◌, [], ◌∷◌, ◌++◌,
 ghost use Rattle.beam_machine.specs.declared.debug.DebugEvent.TheVariants.{Resume};
 ghost use Rattle.beam_receipts.specs.Receipts.{of_seat};
 
-use beam_receipts::keeper::{Blank, Keeper};
-use beam_receipts::room::{CheckedOut, Entered, Room};
+use beam_receipts::brand::{GhostEntry, GhostOrigin, NodeBrand};
+use beam_receipts::keeper::{Keeper, UnbrandedKeeper};
 use beam_receipts::seat::SeatReceipt;
 use beam_receipts::ticket::TicketReceipt;
 use std::marker::Brand;
@@ -12,18 +12,18 @@ use std::process::Abort;
 use std::test::*;
 
 /// Enters that a seat resumes a process.
-fn resume<B: Room, E: Entered>(keeper: &mut Keeper<B>, seat: &mut SeatReceipt<B>, pid: u32)
+fn resume<B: NodeBrand, E: GhostEntry>(keeper: &mut Keeper<B>, seat: &mut SeatReceipt<B>, pid: u32)
     requires event { E.entry.event ≡ Resume pid }
     requires seat { E.entry.seat ≡ Some seat.old.number }
     ensures keeper { keeper.new ≡ record keeper.old { journal = keeper.old.journal ++ E.entry ∷ [] } }
     ensures seat { seat.new.number ≡ seat.old.number }
     ensures kept { length seat.new.kept ≡ length seat.old.kept + 1 }
 {
-    keeper.enter::<E>(seat);
+    keeper.enter_for_seat::<E>(seat);
 }
 
 /// Checks a process out.
-fn hand_out<B: Room, O: CheckedOut>(keeper: &mut Keeper<B>, pid: u32) -> TicketReceipt<B>
+fn hand_out<B: NodeBrand, O: GhostOrigin>(keeper: &mut Keeper<B>, pid: u32) -> TicketReceipt<B>
     requires { O.origin.pid ≡ pid }
     ensures ticket { (result.serial ≡ length keeper.old.outs) × (result.origin.pid ≡ pid) }
     ensures keeper { keeper.new.journal ≡ keeper.old.journal }
@@ -32,21 +32,24 @@ fn hand_out<B: Room, O: CheckedOut>(keeper: &mut Keeper<B>, pid: u32) -> TicketR
 }
 
 /// A seat resumes a process, and the process is checked out.
-fn story<B: Room>(blank: Blank, pid: u32) -> (Keeper<B>, SeatReceipt<B>, TicketReceipt<B>)
-    requires { blank ≡ B.table }
+fn scenario<B: NodeBrand>(
+    unbranded: UnbrandedKeeper,
+    pid: u32,
+) -> (Keeper<B>, SeatReceipt<B>, TicketReceipt<B>)
+    requires { unbranded ≡ B.table }
     ensures seat { result.1.number ≡ 0 }
     ensures journal { length result.0.journal ≡ 3 }
     ensures kept { length (of_seat 0 result.0.journal) ≡ 2 }
     ensures ticket { result.2.origin.pid ≡ pid }
 {
-    let mut keeper = blank.named::<B>();
+    let mut keeper = unbranded.branded::<B>();
     let mut seat = keeper.seat();
     resume::<B, Brand>(&mut keeper, &mut seat, pid);
     let ticket = hand_out::<B, Brand>(&mut keeper, pid);
-    keeper.enter::<Brand>(&mut seat);
-    keeper.enter_alone::<Brand>();
-    keeper.compare();
-    keeper.known(&mut seat);
+    keeper.enter_for_seat::<Brand>(&mut seat);
+    keeper.enter_without_seat::<Brand>();
+    keeper.check_seats();
+    keeper.check_seat(&mut seat);
     (keeper, seat, ticket)
 }
 
@@ -57,17 +60,20 @@ fn sent<T: Send>(value: T) -> T
     value
 }
 
-fn told<B: Room + Send, R: Abort>(rt: &R, blank: Blank) -> Result<(), Fail>
-    requires { blank ≡ B.table }
+fn check_receipts<B: NodeBrand + Send, R: Abort>(
+    rt: &R,
+    unbranded: UnbrandedKeeper,
+) -> Result<(), Fail>
+    requires { unbranded ≡ B.table }
 {
-    let (keeper, seat, ticket) = sent(story::<B>(sent(blank), 7));
+    let (keeper, seat, ticket) = sent(scenario::<B>(sent(unbranded), 7));
     let mut keeper = keeper;
     assert!(rt; seat.number() == 0 && keeper.given() == 1 && ticket.serial() == 0);
-    keeper.found(ticket);
+    keeper.redeem(ticket);
     Ok(())
 }
 
 #[test]
 fn a_seat_and_a_ticket(rt: HostRuntime) -> Result<(), Fail> {
-    told::<Brand, _>(&rt, Blank::new(rt.alloc())?)
+    check_receipts::<Brand, _>(&rt, UnbrandedKeeper::new(rt.alloc())?)
 }

@@ -1,8 +1,8 @@
 //! Nodes with one worker and with many.
 use crate::commands::Argument::{Integer, Pid};
 use crate::commands::Commands;
-use crate::crew::Story;
 use crate::listings::{CALLER, HEAR, LINK, SLEEP, SUM};
+use crate::scenario::Scenario;
 use crate::shared::{play_here, play_seen};
 use std::alloc::Global;
 use std::process::Abort;
@@ -24,60 +24,60 @@ fn sums(alloc: Global, count: u32) -> Commands {
 }
 
 /// A process of sum(4) that stops before each turn of its loop.
-fn stopped(alloc: Global) -> Story {
+fn stopped(alloc: Global) -> Scenario {
     let first = Commands::new(alloc).load(SUM).set_break("t", 4);
-    Story::ending(alloc, first.spawn("t", "sum", &[Integer(4)]), 1)
+    Scenario::ending(alloc, first.spawn("t", "sum", &[Integer(4)]), 1)
 }
 
 /// Two processes that are out at the same time.
-fn two_sums(alloc: Global) -> Story {
-    Story::meeting(sums(alloc, 2), (1, 2), Commands::new(alloc), 2)
+fn two_sums(alloc: Global) -> Scenario {
+    Scenario::with_barrier(sums(alloc, 2), (1, 2), Commands::new(alloc), 2)
 }
 
 /// Two processes, and a load while both are out.
-fn two_sums_and_a_load(alloc: Global) -> Story {
+fn two_sums_and_a_load(alloc: Global) -> Scenario {
     let then = Commands::new(alloc).load(SUM);
-    Story::meeting(sums(alloc, 2), (1, 2), then, 2)
+    Scenario::with_barrier(sums(alloc, 2), (1, 2), then, 2)
 }
 
-fn sleeper(alloc: Global) -> Story {
+fn sleeper(alloc: Global) -> Scenario {
     let first = Commands::new(alloc).load(SLEEP);
-    Story::ending(alloc, first.spawn("s", "sleep", &[Integer(20)]), 1)
+    Scenario::ending(alloc, first.spawn("s", "sleep", &[Integer(20)]), 1)
 }
 
 /// Each process sends to the one before it, and the first one to itself. The last one gets its messages from commands.
-fn links(alloc: Global) -> Story {
+fn links(alloc: Global) -> Scenario {
     let load = Commands::new(alloc).load(LINK);
     let mut first = load.spawn("c", "link", &[Pid(1), Integer(ROUNDS)]);
     for id in 1..LINKS {
         first = first.spawn("c", "link", &[Pid(id), Integer(ROUNDS)]);
     }
     let first = first.send(LINKS, 0).send(LINKS, 1).send(LINKS, 2);
-    Story::ending(alloc, first, LINKS)
+    Scenario::ending(alloc, first, LINKS)
 }
 
 /// The code of a process is purged while it is out for the second time.
-fn purged(alloc: Global) -> Story {
+fn purged(alloc: Global) -> Scenario {
     let first = Commands::new(alloc).load(CALLER);
     let first = first.spawn("o", "call", &[Pid(1), Integer(5_000)]);
     let then = Commands::new(alloc).load(CALLER).purge("o");
-    Story::meeting(first, (2, 2), then, 1)
+    Scenario::with_barrier(first, (2, 2), then, 1)
 }
 
 /// The first process ends with the messages that it gets. The second one's code is purged while it is out for the second time, with a
 /// message to the first one; then a command sends another message.
-fn purged_with_a_message(alloc: Global) -> Story {
+fn purged_with_a_message(alloc: Global) -> Scenario {
     let first = Commands::new(alloc).load(CALLER).load(HEAR);
     let first = first.spawn("h", "hear", &[]);
     let first = first.spawn("o", "call", &[Pid(1), Integer(2_000)]);
     let then = Commands::new(alloc).load(CALLER).purge("o").send(1, 7);
-    Story::meeting(first, (3, 3), then, 2)
+    Scenario::with_barrier(first, (3, 3), then, 2)
 }
 
 #[test]
 fn one_worker_enters_one_slice(rt: HostRuntime) -> Result<(), Fail> {
-    let story = Story::ending(rt.alloc(), sums(rt.alloc(), 1), 1);
-    let played = play_here(&rt, 1, story)?;
+    let scenario = Scenario::ending(rt.alloc(), sums(rt.alloc(), 1), 1);
+    let played = play_here(&rt, 1, scenario)?;
     assert_eq!(rt; (played.counts.slices, played.replays), ((1, 22), true));
     Ok(())
 }
@@ -135,7 +135,7 @@ fn met<R: Threads + Wait + Clock + Sync + Abort + AllocGlobal>(
 ) -> Result<(), Fail> {
     let played = play_here(rt, workers, two_sums(rt.alloc()))?;
     assert_eq!(rt;
-        (played.told.outs, played.counts.slices, played.replays),
+        (played.report.outs, played.counts.slices, played.replays),
         (2, (2, 44), true)
     );
     Ok(())
@@ -153,9 +153,9 @@ fn overtaken<R: Threads + Wait + Clock + Sync + Abort + AllocGlobal>(
     workers: u32,
 ) -> Result<(), Fail> {
     let played = play_here(rt, workers, two_sums_and_a_load(rt.alloc()))?;
-    let told = (played.counts.loads_before_rows, played.told.outs);
+    let report = (played.counts.loads_before_rows, played.report.outs);
     assert_eq!(rt;
-        (told, played.counts.slices, played.replays),
+        (report, played.counts.slices, played.replays),
         ((2, 4), (2, 44), true)
     );
     Ok(())
@@ -173,9 +173,9 @@ fn gone<R: Threads + Wait + Clock + Sync + Abort + AllocGlobal>(
     workers: u32,
 ) -> Result<(), Fail> {
     let (played, is_seen) = play_seen(rt, workers, purged(rt.alloc()), "pid 1 ended killed\n")?;
-    let told = (played.counts.slices, played.told.outs);
+    let report = (played.counts.slices, played.report.outs);
     assert_eq!(rt;
-        (told, is_seen, played.replays),
+        (report, is_seen, played.replays),
         (((1, 4_000), 2), true, true)
     );
     Ok(())

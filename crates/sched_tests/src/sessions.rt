@@ -19,7 +19,7 @@ pub struct Session {
 
 /// Sessions with one node, one after another.
 #[derive(Clone, Copy)]
-pub struct Row {
+pub struct SessionRow {
     pub sessions: &'static [Session],
     /// The replies to the commands that were accepted, also those that could not be written.
     pub kept: &'static str,
@@ -39,8 +39,8 @@ const LOAD_STRICT: &str =
 const HELD: &str =
     "0000009C0470696420312068656C640A617420743A73756D2F32206C6162656C2035202B203120696E7374616E636520310A6E657874207B67635F6269662C272D272C7B662C307D2C322C5B7B782C307D2C7B696E74656765722C317D5D2C7B782C307D7D0A7830203D20340A7831203D20340A6672616D652072657475726E20656E640A6D61696C626F78203020736176652030207472616E73697420300A";
 
-const ROWS: [Row; 14] = [
-    Row {
+const ROWS: [SessionRow; 14] = [
+    SessionRow {
         sessions: &[Session {
             device: Pieces(1),
             input: "LOAD SPAWN",
@@ -51,7 +51,7 @@ const ROWS: [Row; 14] = [
         processes: 1,
         seen: "pid 1 ended normal\ncurrent 1 old 0 spots 0\n",
     },
-    Row {
+    SessionRow {
         sessions: &[Session {
             device: Streams,
             input: "LOAD SPAWN",
@@ -62,7 +62,7 @@ const ROWS: [Row; 14] = [
         processes: 1,
         seen: "pid 1 ended normal\ncurrent 1 old 0 spots 0\n",
     },
-    Row {
+    SessionRow {
         sessions: &[Session {
             device: Pieces(4_096),
             input: "LOAD SPAWN 00",
@@ -73,7 +73,7 @@ const ROWS: [Row; 14] = [
         processes: 1,
         seen: "pid 1 ended normal\ncurrent 1 old 0 spots 0\n",
     },
-    Row {
+    SessionRow {
         sessions: &[Session {
             device: Reads(209),
             input: "LOAD SPAWN STEPS",
@@ -84,7 +84,7 @@ const ROWS: [Row; 14] = [
         processes: 1,
         seen: "pid 1 ended normal\ncurrent 1 old 0 spots 0\n",
     },
-    Row {
+    SessionRow {
         sessions: &[Session {
             device: Writes(21),
             input: "LOAD SPAWN STEPS",
@@ -95,7 +95,7 @@ const ROWS: [Row; 14] = [
         processes: 1,
         seen: "pid 1 ended normal\ncurrent 1 old 0 spots 0\n",
     },
-    Row {
+    SessionRow {
         sessions: &[Session {
             device: Pieces(4_096),
             input: "LOAD 0000000163 SPAWN",
@@ -106,7 +106,7 @@ const ROWS: [Row; 14] = [
         processes: 0,
         seen: "current 1 old 0 spots 0\n",
     },
-    Row {
+    SessionRow {
         sessions: &[Session {
             device: Pieces(4_096),
             input: "LOAD 00800001",
@@ -117,7 +117,7 @@ const ROWS: [Row; 14] = [
         processes: 0,
         seen: "current 1 old 0 spots 0\n",
     },
-    Row {
+    SessionRow {
         sessions: &[Session {
             device: Streams,
             input: "000000080801020304050607",
@@ -128,7 +128,7 @@ const ROWS: [Row; 14] = [
         processes: 0,
         seen: "current 0 old 0 spots 0\n",
     },
-    Row {
+    SessionRow {
         sessions: &[Session {
             device: Pieces(4_096),
             input: "0000000501464F5231 VERSIONS",
@@ -139,7 +139,7 @@ const ROWS: [Row; 14] = [
         processes: 0,
         seen: "current 0 old 0 spots 0\n",
     },
-    Row {
+    SessionRow {
         sessions: &[Session {
             device: Streams,
             input: "LOAD VERSIONS PURGE DELETE VERSIONS DELETE SOFT_PURGE VERSIONS",
@@ -150,7 +150,7 @@ const ROWS: [Row; 14] = [
         processes: 0,
         seen: "current 0 old 0 spots 0\n",
     },
-    Row {
+    SessionRow {
         sessions: &[Session {
             device: Pieces(4_096),
             input: "LOAD LOAD LOAD_STRICT SOFT_PURGE LOAD_STRICT",
@@ -161,7 +161,7 @@ const ROWS: [Row; 14] = [
         processes: 0,
         seen: "current 3 old 2 spots 0\n",
     },
-    Row {
+    SessionRow {
         sessions: &[Session {
             device: Pieces(4_096),
             input: "00000009080000000900000001 000000050900000009 000000050B00000001 RESUME STEP_ONE INSPECT",
@@ -172,7 +172,7 @@ const ROWS: [Row; 14] = [
         processes: 0,
         seen: "current 0 old 0 spots 0\n",
     },
-    Row {
+    SessionRow {
         sessions: &[
             Session {
                 device: Writes(0),
@@ -191,7 +191,7 @@ const ROWS: [Row; 14] = [
         processes: 0,
         seen: "current 1 old 0 spots 0\n",
     },
-    Row {
+    SessionRow {
         sessions: &[
             Session {
                 device: Pieces(4_096),
@@ -213,7 +213,7 @@ const ROWS: [Row; 14] = [
 ];
 
 /// The rows.
-pub fn rows() -> &'static [Row] {
+pub fn rows() -> &'static [SessionRow] {
     &ROWS
 }
 

@@ -1,19 +1,19 @@
 //! A node that is played through, up to its journal.
 ghost use Rattle.std.specs.Prelude.{◌≡◌};
 
-use crate::crew::{Crew, Story};
-use crate::gates::{Meeting, SliceClock, Told};
-use crate::played::{Closed, Played, text_of};
+use crate::barrier_gate::{BarrierGate, GateReport, SliceClock};
+use crate::played::{ClosedNode, Played, text_of};
+use crate::scenario::{Scenario, ScenarioRunner};
 use crate::stage::{closed, staged};
 use beam_journal::journal::MOST_ENTRIES;
 use beam_queue as queue;
-use beam_queue::Queues;
-use beam_receipts::keeper::Blank;
-use beam_receipts::room::Room;
+use beam_queue::QueueBrand;
+use beam_receipts::brand::NodeBrand;
+use beam_receipts::keeper::UnbrandedKeeper;
 use beam_sched::clock::SteadyClock;
 use beam_sched::schedulers::run_schedulers;
 use beam_sched::shared::Shared;
-use beam_sched::station::Station;
+use beam_sched::thread_context::ThreadContext;
 use beam_shared::node::Node;
 use std::alloc::Global;
 use std::marker::Brand;
@@ -22,61 +22,61 @@ use std::test::Fail;
 use std::thread::Threads;
 use std::time::Clock;
 
-/// Runs a crew beside workers. The time is a clock's, or the number of slices that were checked out. All stations but the crew's come back.
-fn run_beside<'a, B: Room + Queues + Send + Sync, R: Threads + Wait + Clock + Sync>(
+/// Runs a scenario runner beside workers. The time is a clock's, or the number of slices that were checked out. All thread contexts but the scenario runner's come back.
+fn run_beside<'a, B: NodeBrand + QueueBrand + Send + Sync, R: Threads + Wait + Clock + Sync>(
     rt: &'a R,
     alloc: Global,
     shared: &'a Shared<B>,
-    gate: &'a Meeting<'a, R>,
-    stations: Vec<Station<B>>,
-    crew: &mut Crew<'a, B, R>,
+    gate: &'a BarrierGate<'a, R>,
+    contexts: Vec<ThreadContext<B>>,
+    runner: &mut ScenarioRunner<'a, B, R>,
     is_by_slices: bool,
-) -> Vec<Station<B>> {
+) -> Vec<ThreadContext<B>> {
     if is_by_slices {
         let clock = SliceClock::new(gate);
-        run_schedulers(rt, alloc, shared, gate, &clock, stations, crew)
+        run_schedulers(rt, alloc, shared, gate, &clock, contexts, runner)
     } else {
         let clock = SteadyClock::new(rt);
-        run_schedulers(rt, alloc, shared, gate, &clock, stations, crew)
+        run_schedulers(rt, alloc, shared, gate, &clock, contexts, runner)
     }
 }
 
-/// Runs a story; all stations come back if it was played to its end.
-fn run<'a, B: Room + Queues + Send + Sync, R: Threads + Wait + Clock + Sync>(
+/// Runs a scenario; all thread contexts come back if it was played to its end.
+fn run<'a, B: NodeBrand + QueueBrand + Send + Sync, R: Threads + Wait + Clock + Sync>(
     rt: &'a R,
     alloc: Global,
     shared: &'a Shared<B>,
-    gate: &'a Meeting<'a, R>,
-    stations: Vec<Station<B>>,
-    station: Station<B>,
-    story: Story,
-) -> Result<Vec<Station<B>>, Fail> {
-    let is_by_slices = story.is_by_slices;
-    let mut crew = Crew::new(rt, shared, gate, station, story, stations.len());
-    let mut stations = run_beside(rt, alloc, shared, gate, stations, &mut crew, is_by_slices);
-    let (station, lack) = crew.end();
-    let is_whole = stations.push(station).is_ok();
-    match lack {
-        None if is_whole => Ok(stations),
+    gate: &'a BarrierGate<'a, R>,
+    contexts: Vec<ThreadContext<B>>,
+    context: ThreadContext<B>,
+    scenario: Scenario,
+) -> Result<Vec<ThreadContext<B>>, Fail> {
+    let is_by_slices = scenario.is_by_slices;
+    let mut runner = ScenarioRunner::new(rt, shared, gate, context, scenario, contexts.len());
+    let mut contexts = run_beside(rt, alloc, shared, gate, contexts, &mut runner, is_by_slices);
+    let (context, unfinished) = runner.end();
+    let is_whole = contexts.push(context).is_ok();
+    match unfinished {
+        None if is_whole => Ok(contexts),
         None => Err(Fail::new("no room for a station")),
-        Some(lack) => Err(lack.fail()),
+        Some(unfinished) => Err(unfinished.fail()),
     }
 }
 
-/// Closes the node with all stations.
-fn ended<B: Room + Queues>(
+/// Closes the node with all thread contexts.
+fn ended<B: NodeBrand + QueueBrand>(
     alloc: Global,
     node: Node<B>,
-    stations: Vec<Station<B>>,
+    contexts: Vec<ThreadContext<B>>,
     ends: u32,
-    told: Told,
-) -> Result<Closed, Fail> {
+    report: GateReport,
+) -> Result<ClosedNode, Fail> {
     let text = text_of(alloc, node.debugger(), ends)?;
     let ready = node.ready(0);
-    let (journal, left) = closed(alloc, node, stations)?;
-    Ok(Closed {
+    let (journal, left) = closed(alloc, node, contexts)?;
+    Ok(ClosedNode {
         journal,
-        told,
+        report,
         ready,
         text,
         ends,
@@ -84,68 +84,68 @@ fn ended<B: Room + Queues>(
     })
 }
 
-/// Plays a story with `workers` workers, and closes the node with all stations.
-fn play<B: Room + Queues + Send + Sync, R: Threads + Wait + Clock + Sync>(
+/// Plays a scenario with `workers` workers, and closes the node with all thread contexts.
+fn play<B: NodeBrand + QueueBrand + Send + Sync, R: Threads + Wait + Clock + Sync>(
     rt: &R,
     alloc: Global,
-    blank: Blank,
-    queues: queue::Blank,
+    unbranded: UnbrandedKeeper,
+    queues: queue::UnbrandedQueues,
     workers: u32,
-    story: Story,
-) -> Result<Closed, Fail>
-    requires node { blank ≡ B.table }
+    scenario: Scenario,
+) -> Result<ClosedNode, Fail>
+    requires node { unbranded ≡ B.table }
     requires queues { queues ≡ B.deques }
 {
-    let ends = story.ends();
-    let (first, needed) = story.held;
-    let limit = story.limit.min(MOST_ENTRIES);
-    let gate = Meeting::new(rt, first, needed);
-    let (node, workers, station, _) = staged::<B>(alloc, blank, queues, limit, workers)?;
+    let ends = scenario.ends();
+    let (first, needed) = scenario.held;
+    let limit = scenario.limit.min(MOST_ENTRIES);
+    let gate = BarrierGate::new(rt, first, needed);
+    let (node, workers, context, _) = staged::<B>(alloc, unbranded, queues, limit, workers)?;
     let shared = Shared::new(alloc, node);
-    let stations = run(rt, alloc, &shared, &gate, workers, station, story);
+    let contexts = run(rt, alloc, &shared, &gate, workers, context, scenario);
     let node = shared.into_node();
-    ended(alloc, node, stations?, ends, gate.told())
+    ended(alloc, node, contexts?, ends, gate.report())
 }
 
-/// Plays a story with a node of its own.
+/// Plays a scenario with a node of its own.
 fn closed_here<R: Threads + Wait + Clock + Sync + AllocGlobal>(
     rt: &R,
     workers: u32,
-    story: Story,
-) -> Result<Closed, Fail> {
+    scenario: Scenario,
+) -> Result<ClosedNode, Fail> {
     let alloc = rt.alloc();
-    story.made()?;
-    let blank = Blank::new(alloc)?;
-    let queues = queue::Blank::new(alloc, workers as usize + 1)?;
-    play::<Brand, R>(rt, alloc, blank, queues, workers, story)
+    scenario.made()?;
+    let unbranded = UnbrandedKeeper::new(alloc)?;
+    let queues = queue::UnbrandedQueues::new(alloc, workers as usize + 1)?;
+    play::<Brand, R>(rt, alloc, unbranded, queues, workers, scenario)
 }
 
-/// The outcome of a story that is played with `workers` workers.
+/// The outcome of a scenario that is played with `workers` workers.
 pub fn play_here<R: Threads + Wait + Clock + Sync + AllocGlobal>(
     rt: &R,
     workers: u32,
-    story: Story,
+    scenario: Scenario,
 ) -> Result<Played, Fail> {
-    closed_here(rt, workers, story)?.played(rt.alloc())
+    closed_here(rt, workers, scenario)?.played(rt.alloc())
 }
 
-/// The outcome of a story that is played with `workers` workers, and whether this is the text of the processes' views at its end.
+/// The outcome of a scenario that is played with `workers` workers, and whether this is the text of the processes' views at its end.
 pub fn play_seen<R: Threads + Wait + Clock + Sync + AllocGlobal>(
     rt: &R,
     workers: u32,
-    story: Story,
+    scenario: Scenario,
     seen: &str,
 ) -> Result<(Played, bool), Fail> {
-    let closed = closed_here(rt, workers, story)?;
+    let closed = closed_here(rt, workers, scenario)?;
     let played = closed.played(rt.alloc())?;
     Ok((played, closed.has_text(seen)))
 }
 
-/// The pids that are left in the queues after a story.
+/// The pids that are left in the queues after a scenario.
 pub fn left_here<R: Threads + Wait + Clock + Sync + AllocGlobal>(
     rt: &R,
     workers: u32,
-    story: Story,
+    scenario: Scenario,
 ) -> Result<Vec<u32>, Fail> {
-    Ok(closed_here(rt, workers, story)?.into_left())
+    Ok(closed_here(rt, workers, scenario)?.into_left())
 }

@@ -1,6 +1,6 @@
 //! Streams with a limit of time, over a clock and a stream in memory.
 
-use beam_serve::Timed;
+use beam_serve::TimedStream;
 use std::cell::Cell;
 use std::io;
 use std::io::{Error, ErrorKind, Read};
@@ -11,17 +11,17 @@ use std::time::{Clock, Duration};
 
 /// A clock that a stream advances.
 #[derive(Drop)]
-struct Hands {
+struct StreamClock {
     now: Cell<Duration>,
 }
 
-impl Hands {
+impl StreamClock {
     fn pass(&self, time: Duration) {
         self.now.set(self.now.get().saturating_add(time));
     }
 }
 
-impl Clock for Hands {
+impl Clock for StreamClock {
     fn monotonic(&self) -> io::Result<Duration> {
         Ok(self.now.get())
     }
@@ -37,7 +37,7 @@ type Piece = (u64, usize, u8);
 /// A stream that gives its pieces, one a call. A call for a piece that comes later than the call waits fails.
 #[derive(Drop)]
 struct Pieces<'a> {
-    clock: &'a Hands,
+    clock: &'a StreamClock,
     pieces: &'a [Piece],
     wait: Cell<Duration>,
 }
@@ -71,7 +71,7 @@ impl Read for Pieces<'_> {
 
 /// How many bytes come through a stream with a limit of a second, and at which millisecond it fails; `None` if all come.
 fn come(pieces: &[Piece]) -> (usize, Option<u128>) {
-    let clock = Hands {
+    let clock = StreamClock {
         now: Cell::new(Duration::ZERO),
     };
     let stream = Pieces {
@@ -79,7 +79,7 @@ fn come(pieces: &[Piece]) -> (usize, Option<u128>) {
         pieces,
         wait: Cell::new(Duration::MAX),
     };
-    let mut stream = Timed::new(&clock, stream, Some(Duration::from_secs(1)));
+    let mut stream = TimedStream::new(&clock, stream, Some(Duration::from_secs(1)));
     let mut buffer = [0; 64];
     let mut count = 0usize;
     for _ in pieces {

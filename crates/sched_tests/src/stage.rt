@@ -1,57 +1,65 @@
-//! A new node with its stations, and its end.
+//! A new node with its thread contexts, and its end.
 ghost use Rattle.std.specs.Prelude.{◌≡◌, ◌≤◌};
 ghost use Rattle.beam_journal.specs.Entering.{most_entries};
 
 use beam_journal::journal::Journal;
 use beam_queue as queue;
-use beam_queue::{Queues, close};
-use beam_receipts::keeper::Blank;
-use beam_receipts::room::Room;
+use beam_queue::{QueueBrand, close};
+use beam_receipts::brand::NodeBrand;
+use beam_receipts::keeper::UnbrandedKeeper;
 use beam_receipts::seat::SeatReceipt;
-use beam_sched::station::Station;
-use beam_sched::stations::{Apart, stations};
+use beam_sched::thread_context::ThreadContext;
+use beam_sched::thread_contexts::{SeatsAndQueues, contexts};
 use beam_shared::node::Node;
 use std::alloc::Global;
 use std::test::Fail;
 
-/// A new node whose journal can have `limit` entries, the stations of `workers` workers, one of a sender of commands, and the others.
-pub fn staged<B: Room + Queues>(
+/// A new node whose journal can have `limit` entries, the thread contexts of `workers` workers, one of a sender of commands, and the others.
+pub fn staged<B: NodeBrand + QueueBrand>(
     alloc: Global,
-    blank: Blank,
-    queues: queue::Blank,
+    unbranded: UnbrandedKeeper,
+    queues: queue::UnbrandedQueues,
     limit: u32,
     workers: u32,
-) -> Result<(Node<B>, Vec<Station<B>>, Station<B>, Vec<Station<B>>), Fail>
-    requires node { blank ≡ B.table }
+) -> Result<
+    (
+        Node<B>,
+        Vec<ThreadContext<B>>,
+        ThreadContext<B>,
+        Vec<ThreadContext<B>>,
+    ),
+    Fail,
+>
+    requires node { unbranded ≡ B.table }
     requires queues { queues ≡ B.deques }
     requires limit { limit ≤ most_entries }
 {
-    let mut node = Node::<B>::with_limit(alloc, blank, limit);
-    let (workers, mut others) = stations(alloc, &mut node, queues, workers as usize)?;
+    let mut node = Node::<B>::with_limit(alloc, unbranded, limit);
+    let (workers, mut others) = contexts(alloc, &mut node, queues, workers as usize)?;
     match others.pop() {
-        Some(station) => Ok((node, workers, station, others)),
+        Some(context) => Ok((node, workers, context, others)),
         None => Err(Fail::new("no station")),
     }
 }
 
-/// The seats of stations, and the pids that are left in their queues, which are closed.
-fn apart<B: Room + Queues>(
+/// The seats of thread contexts, and the pids that are left in their queues, which are closed.
+fn parts<B: NodeBrand + QueueBrand>(
     alloc: Global,
-    stations: Vec<Station<B>>,
+    contexts: Vec<ThreadContext<B>>,
 ) -> Result<(Vec<SeatReceipt<B>>, Vec<u32>), Fail> {
-    let mut apart = Apart::with_room(alloc, stations.len())?;
-    apart.put_all(stations);
-    let (seats, lanes) = apart.into_parts();
-    Ok((seats, close(alloc, lanes)?))
+    let mut parts = SeatsAndQueues::with_room(alloc, contexts.len())?;
+    parts.put_all(contexts);
+    let (seats, run_queues) = parts.into_parts();
+    Ok((seats, close(alloc, run_queues)?))
 }
 
-/// Closes the queues and the node with all stations. Gives the journal, and the pids that are left in the queues.
-pub fn closed<B: Room + Queues>(
+/// Closes the queues and the node with all thread contexts. Gives the journal, and the pids that are left in the queues.
+pub fn closed<B: NodeBrand + QueueBrand>(
     alloc: Global,
     node: Node<B>,
-    stations: Vec<Station<B>>,
+    contexts: Vec<ThreadContext<B>>,
 ) -> Result<(Journal, Vec<u32>), Fail> {
-    let (seats, left) = apart(alloc, stations)?;
+    let (seats, left) = parts(alloc, contexts)?;
     match node.close(seats) {
         Ok(journal) => Ok((journal, left)),
         Err(_) => Err(Fail::new("Mismatch")),

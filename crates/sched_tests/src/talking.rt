@@ -1,25 +1,25 @@
 //! Sessions with a node that threads share, up to its journal.
 ghost use Rattle.std.specs.Prelude.{◌≡◌};
 
-use crate::patience::{Lack, Patience};
 use crate::played::text_of;
-use crate::sessions::{Row, Session, digits_of, rows};
+use crate::sessions::{Session, SessionRow, digits_of, rows};
 use crate::stage;
 use crate::stage::staged;
+use crate::test_deadline::{TestDeadline, Unfinished};
 use beam_debug::debugger::Debugger;
 use beam_desk::reply;
 use beam_frame::encode_reply;
 use beam_journal::entry::Entry;
 use beam_journal::journal::{Journal, MOST_ENTRIES};
 use beam_queue as queue;
-use beam_queue::Queues;
-use beam_receipts::keeper::Blank;
-use beam_receipts::room::Room;
+use beam_queue::QueueBrand;
+use beam_receipts::brand::NodeBrand;
+use beam_receipts::keeper::UnbrandedKeeper;
 use beam_sched::clock::SteadyClock;
 use beam_sched::gate::NoGate;
-use beam_sched::schedulers::{Body, Started, run_schedulers};
+use beam_sched::schedulers::{ForegroundTask, StartedThreads, run_schedulers};
 use beam_sched::shared::Shared;
-use beam_sched::station::Station;
+use beam_sched::thread_context::ThreadContext;
 use beam_serve::SeatDesk;
 use beam_shared::node::Node;
 use beam_term::Atom;
@@ -34,18 +34,18 @@ use std::time;
 
 /// Runs the sessions of a row, one after another. After each it waits until the processes have ended or are held.
 #[derive(Drop)]
-struct Talk<'a, B: Room + Queues, R> {
+struct RowSessions<'a, B: NodeBrand + QueueBrand, R> {
     rt: &'a R,
     alloc: Global,
     shared: &'a Shared<B>,
     desk: SeatDesk<'a, B, R>,
-    row: Row,
+    row: SessionRow,
     /// How many workers are wanted.
     workers: usize,
-    patience: Patience,
+    deadline: TestDeadline,
     told: Option<String>,
     /// Why the sessions weren't all run.
-    lack: Lack,
+    unfinished: Unfinished,
 }
 
 /// The digits of the words of a text.
@@ -71,21 +71,21 @@ fn are_at_rest(node: &Debugger, count: u32) -> bool {
     })
 }
 
-impl<B: Room + Queues, R: Wait + time::Clock + Log + AllocGlobal> Talk<'_, B, R> {
+impl<B: NodeBrand + QueueBrand, R: Wait + time::Clock + Log + AllocGlobal> RowSessions<'_, B, R> {
     /// Waits until the processes have ended or are held. False if they didn't in time.
     fn wait_for_rest(&mut self) -> bool {
         for _ in 0..u32::MAX {
-            let marked = self.shared.node().lock(self.rt);
-            let is_at_rest = are_at_rest(marked.node().debugger(), self.row.processes);
-            drop(marked);
+            let locked = self.shared.node().lock(self.rt);
+            let is_at_rest = are_at_rest(locked.node().debugger(), self.row.processes);
+            drop(locked);
             if is_at_rest {
                 return true;
             }
-            if !self.patience.lasts(self.rt) {
+            if !self.deadline.lasts(self.rt) {
                 break;
             }
         }
-        self.lack = Lack::Late(
+        self.unfinished = Unfinished::Late(
             "so many of the processes to end or be held",
             self.row.processes,
         );
@@ -109,8 +109,9 @@ impl<B: Room + Queues, R: Wait + time::Clock + Log + AllocGlobal> Talk<'_, B, R>
     }
 }
 
-impl<B: Room + Queues, R: Wait + time::Clock + Log + AllocGlobal> Body for Talk<'_, B, R> {
-    fn run(&mut self, started: Started) {
+impl<B: NodeBrand + QueueBrand, R: Wait + time::Clock + Log + AllocGlobal> ForegroundTask
+    for RowSessions<'_, B, R> {
+    fn run(&mut self, started: StartedThreads) {
         if started.workers == self.workers {
             self.told = self.talk();
         }
@@ -121,41 +122,41 @@ impl<B: Room + Queues, R: Wait + time::Clock + Log + AllocGlobal> Body for Talk<
     }
 }
 
-/// All stations, which came back; the text of the sessions, if all were run, and why not otherwise.
+/// All thread contexts, which came back; the text of the sessions, if all were run, and why not otherwise.
 fn run<
     'a,
-    B: Room + Queues + Send + Sync,
+    B: NodeBrand + QueueBrand + Send + Sync,
     R: Threads + Wait + time::Clock + Log + AllocGlobal + Sync,
 >(
     rt: &'a R,
     alloc: Global,
     shared: &'a Shared<B>,
-    stations: Vec<Station<B>>,
-    station: Station<B>,
-    row: Row,
-) -> (Vec<Station<B>>, Option<String>, Lack) {
+    contexts: Vec<ThreadContext<B>>,
+    context: ThreadContext<B>,
+    row: SessionRow,
+) -> (Vec<ThreadContext<B>>, Option<String>, Unfinished) {
     let clock = SteadyClock::new(rt);
-    let mut talk = Talk {
+    let mut talk = RowSessions {
         rt,
         alloc,
         shared,
-        desk: SeatDesk::new(rt, shared, station),
+        desk: SeatDesk::new(rt, shared, context),
         row,
-        workers: stations.len(),
-        patience: Patience::new(rt),
+        workers: contexts.len(),
+        deadline: TestDeadline::new(rt),
         told: None,
-        lack: Lack::Undone("a session was not had"),
+        unfinished: Unfinished::Undone("a session was not had"),
     };
-    let mut stations = run_schedulers(rt, alloc, shared, &NoGate, &clock, stations, &mut talk);
-    let Talk {
+    let mut contexts = run_schedulers(rt, alloc, shared, &NoGate, &clock, contexts, &mut talk);
+    let RowSessions {
         desk,
         told,
-        lack,
+        unfinished,
         ..
     } = talk;
-    // A station that is lost keeps the node from being closed.
-    let _ = stations.push(desk.into_station());
-    (stations, told, lack)
+    // A thread context that is lost keeps the node from being closed.
+    let _ = contexts.push(desk.into_context());
+    (contexts, told, unfinished)
 }
 
 /// The views of the processes from 1 to `count`, the instances of the module `t`, and the number of break spots.
@@ -198,17 +199,17 @@ pub fn replayed(
     Ok((hex::encode_upper(alloc, &replies)?, seen))
 }
 
-/// Closes the node with all stations, and runs its journal again.
-fn closed<B: Room + Queues>(
+/// Closes the node with all thread contexts, and runs its journal again.
+fn closed<B: NodeBrand + QueueBrand>(
     alloc: Global,
     node: Node<B>,
-    stations: Vec<Station<B>>,
+    contexts: Vec<ThreadContext<B>>,
     seat: u32,
-    row: Row,
+    row: SessionRow,
     told: &str,
 ) -> Result<String, Fail> {
     let seen = seen_of(alloc, node.debugger(), row.processes)?;
-    let (journal, _) = stage::closed(alloc, node, stations)?;
+    let (journal, _) = stage::closed(alloc, node, contexts)?;
     let (kept, again) = replayed(alloc, &journal, seat, row.processes)?;
     let is_same = again == seen;
     Ok(format!(in alloc; "{told}{kept}; {seen}{is_same}")?)
@@ -216,27 +217,27 @@ fn closed<B: Room + Queues>(
 
 /// The outcome of the sessions of a row, with `workers` workers.
 fn found<
-    B: Room + Queues + Send + Sync,
+    B: NodeBrand + QueueBrand + Send + Sync,
     R: Threads + Wait + time::Clock + Log + AllocGlobal + Sync,
 >(
     rt: &R,
     alloc: Global,
-    blank: Blank,
-    queues: queue::Blank,
+    unbranded: UnbrandedKeeper,
+    queues: queue::UnbrandedQueues,
     workers: u32,
-    row: Row,
+    row: SessionRow,
 ) -> Result<String, Fail>
-    requires node { blank ≡ B.table }
+    requires node { unbranded ≡ B.table }
     requires queues { queues ≡ B.deques }
 {
-    let (node, workers, station, _) = staged::<B>(alloc, blank, queues, MOST_ENTRIES, workers)?;
-    let number = station.seat.number();
+    let (node, workers, context, _) = staged::<B>(alloc, unbranded, queues, MOST_ENTRIES, workers)?;
+    let number = context.seat.number();
     let shared = Shared::new(alloc, node);
-    let (stations, told, lack) = run(rt, alloc, &shared, workers, station, row);
+    let (contexts, told, unfinished) = run(rt, alloc, &shared, workers, context, row);
     let node = shared.into_node();
     match told {
-        Some(told) => closed(alloc, node, stations, number, row, &told),
-        None => Err(lack.fail()),
+        Some(told) => closed(alloc, node, contexts, number, row, &told),
+        None => Err(unfinished.fail()),
     }
 }
 
@@ -244,15 +245,15 @@ fn found_here<R: Threads + Wait + time::Clock + Log + AllocGlobal + Sync>(
     rt: &R,
     alloc: Global,
     workers: u32,
-    row: Row,
+    row: SessionRow,
 ) -> Result<String, Fail> {
-    let blank = Blank::new(alloc)?;
-    let queues = queue::Blank::new(alloc, workers as usize + 1)?;
-    found::<Brand, R>(rt, alloc, blank, queues, workers, row)
+    let unbranded = UnbrandedKeeper::new(alloc)?;
+    let queues = queue::UnbrandedQueues::new(alloc, workers as usize + 1)?;
+    found::<Brand, R>(rt, alloc, unbranded, queues, workers, row)
 }
 
 /// The outcome that a row wants.
-fn wanted(alloc: Global, row: Row) -> Result<String, Fail> {
+fn wanted(alloc: Global, row: SessionRow) -> Result<String, Fail> {
     let mut text = String::new(alloc);
     for session in row.sessions {
         let replies = spelled(alloc, session.replies)?;

@@ -1,8 +1,8 @@
 //! Waits that end by their deadlines, whatever else there is to do.
 use crate::commands::Argument::{Integer, Pid, Pids};
 use crate::commands::{Argument, Commands};
-use crate::crew::Story;
 use crate::listings::{GO, SLEEP, WAIT};
+use crate::scenario::Scenario;
 use crate::shared::play_here;
 use std::alloc::Global;
 use std::process::Abort;
@@ -14,16 +14,16 @@ use std::time::Clock;
 /// How many messages a process gets while it waits. None of them ends its wait.
 const MESSAGES: u32 = 300;
 
-/// How many processes are sent to their work at once: one more than a look finds.
+/// How many processes are sent to their work at once: one more than a scan finds.
 const AT_ONCE: u32 = 129;
 
 /// The first process waits for 20 ms, and gets messages whose handling takes more than one slice.
-fn told(alloc: Global) -> Story {
+fn told(alloc: Global) -> Scenario {
     let first = Commands::new(alloc)
         .load(WAIT)
         .spawn("w", "wait", &[Integer(20)]);
     let first = first.spawn("w", "tell", &[Pid(1), Integer(MESSAGES)]);
-    Story::ending(alloc, first, 2)
+    Scenario::ending(alloc, first, 2)
 }
 
 /// The processes that are sent to their work: those with the pids 3, 4 ..
@@ -38,43 +38,43 @@ const SLEEPS: u32 = 200;
 /// Slices count as milliseconds, and the first process is held in its slice, number 1, until all are started. It sleeps; the second one
 /// waits from slice 2 on, and the others, with slices 3 to 131, wait for a message. Then the second one's deadline has come, and with slice
 /// 132 it sends the others to their work: that takes slices 133 to 261, after which they wait for ever. The first one's deadline, 201, lies
-/// in between: the look after slice 132 has found 128 processes, and the next one, which goes on above these, comes after slice 261.
-fn at_once(alloc: Global) -> Story {
+/// in between: the scan after slice 132 has found 128 processes, and the next one, which goes on above these, comes after slice 261.
+fn at_once(alloc: Global) -> Scenario {
     let first = Commands::new(alloc).load(SLEEP).load(GO);
     let first = first.spawn("s", "sleep", &[Integer(SLEEPS)]);
     let first = first.spawn("g", "go", &[Integer(AT_ONCE), OTHERS]);
     let first = first.spawn_many(AT_ONCE, "g", "work", &[]);
-    let mut story = Story::meeting(first, (1, 1), Commands::new(alloc), 2);
-    story.is_by_slices = true;
-    story
+    let mut scenario = Scenario::with_barrier(first, (1, 1), Commands::new(alloc), 2);
+    scenario.is_by_slices = true;
+    scenario
 }
 
 /// The first process sleeps for 20 ms. Messages are sent to it while its first slice is held, so they are in its mailbox while it sleeps.
-fn strays(alloc: Global) -> Story {
+fn strays(alloc: Global) -> Scenario {
     let first = Commands::new(alloc).load(SLEEP);
     let first = first.spawn("s", "sleep", &[Integer(20)]);
     let then = Commands::new(alloc).send(1, 1).send(1, 2).send(1, 3);
-    Story::meeting(first, (1, 1), then, 1)
+    Scenario::with_barrier(first, (1, 1), then, 1)
 }
 
 /// An hour, in milliseconds.
 const HOUR: u64 = 3_600_000;
 
 /// One process begins its sleep before the clock is set an hour ahead, and one afterwards.
-fn ahead(alloc: Global) -> Story {
+fn ahead(alloc: Global) -> Scenario {
     let first = Commands::new(alloc).load(SLEEP);
     let first = first.spawn("s", "sleep", &[Integer(100)]).clock(HOUR);
-    Story::ending(alloc, first.spawn("s", "sleep", &[Integer(100)]), 2)
+    Scenario::ending(alloc, first.spawn("s", "sleep", &[Integer(100)]), 2)
 }
 
-/// As many waits of a story as wanted end by their deadlines, and its journal leads to the views of the processes at the end.
+/// As many waits of a scenario as wanted end by their deadlines, and its journal leads to the views of the processes at the end.
 fn timed_out<R: Threads + Wait + Clock + Sync + Abort + AllocGlobal>(
     rt: &R,
     workers: u32,
-    story: Story,
+    scenario: Scenario,
     timeouts: u32,
 ) -> Result<(), Fail> {
-    let played = play_here(rt, workers, story)?;
+    let played = play_here(rt, workers, scenario)?;
     assert_eq!(rt; (played.counts.timeouts, played.replays), (timeouts, true));
     Ok(())
 }

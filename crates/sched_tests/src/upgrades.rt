@@ -1,10 +1,10 @@
 //! Processes whose modules are upgraded together while they run.
 use crate::commands::Argument::Integer;
 use crate::commands::Commands;
-use crate::crew::Story;
 use crate::listings::{SEEKER, version};
+use crate::scenario::Scenario;
 use crate::shared::play_seen;
-use beam_machine::event::Mode;
+use beam_machine::event::UpgradeMode;
 use std::alloc::Global;
 use std::test::*;
 
@@ -15,14 +15,14 @@ const SEEKERS: u32 = 6;
 const LOOKS: u32 = 2_000;
 
 /// Processes that ask two modules for their versions again and again, and an upgrade of both modules.
-fn upgrade(alloc: Global) -> Result<Story, Fail> {
+fn upgrade(alloc: Global) -> Result<Scenario, Fail> {
     let one = version(alloc, "u", 1)?;
     let other = version(alloc, "v", 1)?;
     let news = [version(alloc, "u", 2)?, version(alloc, "v", 2)?];
     let first = Commands::new(alloc).load(&one).load(&other).load(SEEKER);
     let first = first.spawn_many(SEEKERS, "p", "seek", &[Integer(LOOKS)]);
-    let then = Commands::new(alloc).atomic_load(Mode::Strict, &news);
-    Ok(Story::meeting(first, (0, 0), then, SEEKERS))
+    let then = Commands::new(alloc).atomic_load(UpgradeMode::Strict, &news);
+    Ok(Scenario::with_barrier(first, (0, 0), then, SEEKERS))
 }
 
 /// Each process ends with the greatest version that it met, or with `mixed` if it met a lesser one after that. All end with 2.

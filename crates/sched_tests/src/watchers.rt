@@ -1,8 +1,8 @@
 //! Processes that monitor others.
 use crate::commands::Argument::{Integer, Pid};
 use crate::commands::Commands;
-use crate::crew::Story;
 use crate::listings::{HEAR, OVER, WATCH};
+use crate::scenario::Scenario;
 use crate::shared::{play_here, play_seen};
 use std::alloc::Global;
 use std::process::Abort;
@@ -30,27 +30,27 @@ fn watch(commands: Commands, other: u32, count: u32) -> Commands {
 }
 
 /// Every second process monitors the one before it, and sends to it.
-fn watchers(alloc: Global) -> Story {
+fn watchers(alloc: Global) -> Scenario {
     let mut first = modules(alloc);
     for watcher in 0..WATCHERS {
         first = watch(hear(first), 2 * watcher + 1, 10);
     }
-    Story::ending(alloc, first, 2 * WATCHERS)
+    Scenario::ending(alloc, first, 2 * WATCHERS)
 }
 
 /// The second process monitors the first one. Commands end the first one while the second one is out for the second time.
-fn told_while_out(alloc: Global) -> Story {
+fn told_while_out(alloc: Global) -> Scenario {
     let first = watch(hear(modules(alloc)), 1, 2_000);
     let then = Commands::new(alloc).send(1, 7).deliver(1).steps(1, 100);
-    Story::meeting(first, (3, 3), then, 2)
+    Scenario::with_barrier(first, (3, 3), then, 2)
 }
 
 /// The first process is held, the second one monitors it, and the third one sends it an exit signal. A command delivers that once the
 /// fourth one runs.
-fn ended_by_a_command(alloc: Global) -> Story {
+fn ended_by_a_command(alloc: Global) -> Scenario {
     let first = watch(hear(modules(alloc).load(OVER).set_break("h", 5)), 1, 0);
     let first = first.spawn("e", "main", &[Pid(1)]).spawn("e", "hold", &[]);
-    Story::meeting(first, (100, 5), Commands::new(alloc).deliver(1), 4)
+    Scenario::with_barrier(first, (100, 5), Commands::new(alloc).deliver(1), 4)
 }
 
 /// Each monitored process ends, and so does each that monitors it, once it gets its DOWN.
@@ -78,9 +78,9 @@ fn watchers_are_told_with_two_workers(rt: HostRuntime) -> Result<(), Fail> {
 fn a_slice_keeps_what_its_process_was_told_meanwhile(rt: HostRuntime) -> Result<(), Fail> {
     let seen = "pid 1 ended [7]\npid 2 ended {'DOWN',#Ref<0.0.0.1>,process,<0.1.0>,[7]}\n";
     let (played, is_seen) = play_seen(&rt, 1, told_while_out(rt.alloc()), seen)?;
-    let told = (played.told.outs, played.counts.slices);
+    let report = (played.report.outs, played.counts.slices);
     assert_eq!(rt;
-        (told, is_seen, played.replays),
+        (report, is_seen, played.replays),
         ((4, (5, 6_120)), true, true)
     );
     Ok(())

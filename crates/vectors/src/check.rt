@@ -1,10 +1,10 @@
 //! The check of a row, by its kind.
 
-use crate::error::RowError;
-use crate::kind::Kind;
-use crate::outcome::Outcome;
-use crate::row::Row;
-use crate::sweep::Swept;
+use crate::error::TestRowError;
+use crate::kind::RowKind;
+use crate::outcome::CheckOutcome;
+use crate::row::TestRow;
+use crate::sweep::Sweep;
 use crate::{file, listing, load_path, native, run, session, story, term, text};
 use beam_tools::files::Files;
 use std::alloc::Global;
@@ -14,24 +14,24 @@ use std::alloc::Global;
 fn found<F: Files>(
     alloc: Global,
     files: &mut F,
-    kind: Kind,
+    kind: RowKind,
     columns: &[String],
-) -> Result<String, RowError> {
+) -> Result<String, TestRowError> {
     match (kind, columns) {
-        (Kind::Term, [bytes, _]) => term::found(alloc, bytes, true),
-        (Kind::LongTerm, [bytes, _]) => term::found(alloc, bytes, false),
-        (Kind::Native, [name, list, _]) => native::found(alloc, name, list),
-        (Kind::Text, [text, _]) => text::found(alloc, text),
-        (Kind::Listing, [given, wanted]) => listing::found(alloc, files, given, wanted),
-        (Kind::File, [file, wanted]) => file::found(alloc, files, file, wanted),
-        (Kind::Story, [name, _]) => story::found(alloc, files, name),
-        (Kind::Run, [name, _]) => run::found(alloc, files, name),
-        (Kind::Session, [devices, inputs, _]) => session::found(alloc, devices, inputs),
-        (Kind::Sweep, [what, input, output, ends]) => {
-            Swept::of(alloc, what, input, output)?.found(ends)
+        (RowKind::Term, [bytes, _]) => term::found(alloc, bytes, true),
+        (RowKind::LongTerm, [bytes, _]) => term::found(alloc, bytes, false),
+        (RowKind::Native, [name, list, _]) => native::found(alloc, name, list),
+        (RowKind::Text, [text, _]) => text::found(alloc, text),
+        (RowKind::Listing, [given, wanted]) => listing::found(alloc, files, given, wanted),
+        (RowKind::File, [file, wanted]) => file::found(alloc, files, file, wanted),
+        (RowKind::Story, [name, _]) => story::found(alloc, files, name),
+        (RowKind::Run, [name, _]) => run::found(alloc, files, name),
+        (RowKind::Session, [devices, inputs, _]) => session::found(alloc, devices, inputs),
+        (RowKind::Sweep, [what, input, output, ends]) => {
+            Sweep::of(alloc, what, input, output)?.found(ends)
         }
-        (Kind::LoadPath, [device, file, _]) => load_path::found(alloc, files, device, file),
-        _ => Err(RowError::Columns),
+        (RowKind::LoadPath, [device, file, _]) => load_path::found(alloc, files, device, file),
+        _ => Err(TestRowError::Columns),
     }
 }
 
@@ -39,13 +39,13 @@ fn found<F: Files>(
 pub fn check_row<F: Files>(
     alloc: Global,
     files: &mut F,
-    row: &Row<'_>,
-) -> Result<Outcome, RowError> {
+    row: &TestRow<'_>,
+) -> Result<CheckOutcome, TestRowError> {
     let mut columns = row.texts(alloc)?;
     let found = found(alloc, files, row.kind, &columns);
     match (found, columns.pop()) {
-        (Ok(found), Some(wanted)) => Ok(Outcome::of(wanted, found)),
+        (Ok(found), Some(wanted)) => Ok(CheckOutcome::of(wanted, found)),
         (Err(why), _) => Err(why),
-        (Ok(_), None) => Err(RowError::Columns),
+        (Ok(_), None) => Err(TestRowError::Columns),
     }
 }

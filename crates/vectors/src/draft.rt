@@ -1,13 +1,13 @@
 //! Texts and bytes that are put together.
 
-use crate::error::RowError;
+use crate::error::TestRowError;
 use std::alloc::Global;
 
 /// Bytes that are put together piece by piece. A failure is kept, and answered at the end.
 #[derive(Drop)]
 pub struct Draft {
     bytes: Vec<u8>,
-    fault: Option<RowError>,
+    fault: Option<TestRowError>,
 }
 
 impl Draft {
@@ -20,14 +20,14 @@ impl Draft {
     }
 
     /// Notes a failure: no bytes are given at the end.
-    pub fn fail(&mut self, why: RowError) {
+    pub fn fail(&mut self, why: TestRowError) {
         self.fault = Some(why);
     }
 
     /// Appends bytes.
     pub fn push(&mut self, bytes: &[u8]) {
         if self.bytes.extend_from_slice(bytes).is_err() {
-            self.fail(RowError::NoMemory);
+            self.fail(TestRowError::NoMemory);
         }
     }
 
@@ -43,7 +43,7 @@ impl Draft {
     }
 
     /// Appends a text that was made, if it was.
-    pub fn push_made(&mut self, made: &Result<String, RowError>) {
+    pub fn push_made(&mut self, made: &Result<String, TestRowError>) {
         match made {
             Ok(text) => self.push_text(text),
             Err(why) => self.fail(*why),
@@ -61,7 +61,7 @@ impl Draft {
     }
 
     /// The bytes, or the first failure.
-    pub fn bytes(self) -> Result<Vec<u8>, RowError> {
+    pub fn bytes(self) -> Result<Vec<u8>, TestRowError> {
         match self.fault {
             None => Ok(self.bytes),
             Some(why) => Err(why),
@@ -69,7 +69,7 @@ impl Draft {
     }
 
     /// The text of the bytes, or the first failure.
-    pub fn text(self) -> Result<String, RowError> {
+    pub fn text(self) -> Result<String, TestRowError> {
         match self.bytes() {
             Ok(bytes) => text_of(bytes),
             Err(why) => Err(why),
@@ -78,9 +78,9 @@ impl Draft {
 }
 
 /// The text that bytes are.
-pub fn text_of(bytes: Vec<u8>) -> Result<String, RowError> {
+pub fn text_of(bytes: Vec<u8>) -> Result<String, TestRowError> {
     match String::from_utf8(bytes) {
         Ok(text) => Ok(text),
-        Err(_) => Err(RowError::No("text")),
+        Err(_) => Err(TestRowError::No("text")),
     }
 }

@@ -6,7 +6,7 @@ use std::fmt;
 
 /// Why a line is no row, or a row can't be checked.
 #[derive(Clone, Copy)]
-pub enum RowError {
+pub enum TestRowError {
     /// Its first word names no kind.
     UnknownKind,
     /// It hasn't as many columns as its kind wants.
@@ -21,35 +21,35 @@ pub enum RowError {
     NoMemory,
 }
 
-impl fmt::Display for RowError {
+impl fmt::Display for TestRowError {
     fn fmt<W: fmt::Write>(&self, f: &mut fmt::Formatter<W>) -> fmt::Result {
         match self {
-            RowError::UnknownKind => f.write_str("an unknown kind"),
-            RowError::Columns => f.write_str("another number of columns"),
-            RowError::Marks => f.write_str("an unknown name or a bad repetition"),
-            RowError::No(what) => write!(f, "no {what}"),
-            RowError::File(why) => f.write_str(why.name()),
-            RowError::NoMemory => f.write_str("NoMemory"),
+            TestRowError::UnknownKind => f.write_str("an unknown kind"),
+            TestRowError::Columns => f.write_str("another number of columns"),
+            TestRowError::Marks => f.write_str("an unknown name or a bad repetition"),
+            TestRowError::No(what) => write!(f, "no {what}"),
+            TestRowError::File(why) => f.write_str(why.name()),
+            TestRowError::NoMemory => f.write_str("NoMemory"),
         }
     }
 }
 
-impl From<AllocError> for RowError {
-    fn from(_refused: AllocError) -> RowError {
-        RowError::NoMemory
+impl From<AllocError> for TestRowError {
+    fn from(_refused: AllocError) -> TestRowError {
+        TestRowError::NoMemory
     }
 }
 
-impl<T: Drop> From<AllocFailed<T>> for RowError {
-    fn from(_refused: AllocFailed<T>) -> RowError {
-        RowError::NoMemory
+impl<T: Drop> From<AllocFailed<T>> for TestRowError {
+    fn from(_refused: AllocFailed<T>) -> TestRowError {
+        TestRowError::NoMemory
     }
 }
 
 /// The value, unless memory was refused for it.
-pub fn unless_refused<T: Drop>(made: Result<T, AllocError>) -> Result<T, RowError> {
+pub fn unless_refused<T: Drop>(made: Result<T, AllocError>) -> Result<T, TestRowError> {
     match made {
         Ok(value) => Ok(value),
-        Err(_) => Err(RowError::NoMemory),
+        Err(_) => Err(TestRowError::NoMemory),
     }
 }

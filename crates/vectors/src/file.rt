@@ -1,6 +1,6 @@
 //! Files, prepared and disassembled.
 
-use crate::error::{RowError, unless_refused};
+use crate::error::{TestRowError, unless_refused};
 use crate::given::given_file;
 use beam_disasm::{FileError, disassemble};
 use beam_image::Image;
@@ -8,7 +8,7 @@ use beam_tools::files::Files;
 use std::alloc::Global;
 
 /// Layer, number and name of a refusal.
-pub fn refusal(alloc: Global, error: FileError) -> Result<String, RowError> {
+pub fn refusal(alloc: Global, error: FileError) -> Result<String, TestRowError> {
     let layer = error.layer();
     let number = error.number();
     let name = error.name();
@@ -16,7 +16,11 @@ pub fn refusal(alloc: Global, error: FileError) -> Result<String, RowError> {
 }
 
 // `ok`, or the refusal, with the place of a fault of the instructions if `is_placed`.
-fn told(alloc: Global, refused: Option<FileError>, is_placed: bool) -> Result<String, RowError> {
+fn told(
+    alloc: Global,
+    refused: Option<FileError>,
+    is_placed: bool,
+) -> Result<String, TestRowError> {
     match refused {
         None => unless_refused(String::from_str(alloc, "ok")),
         Some(FileError::Code(error)) if is_placed => {
@@ -34,7 +38,7 @@ pub fn found<F: Files>(
     files: &mut F,
     file: &str,
     wanted: &str,
-) -> Result<String, RowError> {
+) -> Result<String, TestRowError> {
     let bytes = given_file(alloc, files, file)?;
     let prepared = Image::prepare(alloc, &bytes).err();
     match (prepared, disassemble(alloc, &bytes).err()) {

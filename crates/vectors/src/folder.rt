@@ -1,7 +1,7 @@
 //! The files beside a file.
 
 use beam_tools::files::{Files, ReadError, WriteError};
-use beam_tools::said::Said;
+use beam_tools::os_error::OsError;
 use std::alloc::Global;
 use std::io::ErrorKind;
 
@@ -32,7 +32,7 @@ impl<F: Files> Files for Folder<'_, F> {
     }
 
     fn write(&mut self, _name: &str, _bytes: &[u8]) -> Result<(), WriteError> {
-        Err(WriteError::WriteFailed(Said {
+        Err(WriteError::WriteFailed(OsError {
             kind: ErrorKind::ReadOnlyFilesystem,
             code: 30,
         }))

@@ -1,21 +1,25 @@
 //! The files in a column: by name, by name with some bytes changed, by their chunks, or in hexadecimal digits.
 
 use crate::draft::Draft;
-use crate::error::RowError;
+use crate::error::TestRowError;
 use beam_tools::files::Files;
 use hex;
 use std::alloc::Global;
 
 /// The bytes of the file of this name.
-pub fn named_file<F: Files>(alloc: Global, files: &mut F, name: &str) -> Result<Vec<u8>, RowError> {
+pub fn named_file<F: Files>(
+    alloc: Global,
+    files: &mut F,
+    name: &str,
+) -> Result<Vec<u8>, TestRowError> {
     match files.read(alloc, name) {
         Ok(bytes) => Ok(bytes),
-        Err(why) => Err(RowError::File(why)),
+        Err(why) => Err(TestRowError::File(why)),
     }
 }
 
 /// The bytes of a text of hexadecimal digits, with blanks between them.
-pub fn bytes_of(alloc: Global, text: &str) -> Result<Vec<u8>, RowError> {
+pub fn bytes_of(alloc: Global, text: &str) -> Result<Vec<u8>, TestRowError> {
     let mut digits = Vec::with_capacity(alloc, text.len())?;
     for digit in text.bytes() {
         if digit != b' ' {
@@ -24,7 +28,7 @@ pub fn bytes_of(alloc: Global, text: &str) -> Result<Vec<u8>, RowError> {
     }
     match hex::decode(alloc, &digits) {
         Ok(bytes) => Ok(bytes),
-        Err(_) => Err(RowError::No("hexadecimal digits")),
+        Err(_) => Err(TestRowError::No("hexadecimal digits")),
     }
 }
 
@@ -42,19 +46,23 @@ fn change_of(text: &str) -> Option<(usize, u8)> {
     }
 }
 
-fn change(bytes: &mut [u8], text: &str) -> Result<(), RowError> {
+fn change(bytes: &mut [u8], text: &str) -> Result<(), TestRowError> {
     let (at, value) = change_of(text).unwrap_or((usize::MAX, 0));
     match bytes.get_mut(at) {
         Some(byte) => {
             *byte = value;
             Ok(())
         }
-        None => Err(RowError::No("change of a byte")),
+        None => Err(TestRowError::No("change of a byte")),
     }
 }
 
 // The file of the first word, changed by each further word.
-fn changed_file<F: Files>(alloc: Global, files: &mut F, text: &str) -> Result<Vec<u8>, RowError> {
+fn changed_file<F: Files>(
+    alloc: Global,
+    files: &mut F,
+    text: &str,
+) -> Result<Vec<u8>, TestRowError> {
     let (name, changes) = parted(text);
     let mut bytes = named_file(alloc, files, name)?;
     for text in changes.split_whitespace() {
@@ -93,7 +101,7 @@ fn push_chunk(alloc: Global, form: &mut Draft, text: &str) {
 }
 
 // The file of the chunks in a text, which semicolons separate.
-fn form_of(alloc: Global, text: &str) -> Result<Vec<u8>, RowError> {
+fn form_of(alloc: Global, text: &str) -> Result<Vec<u8>, TestRowError> {
     let mut chunks = Draft::new(alloc);
     for part in text.split(';') {
         push_chunk(alloc, &mut chunks, part);
@@ -108,7 +116,11 @@ fn form_of(alloc: Global, text: &str) -> Result<Vec<u8>, RowError> {
 
 /// The file in a text: `NAME.beam`, which lies in data/, with changed bytes as `AT=HEX` after it; `chunks NAME=HEX; ..`, to which head,
 /// sizes and padding are added; or else its bytes in hexadecimal digits.
-pub fn given_file<F: Files>(alloc: Global, files: &mut F, text: &str) -> Result<Vec<u8>, RowError> {
+pub fn given_file<F: Files>(
+    alloc: Global,
+    files: &mut F,
+    text: &str,
+) -> Result<Vec<u8>, TestRowError> {
     match text.strip_prefix("chunks ") {
         Some(chunks) => form_of(alloc, chunks),
         None if text.contains(".beam") => changed_file(alloc, files, text),

@@ -4,7 +4,7 @@ use std::fmt;
 
 /// What a row says.
 #[derive(Clone, Copy, PartialEq, Eq)]
-pub enum Kind {
+pub enum RowKind {
     /// Bytes of an external term, which is written with the same bytes again.
     Term,
     /// Bytes of an external term that has a shorter spelling.
@@ -30,40 +30,40 @@ pub enum Kind {
 }
 
 /// The kinds, in the order of the report.
-pub const KINDS: [Kind; 11] = [
-    Kind::Term,
-    Kind::LongTerm,
-    Kind::Native,
-    Kind::Text,
-    Kind::Listing,
-    Kind::File,
-    Kind::Story,
-    Kind::Run,
-    Kind::Session,
-    Kind::Sweep,
-    Kind::LoadPath,
+pub const KINDS: [RowKind; 11] = [
+    RowKind::Term,
+    RowKind::LongTerm,
+    RowKind::Native,
+    RowKind::Text,
+    RowKind::Listing,
+    RowKind::File,
+    RowKind::Story,
+    RowKind::Run,
+    RowKind::Session,
+    RowKind::Sweep,
+    RowKind::LoadPath,
 ];
 
-impl Kind {
+impl RowKind {
     /// The word that a row of this kind begins with.
     pub fn name(self) -> &'static str {
         match self {
-            Kind::Term => "term",
-            Kind::LongTerm => "long_term",
-            Kind::Native => "native",
-            Kind::Text => "text",
-            Kind::Listing => "listing",
-            Kind::File => "file",
-            Kind::Story => "story",
-            Kind::Run => "run",
-            Kind::Session => "session",
-            Kind::Sweep => "sweep",
-            Kind::LoadPath => "load_path",
+            RowKind::Term => "term",
+            RowKind::LongTerm => "long_term",
+            RowKind::Native => "native",
+            RowKind::Text => "text",
+            RowKind::Listing => "listing",
+            RowKind::File => "file",
+            RowKind::Story => "story",
+            RowKind::Run => "run",
+            RowKind::Session => "session",
+            RowKind::Sweep => "sweep",
+            RowKind::LoadPath => "load_path",
         }
     }
 
     /// The kind of rows that begin with this word.
-    pub fn named(word: &str) -> Option<Kind> {
+    pub fn named(word: &str) -> Option<RowKind> {
         for kind in KINDS {
             if kind.name() == word {
                 return Some(kind);
@@ -73,7 +73,7 @@ impl Kind {
     }
 }
 
-impl fmt::Display for Kind {
+impl fmt::Display for RowKind {
     fn fmt<W: fmt::Write>(&self, f: &mut fmt::Formatter<W>) -> fmt::Result {
         f.write_str(self.name())
     }

@@ -1,7 +1,7 @@
 //! Listings: their texts, read and printed, and their files, assembled and disassembled.
 
 use crate::draft::text_of;
-use crate::error::{RowError, unless_refused};
+use crate::error::{TestRowError, unless_refused};
 use crate::file::refusal;
 use crate::given::{given_file, named_file};
 use beam_asm::{AsmError, assemble};
@@ -25,7 +25,7 @@ fn read_spelling<F: Files>(
     alloc: Global,
     files: &mut F,
     column: &str,
-) -> Result<Spelling, RowError> {
+) -> Result<Spelling, TestRowError> {
     if column.ends_with(".S") {
         Ok(Spelling::Text(text_of(named_file(alloc, files, column)?)?))
     } else if column.starts_with("chunks ") || column.contains(".beam") {
@@ -36,7 +36,7 @@ fn read_spelling<F: Files>(
 }
 
 // The file of a listing, in hexadecimal digits, or why it has none.
-fn assembled(alloc: Global, listing: &Listing) -> Result<String, RowError> {
+fn assembled(alloc: Global, listing: &Listing) -> Result<String, TestRowError> {
     match assemble(alloc, listing) {
         Ok(bytes) => unless_refused(hex::encode_upper(alloc, &bytes)),
         Err(error) => {
@@ -49,16 +49,16 @@ fn assembled(alloc: Global, listing: &Listing) -> Result<String, RowError> {
     }
 }
 
-fn printed(alloc: Global, listing: &Listing) -> Result<String, RowError> {
+fn printed(alloc: Global, listing: &Listing) -> Result<String, TestRowError> {
     let mut out = Vec::new(alloc);
     match print_listing(listing, &mut out) {
         Ok(()) => text_of(out),
-        Err(_) => Err(RowError::NoMemory),
+        Err(_) => Err(TestRowError::NoMemory),
     }
 }
 
 // The text of the listing, or the file to which it is assembled.
-fn spelled(alloc: Global, listing: &Listing, as_text: bool) -> Result<String, RowError> {
+fn spelled(alloc: Global, listing: &Listing, as_text: bool) -> Result<String, TestRowError> {
     if as_text {
         printed(alloc, listing)
     } else {
@@ -67,7 +67,7 @@ fn spelled(alloc: Global, listing: &Listing, as_text: bool) -> Result<String, Ro
 }
 
 // The text or the file of the listing with this spelling, or the fault of the spelling.
-fn made(alloc: Global, given: &Spelling, as_text: bool) -> Result<String, RowError> {
+fn made(alloc: Global, given: &Spelling, as_text: bool) -> Result<String, TestRowError> {
     match given {
         Spelling::Text(text) => match read_listing(alloc, text) {
             Ok(listing) => spelled(alloc, &listing, as_text),
@@ -90,7 +90,7 @@ pub fn found<F: Files>(
     files: &mut F,
     given: &str,
     wanted: &str,
-) -> Result<String, RowError> {
+) -> Result<String, TestRowError> {
     let given = read_spelling(alloc, files, given)?;
     let text = match read_spelling(alloc, files, wanted)? {
         Spelling::Text(text) => text,

@@ -1,7 +1,7 @@
 //! Files that are read from a device and loaded.
 
 use crate::devices::Device;
-use crate::error::{RowError, unless_refused};
+use crate::error::{TestRowError, unless_refused};
 use crate::given::given_file;
 use crate::story_answer::answer;
 use beam_desk::NodeDesk;
@@ -13,21 +13,21 @@ use beam_tools::files::Files;
 use std::alloc::Global;
 
 /// A node, and how many events it was given.
-struct Counted {
+struct CountingDesk {
     node: NodeDesk,
     events: u32,
 }
 
-impl Drop for Counted {
+impl Drop for CountingDesk {
     fn drop(self) {
-        let Counted {
+        let CountingDesk {
             node: _node,
             events: _events,
         } = self;
     }
 }
 
-impl Desk for Counted {
+impl Desk for CountingDesk {
     ghost use Rattle.std.specs.Prelude.{⊤};
 
     ghost answers = { λ _ _ _ _. ⊤ };
@@ -39,7 +39,7 @@ impl Desk for Counted {
 }
 
 // The answer to a load, as text.
-fn answered(alloc: Global, loaded: Result<Response, LoadError>) -> Result<String, RowError> {
+fn answered(alloc: Global, loaded: Result<Response, LoadError>) -> Result<String, TestRowError> {
     match loaded {
         Ok(Response::Node(reply)) => answer(alloc, &Ok(reply)),
         Ok(_) => unless_refused(String::from_str(alloc, "no reply of a node")),
@@ -48,9 +48,9 @@ fn answered(alloc: Global, loaded: Result<Response, LoadError>) -> Result<String
 }
 
 /// How many events a new node is given when the file of the device is loaded, and the answer to the load.
-pub fn loaded(alloc: Global, device: Device, file: Vec<u8>) -> Result<String, RowError> {
+pub fn loaded(alloc: Global, device: Device, file: Vec<u8>) -> Result<String, TestRowError> {
     let node = NodeDesk::new(alloc);
-    let mut desk = Counted { node, events: 0 };
+    let mut desk = CountingDesk { node, events: 0 };
     let answer = load_path(alloc, &mut device.over(alloc, file), &mut desk);
     match answered(alloc, answer) {
         Ok(answer) => unless_refused(format!(in alloc; "{} {answer}", desk.events)),
@@ -64,10 +64,10 @@ pub fn found<F: Files>(
     files: &mut F,
     device: &str,
     file: &str,
-) -> Result<String, RowError> {
+) -> Result<String, TestRowError> {
     match (Device::named(device), given_file(alloc, files, file)) {
         (Some(device), Ok(file)) => loaded(alloc, device, file),
         (_, Err(why)) => Err(why),
-        (None, _) => Err(RowError::No("device")),
+        (None, _) => Err(TestRowError::No("device")),
     }
 }

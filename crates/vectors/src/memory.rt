@@ -1,7 +1,7 @@
 //! Files in memory, before those of a folder.
 
 use beam_tools::files::{Files, ReadError, WriteError};
-use beam_tools::said::Said;
+use beam_tools::os_error::OsError;
 use std::alloc::{AllocError, Global};
 use std::io::ErrorKind;
 
@@ -24,21 +24,21 @@ impl Drop for Content {
 }
 
 // The operating system's error of a file that is closed.
-fn denied() -> Said {
-    Said {
+fn denied() -> OsError {
+    OsError {
         kind: ErrorKind::PermissionDenied,
         code: 13,
     }
 }
 
-struct Entry {
+struct NamedFile {
     name: String,
     content: Content,
 }
 
-impl Drop for Entry {
+impl Drop for NamedFile {
     fn drop(self) {
-        let Entry {
+        let NamedFile {
             name: _name,
             content: _content,
         } = self;
@@ -46,24 +46,24 @@ impl Drop for Entry {
 }
 
 /// Files by name, the newest of a name first, and how many of them a program has written.
-pub struct Memory {
-    entries: Vec<Entry>,
+pub struct MemoryFiles {
+    entries: Vec<NamedFile>,
     pub written: usize,
 }
 
-impl Drop for Memory {
+impl Drop for MemoryFiles {
     fn drop(self) {
-        let Memory {
+        let MemoryFiles {
             entries: _entries,
             written: _written,
         } = self;
     }
 }
 
-impl Memory {
+impl MemoryFiles {
     /// No files.
-    pub fn new(alloc: Global) -> Memory {
-        Memory {
+    pub fn new(alloc: Global) -> MemoryFiles {
+        MemoryFiles {
             entries: Vec::new(alloc),
             written: 0,
         }
@@ -94,7 +94,7 @@ impl Memory {
     /// Puts a file before the others of its name.
     pub fn put(&mut self, name: &str, content: Content) -> Result<(), AllocError> {
         let name = String::from_str(*self.entries.allocator(), name)?;
-        self.entries.push(Entry { name, content })?;
+        self.entries.push(NamedFile { name, content })?;
         Ok(())
     }
 
@@ -109,12 +109,12 @@ impl Memory {
 
 /// The files in memory over those of a folder.
 #[derive(Drop)]
-pub struct Desk<'a, F> {
-    pub memory: &'a mut Memory,
+pub struct OverlayFiles<'a, F> {
+    pub memory: &'a mut MemoryFiles,
     pub files: &'a mut F,
 }
 
-impl<F: Files> Files for Desk<'_, F> {
+impl<F: Files> Files for OverlayFiles<'_, F> {
     fn read(&mut self, alloc: Global, name: &str) -> Result<Vec<u8>, ReadError> {
         match self.memory.get(name) {
             Some(Content::Bytes(bytes)) => Ok(Vec::from_slice(alloc, bytes)?),

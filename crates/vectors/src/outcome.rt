@@ -3,20 +3,20 @@ ghost use Rattle.std.specs.Prelude.{◌≡◌, ◌↔◌, string_bytes};
 
 /// The outcome of a row: it holds, or another text was found in place of the wanted one.
 #[derive(Drop)]
-pub enum Outcome {
+pub enum CheckOutcome {
     Holds,
     Fails { wanted: String, found: String },
 }
 
-impl Outcome {
+impl CheckOutcome {
     /// The outcome of a row that wants one text and for which another, or the same, was found.
-    pub fn of(wanted: String, found: String) -> Outcome
-        ensures { (result ≡ Outcome.Holds) ↔ (string_bytes wanted ≡ string_bytes found) }
+    pub fn of(wanted: String, found: String) -> CheckOutcome
+        ensures { (result ≡ CheckOutcome.Holds) ↔ (string_bytes wanted ≡ string_bytes found) }
     {
         if wanted.as_str() == found.as_str() {
-            Outcome::Holds
+            CheckOutcome::Holds
         } else {
-            Outcome::Fails { wanted, found }
+            CheckOutcome::Fails { wanted, found }
         }
     }
 }

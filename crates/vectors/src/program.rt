@@ -4,7 +4,7 @@ ghost use Rattle.std.specs.Prelude.{◌≡◌, ◌+◌, ◌⊎◌, length, vec_l
 use crate::check::check_row;
 use crate::reading::{BadLine, read_rows};
 use crate::report::Report;
-use crate::row::Row;
+use crate::row::TestRow;
 use beam_tools::files::{Files, ReadError};
 use std::alloc::{AllocError, Global};
 use std::io;
@@ -12,7 +12,7 @@ use std::io::Write;
 
 /// Why a run gives no report.
 #[derive(Clone, Copy)]
-pub enum Fault<'a> {
+pub enum VectorsFault<'a> {
     /// The file of this name can't be read.
     Unread(&'a str, ReadError),
     /// The file of this name is no UTF-8.
@@ -25,9 +25,9 @@ pub enum Fault<'a> {
     Unwritten,
 }
 
-impl<'a> From<AllocError> for Fault<'a> {
-    fn from(_refused: AllocError) -> Fault<'a> {
-        Fault::NoMemory
+impl<'a> From<AllocError> for VectorsFault<'a> {
+    fn from(_refused: AllocError) -> VectorsFault<'a> {
+        VectorsFault::NoMemory
     }
 }
 
@@ -36,14 +36,14 @@ fn read_file<'a, F: Files>(
     alloc: Global,
     files: &mut F,
     name: &'a str,
-    rows: &mut Vec<Row<'a>>,
-) -> Result<(), Fault<'a>> {
+    rows: &mut Vec<TestRow<'a>>,
+) -> Result<(), VectorsFault<'a>> {
     match files.read(alloc, name) {
         Ok(bytes) => match str::from_utf8(&bytes) {
-            Ok(text) => read_rows(alloc, name, text, rows).map_err(Fault::BadLine),
-            Err(_) => Err(Fault::NoText(name)),
+            Ok(text) => read_rows(alloc, name, text, rows).map_err(VectorsFault::BadLine),
+            Err(_) => Err(VectorsFault::NoText(name)),
         },
-        Err(why) => Err(Fault::Unread(name, why)),
+        Err(why) => Err(VectorsFault::Unread(name, why)),
     }
 }
 
@@ -52,7 +52,7 @@ fn rows_of<'a, F: Files>(
     alloc: Global,
     files: &mut F,
     names: &[&'a str],
-) -> Result<Vec<Row<'a>>, Fault<'a>> {
+) -> Result<Vec<TestRow<'a>>, VectorsFault<'a>> {
     let mut rows = Vec::new(alloc);
     for name in names {
         read_file(alloc, files, name, &mut rows)?;
@@ -64,8 +64,8 @@ fn rows_of<'a, F: Files>(
 pub fn check_rows<'a, F: Files>(
     alloc: Global,
     files: &mut F,
-    rows: &[Row<'a>],
-) -> Result<Report<'a>, Fault<'a>>
+    rows: &[TestRow<'a>],
+) -> Result<Report<'a>, VectorsFault<'a>>
     ensures counted { IfOk result (λ report. vec_len report.held + vec_len report.failures ≡ length rows.now) }
 {
     let mut report = Report::new(alloc);
@@ -73,7 +73,7 @@ pub fn check_rows<'a, F: Files>(
         let place = row.place;
         match check_row(alloc, files, row) {
             Ok(outcome) => report.add(place, row.kind, outcome)?,
-            Err(why) => return Err(Fault::BadLine(BadLine { place, why })),
+            Err(why) => return Err(VectorsFault::BadLine(BadLine { place, why })),
         }
     }
     Ok(report)
@@ -85,26 +85,26 @@ fn give<'a, F: Files, O: Write>(
     names: &[&'a str],
     files: &mut F,
     output: &mut O,
-) -> Result<u8, Fault<'a>> {
+) -> Result<u8, VectorsFault<'a>> {
     let rows = rows_of(alloc, files, names)?;
     let report = check_rows(alloc, files, &rows)?;
     if report.tell(output).is_err() {
-        return Err(Fault::Unwritten);
+        return Err(VectorsFault::Unwritten);
     }
     Ok(report.status())
 }
 
-fn tell<W: Write>(fault: &Fault<'_>, errors: &mut W) -> io::Result<()> {
+fn tell<W: Write>(fault: &VectorsFault<'_>, errors: &mut W) -> io::Result<()> {
     match fault {
-        Fault::Unread(name, why) => writeln!(errors, "vectors: {name}: {why}"),
-        Fault::NoText(name) => writeln!(errors, "vectors: {name}: no UTF-8"),
-        Fault::BadLine(BadLine { place, why }) => {
+        VectorsFault::Unread(name, why) => writeln!(errors, "vectors: {name}: {why}"),
+        VectorsFault::NoText(name) => writeln!(errors, "vectors: {name}: no UTF-8"),
+        VectorsFault::BadLine(BadLine { place, why }) => {
             let file = place.file;
             let line = place.line;
             writeln!(errors, "vectors: {file}:{line}: {why}")
         }
-        Fault::NoMemory => writeln!(errors, "vectors: NoMemory"),
-        Fault::Unwritten => writeln!(errors, "vectors: output: WriteFailed"),
+        VectorsFault::NoMemory => writeln!(errors, "vectors: NoMemory"),
+        VectorsFault::Unwritten => writeln!(errors, "vectors: output: WriteFailed"),
     }
 }
 

@@ -1,38 +1,38 @@
 //! Rows, read from the text of a file.
 
-use crate::error::RowError;
-use crate::kind::Kind;
-use crate::marks::{Definition, expand};
-use crate::row::{Place, Row};
+use crate::error::TestRowError;
+use crate::kind::RowKind;
+use crate::notation::{Definition, expand};
+use crate::row::{SourceLine, TestRow};
 use std::alloc::Global;
 
 /// A line that is no row, and why.
 #[derive(Clone, Copy)]
 pub struct BadLine<'a> {
-    pub place: Place<'a>,
-    pub why: RowError,
+    pub place: SourceLine<'a>,
+    pub why: TestRowError,
 }
 
 /// What a line says.
 #[derive(Clone, Copy)]
 enum Line<'a> {
     /// A row of this kind, with these columns.
-    Row(Kind, &'a str),
+    Row(RowKind, &'a str),
     /// A name, and the text that it stands for in the lines after it.
     Definition(&'a str, &'a str),
-    Wrong(RowError),
+    Wrong(TestRowError),
 }
 
 impl Line<'_> {
     fn of(text: &str) -> Line<'_> {
         let (word, rest) = text.split_once('\t').unwrap_or((text, ""));
-        match Kind::named(word) {
+        match RowKind::named(word) {
             Some(kind) => Line::Row(kind, rest),
             None if word == "define" => {
                 let (name, text) = rest.split_once('\t').unwrap_or((rest, ""));
                 Line::Definition(name, text)
             }
-            None => Line::Wrong(RowError::UnknownKind),
+            None => Line::Wrong(TestRowError::UnknownKind),
         }
     }
 }
@@ -45,15 +45,15 @@ pub fn says(line: &str) -> bool {
 // Reads a line: a row or a definition.
 fn read_line<'a, 't>(
     alloc: Global,
-    place: Place<'a>,
+    place: SourceLine<'a>,
     line: &'t str,
     definitions: &mut Vec<Definition<'t>>,
-    rows: &mut Vec<Row<'a>>,
-) -> Result<(), RowError> {
+    rows: &mut Vec<TestRow<'a>>,
+) -> Result<(), TestRowError> {
     match Line::of(line) {
         Line::Row(kind, columns) => {
             let columns = expand(alloc, definitions, columns)?;
-            rows.push(Row {
+            rows.push(TestRow {
                 place,
                 kind,
                 columns,
@@ -74,11 +74,11 @@ pub fn read_rows<'a>(
     alloc: Global,
     file: &'a str,
     text: &str,
-    rows: &mut Vec<Row<'a>>,
+    rows: &mut Vec<TestRow<'a>>,
 ) -> Result<(), BadLine<'a>> {
     let mut definitions = Vec::new(alloc);
     for (index, line) in text.lines().enumerate() {
-        let place = Place {
+        let place = SourceLine {
             file,
             line: index.saturating_add(1),
         };

@@ -1,25 +1,25 @@
 //! The outcomes of rows.
 ghost use Rattle.std.specs.Prelude.{◌≡◌, ◌+◌, ◌↔◌, IfOk, OnOk, vec_len};
 
-use crate::kind::{KINDS, Kind};
-use crate::marks::OneLine;
-use crate::outcome::Outcome;
-use crate::row::Place;
+use crate::kind::{KINDS, RowKind};
+use crate::notation::OneLine;
+use crate::outcome::CheckOutcome;
+use crate::row::SourceLine;
 use std::alloc::{AllocError, Global};
 use std::io;
 use std::io::Write;
 
 /// A row that doesn't hold.
-pub struct Failure<'a> {
-    pub place: Place<'a>,
-    pub kind: Kind,
+pub struct FailedRow<'a> {
+    pub place: SourceLine<'a>,
+    pub kind: RowKind,
     pub wanted: String,
     pub found: String,
 }
 
-impl Drop for Failure<'_> {
+impl Drop for FailedRow<'_> {
     fn drop(self) {
-        let Failure {
+        let FailedRow {
             place: _place,
             kind: _kind,
             wanted: _wanted,
@@ -30,8 +30,8 @@ impl Drop for Failure<'_> {
 
 /// The kind of each row that holds, and the rows that don't, in their order.
 pub struct Report<'a> {
-    pub held: Vec<Kind>,
-    pub failures: Vec<Failure<'a>>,
+    pub held: Vec<RowKind>,
+    pub failures: Vec<FailedRow<'a>>,
 }
 
 impl Drop for Report<'_> {
@@ -55,12 +55,17 @@ impl<'a> Report<'a> {
     }
 
     /// Adds the outcome of the row at that place.
-    pub fn add(&mut self, place: Place<'a>, kind: Kind, outcome: Outcome) -> Result<(), AllocError>
+    pub fn add(
+        &mut self,
+        place: SourceLine<'a>,
+        kind: RowKind,
+        outcome: CheckOutcome,
+    ) -> Result<(), AllocError>
         ensures counted { OnOk result (vec_len self.new.held + vec_len self.new.failures ≡ vec_len self.old.held + vec_len self.old.failures + 1) }
     {
         match outcome {
-            Outcome::Holds => self.held.push(kind)?,
-            Outcome::Fails { wanted, found } => self.failures.push(Failure {
+            CheckOutcome::Holds => self.held.push(kind)?,
+            CheckOutcome::Fails { wanted, found } => self.failures.push(FailedRow {
                 place,
                 kind,
                 wanted,
@@ -71,7 +76,7 @@ impl<'a> Report<'a> {
     }
 
     /// How many rows of the kind hold.
-    pub fn count(&self, kind: Kind) -> usize {
+    pub fn count(&self, kind: RowKind) -> usize {
         self.held.iter().filter(|held| **held == kind).count()
     }
 
@@ -95,7 +100,7 @@ impl<'a> Report<'a> {
     pub fn tell<W: Write>(&self, output: &mut W) -> io::Result<()> {
         self.tell_counts(output)?;
         for failure in &self.failures {
-            let Place { file, line } = failure.place;
+            let SourceLine { file, line } = failure.place;
             let kind = failure.kind;
             let wanted = OneLine(&failure.wanted);
             let found = OneLine(&failure.found);

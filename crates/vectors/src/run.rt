@@ -16,54 +16,54 @@
 //! - `status N`: the status; all that was written to the output and the errors has been checked before.
 
 use crate::draft::text_of;
-use crate::error::RowError;
+use crate::error::TestRowError;
 use crate::folder::Folder;
 use crate::given::{named_file, parted};
 use crate::reading::says;
-use crate::run_session::Session;
-use crate::script::Told;
+use crate::run_session::RunScript;
+use crate::script::ScriptReport;
 use beam_tools::files::Files;
 use std::alloc::Global;
 
 // One line: does what it says, or checks what it wants.
 fn line<F: Files>(
-    session: &mut Session,
+    session: &mut RunScript,
     files: &mut F,
     number: usize,
     text: &str,
-    told: &mut Told,
+    report: &mut ScriptReport,
 ) {
     let (word, rest) = parted(text);
     match session.holds_at(files, word, rest) {
         Ok(true) => {}
         Ok(false) => {
             session.holds = false;
-            session.tell(number, text, told);
+            session.tell(number, text, report);
         }
         Err(why) => {
             session.holds = false;
-            told.fail(number, text, why);
+            report.fail(number, text, why);
         }
     }
 }
 
 // Plays the runs of a text, each title up to its first line that doesn't hold.
-fn tell<F: Files>(alloc: Global, files: &mut F, text: &str, told: &mut Told) {
-    let mut session = Session::new(alloc, false);
+fn tell<F: Files>(alloc: Global, files: &mut F, text: &str, report: &mut ScriptReport) {
+    let mut session = RunScript::new(alloc, false);
     for (index, text) in text.lines().enumerate() {
         if text.starts_with("run ") {
-            told.begin();
-            session = Session::new(alloc, true);
+            report.begin();
+            session = RunScript::new(alloc, true);
         } else if session.holds && says(text) {
-            line(&mut session, files, index.saturating_add(1), text, told);
+            line(&mut session, files, index.saturating_add(1), text, report);
         }
     }
 }
 
 /// How many runs the file of that name has, or the lines at which something else was found than was wanted.
-pub fn found<F: Files>(alloc: Global, files: &mut F, name: &str) -> Result<String, RowError> {
+pub fn found<F: Files>(alloc: Global, files: &mut F, name: &str) -> Result<String, TestRowError> {
     let text = text_of(named_file(alloc, files, name)?)?;
-    let mut told = Told::new(alloc);
-    tell(alloc, &mut Folder::of(name, files), &text, &mut told);
-    told.found()
+    let mut report = ScriptReport::new(alloc);
+    tell(alloc, &mut Folder::of(name, files), &text, &mut report);
+    report.found()
 }

@@ -2,7 +2,7 @@
 
 use crate::devices::Device;
 use crate::draft::Draft;
-use crate::error::RowError;
+use crate::error::TestRowError;
 use crate::given::{bytes_of, named_file, number_of, parted};
 use beam_remote::memory::Memory;
 use beam_tools::files::Files;
@@ -25,7 +25,7 @@ impl Drop for Input {
 }
 
 // The bytes of a word: hexadecimal digits, or the name of a file, which has a dot.
-fn word_bytes<F: Files>(alloc: Global, files: &mut F, word: &str) -> Result<Vec<u8>, RowError> {
+fn word_bytes<F: Files>(alloc: Global, files: &mut F, word: &str) -> Result<Vec<u8>, TestRowError> {
     if word.contains('.') {
         named_file(alloc, files, word)
     } else {
@@ -33,7 +33,11 @@ fn word_bytes<F: Files>(alloc: Global, files: &mut F, word: &str) -> Result<Vec<
     }
 }
 
-fn words_bytes<F: Files>(alloc: Global, files: &mut F, words: &str) -> Result<Vec<u8>, RowError> {
+fn words_bytes<F: Files>(
+    alloc: Global,
+    files: &mut F,
+    words: &str,
+) -> Result<Vec<u8>, TestRowError> {
     let mut bytes = Draft::new(alloc);
     for word in words.split_whitespace() {
         match word_bytes(alloc, files, word) {
@@ -73,7 +77,7 @@ impl Input {
     }
 
     /// The standard streams of a run over these files.
-    pub fn device<F: Files>(&self, alloc: Global, files: &mut F) -> Result<Memory, RowError> {
+    pub fn device<F: Files>(&self, alloc: Global, files: &mut F) -> Result<Memory, TestRowError> {
         let mut input = Draft::new(alloc);
         for line in self.lines.lines() {
             push_line(alloc, files, line, &mut input);

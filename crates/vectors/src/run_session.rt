@@ -1,30 +1,30 @@
 //! Runs of programs, one after another over the same files, and the checks after each.
 
 use crate::devices::Device;
-use crate::error::RowError;
+use crate::error::TestRowError;
 use crate::given::{bytes_of, named_file, parted};
-use crate::memory::{Desk, Memory};
+use crate::memory::{MemoryFiles, OverlayFiles};
 use crate::run_file::make_file;
 use crate::run_input::Input;
-use crate::run_words::{Given, run, words_of};
-use crate::script::Told;
+use crate::run_words::{RunOutput, run, words_of};
+use crate::script::ScriptReport;
 use beam_tools::files::Files;
 use std::alloc::{AllocError, Global};
 
 /// The runs of a title, as far as they were done.
-pub struct Session {
+pub struct RunScript {
     alloc: Global,
-    memory: Memory,
+    memory: MemoryFiles,
     input: Input,
     /// The outcome of the last run, without what was checked since; nothing and status 0 before the first one.
-    given: Given,
+    given: RunOutput,
     /// Whether its lines are read: it has begun, and all so far hold.
     pub holds: bool,
 }
 
-impl Drop for Session {
+impl Drop for RunScript {
     fn drop(self) {
-        let Session {
+        let RunScript {
             alloc: _alloc,
             memory: _memory,
             input: _input,
@@ -48,17 +48,17 @@ fn take_line(given: &mut Vec<u8>, text: &str) -> bool {
     take(given, text.as_bytes()) && take(given, b"\n")
 }
 
-impl Session {
+impl RunScript {
     /// No runs yet, and no files in memory.
-    pub fn new(alloc: Global, holds: bool) -> Session {
-        let given = Given {
+    pub fn new(alloc: Global, holds: bool) -> RunScript {
+        let given = RunOutput {
             status: 0,
             output: Vec::new(alloc),
             errors: Vec::new(alloc),
         };
-        Session {
+        RunScript {
             alloc,
-            memory: Memory::new(alloc),
+            memory: MemoryFiles::new(alloc),
             input: Input::new(alloc),
             given,
             holds,
@@ -66,37 +66,37 @@ impl Session {
     }
 
     // Makes a file.
-    fn file<F: Files>(&mut self, files: &mut F, text: &str) -> Result<bool, RowError> {
+    fn file<F: Files>(&mut self, files: &mut F, text: &str) -> Result<bool, TestRowError> {
         let memory = &mut self.memory;
-        match make_file(self.alloc, &mut Desk { memory, files }, text) {
+        match make_file(self.alloc, &mut OverlayFiles { memory, files }, text) {
             Ok(()) => Ok(true),
             Err(why) => Err(why),
         }
     }
 
     // Puts bytes on the standard input.
-    fn input(&mut self, word: &str, words: &str) -> Result<bool, RowError> {
+    fn input(&mut self, word: &str, words: &str) -> Result<bool, TestRowError> {
         match self.input.add(word, words) {
             Ok(()) => Ok(true),
-            Err(_) => Err(RowError::NoMemory),
+            Err(_) => Err(TestRowError::NoMemory),
         }
     }
 
-    fn device(&mut self, text: &str) -> Result<bool, RowError> {
+    fn device(&mut self, text: &str) -> Result<bool, TestRowError> {
         match Device::named(text) {
             Some(device) => {
                 self.input.device = device;
                 Ok(true)
             }
-            None => Err(RowError::No("device")),
+            None => Err(TestRowError::No("device")),
         }
     }
 
     // Runs words, and tells whether the outcome is that of the run before.
-    fn run<F: Files>(&mut self, files: &mut F, words: &[&str]) -> Result<bool, RowError> {
+    fn run<F: Files>(&mut self, files: &mut F, words: &[&str]) -> Result<bool, TestRowError> {
         let memory = &mut self.memory;
         memory.written = 0;
-        let mut desk = Desk { memory, files };
+        let mut desk = OverlayFiles { memory, files };
         let device = self.input.device(self.alloc, &mut desk)?;
         let given = run(self.alloc, words, &mut desk, device)?;
         let is_same = given == self.given;
@@ -105,13 +105,13 @@ impl Session {
     }
 
     // Runs the words of a line.
-    fn command<F: Files>(&mut self, files: &mut F, text: &str) -> Result<bool, RowError> {
+    fn command<F: Files>(&mut self, files: &mut F, text: &str) -> Result<bool, TestRowError> {
         match words_of(self.alloc, text) {
             Ok(words) => match self.run(files, &words) {
                 Ok(_) => Ok(true),
                 Err(why) => Err(why),
             },
-            Err(_) => Err(RowError::NoMemory),
+            Err(_) => Err(TestRowError::NoMemory),
         }
     }
 
@@ -122,15 +122,15 @@ impl Session {
         words: &[&str],
         name: &str,
         bytes: &[u8],
-    ) -> Result<bool, RowError> {
+    ) -> Result<bool, TestRowError> {
         match self.memory.put_bytes(name, bytes) {
             Ok(()) => self.run(files, words),
-            Err(_) => Err(RowError::NoMemory),
+            Err(_) => Err(TestRowError::NoMemory),
         }
     }
 
     // `NAME WORDS`: runs the words over each of the shorter files that the file begins with. All give what the first one gives.
-    fn each_cut<F: Files>(&mut self, files: &mut F, text: &str) -> Result<bool, RowError> {
+    fn each_cut<F: Files>(&mut self, files: &mut F, text: &str) -> Result<bool, TestRowError> {
         let (name, line) = parted(text);
         let words = words_of(self.alloc, line)?;
         let bytes = named_file(self.alloc, files, name)?;
@@ -156,7 +156,7 @@ impl Session {
     }
 
     // Whether these are the next bytes of the output.
-    fn replies(&mut self, text: &str) -> Result<bool, RowError> {
+    fn replies(&mut self, text: &str) -> Result<bool, TestRowError> {
         match bytes_of(self.alloc, text) {
             Ok(wanted) => Ok(take(&mut self.given.output, &wanted)),
             Err(why) => Err(why),
@@ -164,7 +164,7 @@ impl Session {
     }
 
     // Whether the rest of the output is the text of a file.
-    fn prints<F: Files>(&mut self, files: &mut F, name: &str) -> Result<bool, RowError> {
+    fn prints<F: Files>(&mut self, files: &mut F, name: &str) -> Result<bool, TestRowError> {
         match named_file(self.alloc, files, name) {
             Ok(text) => Ok(take(&mut self.given.output, &text) && self.given.output.is_empty()),
             Err(why) => Err(why),
@@ -172,7 +172,7 @@ impl Session {
     }
 
     // `NAME FILE`: whether the file that was written as NAME is that file.
-    fn written<F: Files>(&mut self, files: &mut F, text: &str) -> Result<bool, RowError> {
+    fn written<F: Files>(&mut self, files: &mut F, text: &str) -> Result<bool, TestRowError> {
         let (name, other) = parted(text);
         match named_file(self.alloc, files, other) {
             Ok(file) => Ok(self.memory.bytes(name) == Some(file.as_slice())),
@@ -195,7 +195,7 @@ impl Session {
         files: &mut F,
         word: &str,
         text: &str,
-    ) -> Result<bool, RowError> {
+    ) -> Result<bool, TestRowError> {
         match word {
             "file" => self.file(files, text),
             "input" | "frame" => self.input(word, text),
@@ -210,7 +210,7 @@ impl Session {
             "written" => self.written(files, text),
             "same" => Ok(self.same(text)),
             "unwritten" => Ok(self.memory.written == 0),
-            _ => Err(RowError::No("line of a run")),
+            _ => Err(TestRowError::No("line of a run")),
         }
     }
 
@@ -222,10 +222,10 @@ impl Session {
     }
 
     /// Reports the outcome of the last run in place of the wanted one.
-    pub fn tell(&self, number: usize, wanted: &str, told: &mut Told) {
+    pub fn tell(&self, number: usize, wanted: &str, report: &mut ScriptReport) {
         match self.seen() {
-            Ok(found) => told.miss(number, wanted, &found),
-            Err(_) => told.fail(number, wanted, RowError::NoMemory),
+            Ok(found) => report.miss(number, wanted, &found),
+            Err(_) => report.fail(number, wanted, TestRowError::NoMemory),
         }
     }
 }

@@ -1,7 +1,7 @@
 //! Runs of the programs by their words.
 
-use crate::error::RowError;
-use crate::memory::Desk;
+use crate::error::TestRowError;
+use crate::memory::OverlayFiles;
 use beam_core::node::Core;
 use beam_desk::pipe;
 use beam_remote::memory::Memory;
@@ -12,21 +12,21 @@ use beam_tools::job::{Job, JobFault, job_status, start_event};
 use beam_tools::line::Serve;
 use beam_tools::load::load_files;
 use beam_tools::node::node_run;
-use beam_tools::said::Said;
+use beam_tools::os_error::OsError;
 use std::alloc::{AllocError, Global};
 use std::io::ErrorKind;
 
 /// The outcome of a run: its status, and the bytes on its output and its errors.
 #[derive(PartialEq, Eq)]
-pub struct Given {
+pub struct RunOutput {
     pub status: u8,
     pub output: Vec<u8>,
     pub errors: Vec<u8>,
 }
 
-impl Drop for Given {
+impl Drop for RunOutput {
     fn drop(self) {
-        let Given {
+        let RunOutput {
             status: _status,
             output: _output,
             errors: _errors,
@@ -66,7 +66,7 @@ fn piped<'a>(alloc: Global, device: &mut Memory) -> Result<(), JobFault<'a>> {
 fn unserved<'a, F: Files>(
     alloc: Global,
     line: &Serve<'a>,
-    desk: &mut Desk<'_, F>,
+    desk: &mut OverlayFiles<'_, F>,
 ) -> Result<(), JobFault<'a>> {
     let mut node = Core::new(alloc);
     if let Err(fault) = load_files(alloc, &mut node, desk, &line.files) {
@@ -80,7 +80,7 @@ fn unserved<'a, F: Files>(
     }
     Err(JobFault::Net(
         line.port,
-        Said {
+        OsError {
             kind: ErrorKind::AddrInUse,
             code: 98,
         },
@@ -91,7 +91,7 @@ fn unserved<'a, F: Files>(
 fn run_node<F: Files>(
     alloc: Global,
     words: &[&str],
-    desk: &mut Desk<'_, F>,
+    desk: &mut OverlayFiles<'_, F>,
     device: &mut Memory,
     output: &mut Vec<u8>,
     errors: &mut Vec<u8>,
@@ -107,9 +107,9 @@ fn run_node<F: Files>(
 pub fn run<F: Files>(
     alloc: Global,
     words: &[&str],
-    desk: &mut Desk<'_, F>,
+    desk: &mut OverlayFiles<'_, F>,
     device: Memory,
-) -> Result<Given, RowError> {
+) -> Result<RunOutput, TestRowError> {
     let mut device = device;
     let mut output = Vec::new(alloc);
     let mut errors = Vec::new(alloc);
@@ -127,12 +127,12 @@ pub fn run<F: Files>(
         _ => None,
     };
     match (status, output.extend_from_slice(device.taken())) {
-        (Some(status), Ok(())) => Ok(Given {
+        (Some(status), Ok(())) => Ok(RunOutput {
             status,
             output,
             errors,
         }),
-        (None, _) => Err(RowError::No("program")),
-        (_, Err(_)) => Err(RowError::NoMemory),
+        (None, _) => Err(TestRowError::No("program")),
+        (_, Err(_)) => Err(TestRowError::NoMemory),
     }
 }

@@ -1,12 +1,12 @@
 //! Files of stories and of runs: titled rows of several lines each.
 
 use crate::draft::Draft;
-use crate::error::{RowError, unless_refused};
+use crate::error::{TestRowError, unless_refused};
 use std::alloc::Global;
 
 /// The outcome of a file's titled rows.
 #[derive(Drop)]
-pub struct Told {
+pub struct ScriptReport {
     alloc: Global,
     /// How many rows the file has.
     titles: u32,
@@ -14,10 +14,10 @@ pub struct Told {
     misses: Draft,
 }
 
-impl Told {
+impl ScriptReport {
     /// No rows yet.
-    pub fn new(alloc: Global) -> Told {
-        Told {
+    pub fn new(alloc: Global) -> ScriptReport {
+        ScriptReport {
             alloc,
             titles: 0,
             misses: Draft::new(alloc),
@@ -36,13 +36,13 @@ impl Told {
     }
 
     /// Notes a line that can't be read or carried out.
-    pub fn fail(&mut self, line: usize, wanted: &str, why: RowError) {
+    pub fn fail(&mut self, line: usize, wanted: &str, why: TestRowError) {
         let text = format!(in self.alloc; "[line {line}] {why} in {wanted}; ");
         self.misses.push_made(&unless_refused(text));
     }
 
     /// How many rows the file has, or the lines that don't hold.
-    pub fn found(self) -> Result<String, RowError> {
+    pub fn found(self) -> Result<String, TestRowError> {
         if self.misses.is_empty() {
             let titles = self.titles;
             unless_refused(format!(in self.alloc; "{titles}"))

@@ -2,7 +2,7 @@
 
 use crate::devices::Device;
 use crate::draft::Draft;
-use crate::error::{RowError, unless_refused};
+use crate::error::{TestRowError, unless_refused};
 use crate::given::bytes_of;
 use beam_desk::NodeDesk;
 use beam_remote::{ServeError, Served, serve};
@@ -10,10 +10,10 @@ use hex;
 use std::alloc::Global;
 
 /// The bytes that were written in a session, in hexadecimal digits, and how it ended.
-pub fn told(alloc: Global, written: &[u8], end: &str) -> Result<String, RowError> {
+pub fn told(alloc: Global, written: &[u8], end: &str) -> Result<String, TestRowError> {
     match hex::encode_upper(alloc, written) {
         Ok(written) => unless_refused(format!(in alloc; "{written} {end}")),
-        Err(_) => Err(RowError::NoMemory),
+        Err(_) => Err(TestRowError::NoMemory),
     }
 }
 
@@ -22,14 +22,14 @@ pub fn ended(
     alloc: Global,
     written: &[u8],
     end: Result<Served, ServeError>,
-) -> Result<String, RowError> {
+) -> Result<String, TestRowError> {
     let end = match end {
         Ok(served) => format!(in alloc; "Served {} {}", served.done, served.told),
         Err(error) => format!(in alloc; "{:?} {} {}", error.why, error.done, error.told),
     };
     match end {
         Ok(end) => told(alloc, written, &end),
-        Err(_) => Err(RowError::NoMemory),
+        Err(_) => Err(TestRowError::NoMemory),
     }
 }
 
@@ -39,7 +39,7 @@ fn session(
     device: &str,
     input: &str,
     desk: &mut NodeDesk,
-) -> Result<String, RowError> {
+) -> Result<String, TestRowError> {
     match (Device::named(device.trim()), bytes_of(alloc, input)) {
         (Some(device), Ok(input)) => {
             let mut device = device.over(alloc, input);
@@ -47,7 +47,7 @@ fn session(
             ended(alloc, device.taken(), end)
         }
         (_, Err(why)) => Err(why),
-        (None, _) => Err(RowError::No("device")),
+        (None, _) => Err(TestRowError::No("device")),
     }
 }
 
@@ -69,7 +69,7 @@ fn push_sessions(
 
 /// The bytes that a session writes over the device with these commands, and how it ends. Sessions over the same node, one after another,
 /// have a `|` between them.
-pub fn found(alloc: Global, devices: &str, inputs: &str) -> Result<String, RowError> {
+pub fn found(alloc: Global, devices: &str, inputs: &str) -> Result<String, TestRowError> {
     let mut desk = NodeDesk::new(alloc);
     let mut texts = Draft::new(alloc);
     push_sessions(alloc, devices, inputs, &mut desk, &mut texts);

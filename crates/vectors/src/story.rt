@@ -5,11 +5,11 @@
 //! same answers.
 
 use crate::draft::{Draft, text_of};
-use crate::error::{RowError, unless_refused};
+use crate::error::{TestRowError, unless_refused};
 use crate::folder::Folder;
 use crate::given::named_file;
 use crate::reading::says;
-use crate::script::Told;
+use crate::script::ScriptReport;
 use crate::story_answer::{answer, answers, deadline, outcomes, ready};
 use crate::story_event::{Happening, read_happening};
 use beam_core::node::Core;
@@ -44,35 +44,40 @@ impl Drop for Story {
 }
 
 // The answers to events that another node runs as one list.
-fn answers_of(alloc: Global, events: &[Event<Image>]) -> Result<String, RowError> {
+fn answers_of(alloc: Global, events: &[Event<Image>]) -> Result<String, TestRowError> {
     let mut core = Core::new(alloc);
     match core.run(events) {
         Ok(given) => answers(alloc, &given),
-        Err(_) => Err(RowError::NoMemory),
+        Err(_) => Err(TestRowError::NoMemory),
     }
 }
 
 // The answers to events that another node with its debugger runs as one list.
-fn debugged_of(alloc: Global, events: Vec<Event<Image>>) -> Result<String, RowError> {
+fn debugged_of(alloc: Global, events: Vec<Event<Image>>) -> Result<String, TestRowError> {
     let mut debug_events = Vec::new(alloc);
     for event in events {
         if debug_events.push(DebugEvent::Node(event)).is_err() {
-            return Err(RowError::NoMemory);
+            return Err(TestRowError::NoMemory);
         }
     }
     let mut node = Debugger::new(alloc);
     match node.run(&debug_events) {
         Ok(given) => outcomes(alloc, &given),
-        Err(_) => Err(RowError::NoMemory),
+        Err(_) => Err(TestRowError::NoMemory),
     }
 }
 
 // Reports where the answers to a list of events aren't those that were given one after another.
-fn compare(number: usize, answers: &Draft, found: Result<String, RowError>, told: &mut Told) {
+fn compare(
+    number: usize,
+    answers: &Draft,
+    found: Result<String, TestRowError>,
+    report: &mut ScriptReport,
+) {
     match found {
         Ok(text) if text.as_bytes() == answers.as_slice() => {}
-        Ok(text) => told.miss(number, "the same answers, run in a list", &text),
-        Err(why) => told.fail(number, "the answers, run in a list", why),
+        Ok(text) => report.miss(number, "the same answers, run in a list", &text),
+        Err(why) => report.fail(number, "the answers, run in a list", why),
     }
 }
 
@@ -89,18 +94,18 @@ impl Story {
     }
 
     // Applies an event, keeps the event and its answer, and gives the answer.
-    fn happen(&mut self, event: Event<Image>) -> Result<String, RowError> {
+    fn happen(&mut self, event: Event<Image>) -> Result<String, TestRowError> {
         let found = answer(self.alloc, &self.core.apply(&event));
         self.answers.push_made(&found);
         self.answers.push(b"\n");
         match self.events.push(event) {
             Ok(()) => found,
-            Err(_) => Err(RowError::NoMemory),
+            Err(_) => Err(TestRowError::NoMemory),
         }
     }
 
     // The answer to what happens in a line.
-    fn found(&mut self, happening: Happening) -> Result<String, RowError> {
+    fn found(&mut self, happening: Happening) -> Result<String, TestRowError> {
         match happening {
             Happening::Event(event) => self.happen(event),
             Happening::Ready(after) => ready(self.alloc, self.core.ready(after)),
@@ -110,7 +115,7 @@ impl Story {
     }
 
     // The answer to the event of a line.
-    fn tell<F: Files>(&mut self, files: &mut F, event: &str) -> Result<String, RowError> {
+    fn tell<F: Files>(&mut self, files: &mut F, event: &str) -> Result<String, TestRowError> {
         match read_happening(self.alloc, files, event) {
             Ok(happening) => self.found(happening),
             Err(why) => Err(why),
@@ -118,23 +123,29 @@ impl Story {
     }
 
     // Plays one line: its event and the wanted answer.
-    fn line<F: Files>(&mut self, files: &mut F, number: usize, text: &str, told: &mut Told) {
+    fn line<F: Files>(
+        &mut self,
+        files: &mut F,
+        number: usize,
+        text: &str,
+        report: &mut ScriptReport,
+    ) {
         let (event, wanted) = text.split_once(" = ").unwrap_or((text, "an answer"));
         match self.tell(files, event) {
             Ok(found) if found.as_str() == wanted => {}
             Ok(found) => {
                 self.holds = false;
-                told.miss(number, wanted, &found);
+                report.miss(number, wanted, &found);
             }
             Err(why) => {
                 self.holds = false;
-                told.fail(number, text, why);
+                report.fail(number, text, why);
             }
         }
     }
 
     // Ends a story, before that line.
-    fn end(self, number: usize, told: &mut Told) {
+    fn end(self, number: usize, report: &mut ScriptReport) {
         let Story {
             alloc,
             core: _core,
@@ -142,32 +153,32 @@ impl Story {
             answers,
             holds: _holds,
         } = self;
-        compare(number, &answers, answers_of(alloc, &events), told);
-        compare(number, &answers, debugged_of(alloc, events), told);
+        compare(number, &answers, answers_of(alloc, &events), report);
+        compare(number, &answers, debugged_of(alloc, events), report);
     }
 }
 
 // Plays the stories of a text, each up to its first line that doesn't hold.
-fn tell<F: Files>(alloc: Global, files: &mut F, text: &str, told: &mut Told) {
+fn tell<F: Files>(alloc: Global, files: &mut F, text: &str, report: &mut ScriptReport) {
     let mut story = Story::new(alloc, false);
     for (index, line) in text.lines().enumerate() {
         let number = index.saturating_add(1);
         if line.starts_with("story ") {
-            told.begin();
-            story.end(number, told);
+            report.begin();
+            story.end(number, report);
             story = Story::new(alloc, true);
         } else if story.holds && says(line) {
-            story.line(files, number, line, told);
+            story.line(files, number, line, report);
         }
     }
-    story.end(text.lines().count(), told);
+    story.end(text.lines().count(), report);
 }
 
 /// How many stories the file of that name has, or the lines at which another answer was found than was wanted. The files that they load lie
 /// beside it.
-pub fn found<F: Files>(alloc: Global, files: &mut F, name: &str) -> Result<String, RowError> {
+pub fn found<F: Files>(alloc: Global, files: &mut F, name: &str) -> Result<String, TestRowError> {
     let text = text_of(named_file(alloc, files, name)?)?;
-    let mut told = Told::new(alloc);
-    tell(alloc, &mut Folder::of(name, files), &text, &mut told);
-    told.found()
+    let mut report = ScriptReport::new(alloc);
+    tell(alloc, &mut Folder::of(name, files), &text, &mut report);
+    report.found()
 }

@@ -1,7 +1,7 @@
 //! The answers of a node, as stories write them.
 
 use crate::draft::Draft;
-use crate::error::{RowError, unless_refused};
+use crate::error::{TestRowError, unless_refused};
 use crate::term::printed;
 use beam_debug::outcome::Outcome;
 use beam_machine::event::{Numbers, Refused, Reply, Then};
@@ -17,23 +17,23 @@ fn is_foreign(term: &Term) -> bool {
 }
 
 // The text of a term; that of a foreign pid says so.
-fn shown(alloc: Global, term: &Term) -> Result<String, RowError> {
+fn shown(alloc: Global, term: &Term) -> Result<String, TestRowError> {
     match printed(alloc, term) {
         Ok(text) if is_foreign(term) => unless_refused(format!(in alloc; "foreign {text}")),
         printed => printed,
     }
 }
 
-fn ended(alloc: Global, count: u32, reason: &Term, value: &Term) -> Result<String, RowError> {
+fn ended(alloc: Global, count: u32, reason: &Term, value: &Term) -> Result<String, TestRowError> {
     match (shown(alloc, reason), shown(alloc, value)) {
         (Ok(reason), Ok(value)) => {
             unless_refused(format!(in alloc; "{count} ended {reason} {value}"))
         }
-        _ => Err(RowError::NoMemory),
+        _ => Err(TestRowError::NoMemory),
     }
 }
 
-fn ran(alloc: Global, count: u32, then: &Then) -> Result<String, RowError> {
+fn ran(alloc: Global, count: u32, then: &Then) -> Result<String, TestRowError> {
     match then {
         Then::GoesOn => unless_refused(format!(in alloc; "{count} goes on")),
         Then::Waits => unless_refused(format!(in alloc; "{count} waits")),
@@ -41,13 +41,13 @@ fn ran(alloc: Global, count: u32, then: &Then) -> Result<String, RowError> {
     }
 }
 
-fn versions(alloc: Global, current: Option<u32>, old: Option<u32>) -> Result<String, RowError> {
+fn versions(alloc: Global, current: Option<u32>, old: Option<u32>) -> Result<String, TestRowError> {
     let current = current.unwrap_or(0);
     let old = old.unwrap_or(0);
     unless_refused(format!(in alloc; "versions {current} {old}"))
 }
 
-fn upgraded(alloc: Global, list: &[Numbers]) -> Result<String, RowError> {
+fn upgraded(alloc: Global, list: &[Numbers]) -> Result<String, TestRowError> {
     let mut text = Draft::new(alloc);
     text.push_text("upgraded");
     for numbers in list {
@@ -58,7 +58,7 @@ fn upgraded(alloc: Global, list: &[Numbers]) -> Result<String, RowError> {
     text.text()
 }
 
-fn reply(alloc: Global, reply: &Reply) -> Result<String, RowError> {
+fn reply(alloc: Global, reply: &Reply) -> Result<String, TestRowError> {
     match reply {
         Reply::Done => unless_refused(String::from_str(alloc, "done")),
         Reply::Changed(changed) => unless_refused(format!(in alloc; "{changed}")),
@@ -70,7 +70,7 @@ fn reply(alloc: Global, reply: &Reply) -> Result<String, RowError> {
 }
 
 /// The answer to an event.
-pub fn answer(alloc: Global, answer: &Result<Reply, Refused>) -> Result<String, RowError> {
+pub fn answer(alloc: Global, answer: &Result<Reply, Refused>) -> Result<String, TestRowError> {
     match answer {
         Ok(given) => reply(alloc, given),
         Err(refused) => unless_refused(format!(in alloc; "refused {refused}")),
@@ -78,7 +78,7 @@ pub fn answer(alloc: Global, answer: &Result<Reply, Refused>) -> Result<String, 
 }
 
 /// The answers to events, each with a newline.
-pub fn answers(alloc: Global, given: &[Result<Reply, Refused>]) -> Result<String, RowError> {
+pub fn answers(alloc: Global, given: &[Result<Reply, Refused>]) -> Result<String, TestRowError> {
     let mut texts = Draft::new(alloc);
     for given in given {
         texts.push_made(&answer(alloc, given));
@@ -88,7 +88,7 @@ pub fn answers(alloc: Global, given: &[Result<Reply, Refused>]) -> Result<String
 }
 
 // The answer of a node with a debugger to an event of the node: it holds no process.
-fn outcome(alloc: Global, outcome: &Result<Outcome, Refused>) -> Result<String, RowError> {
+fn outcome(alloc: Global, outcome: &Result<Outcome, Refused>) -> Result<String, TestRowError> {
     match outcome {
         Ok(Outcome::Node(given)) => reply(alloc, given),
         Ok(Outcome::Held { .. }) => unless_refused(String::from_str(alloc, "held")),
@@ -98,7 +98,7 @@ fn outcome(alloc: Global, outcome: &Result<Outcome, Refused>) -> Result<String, 
 }
 
 /// The answers of a node with a debugger to events of the node, each with a newline.
-pub fn outcomes(alloc: Global, given: &[Result<Outcome, Refused>]) -> Result<String, RowError> {
+pub fn outcomes(alloc: Global, given: &[Result<Outcome, Refused>]) -> Result<String, TestRowError> {
     let mut texts = Draft::new(alloc);
     for given in given {
         texts.push_made(&outcome(alloc, given));
@@ -108,7 +108,7 @@ pub fn outcomes(alloc: Global, given: &[Result<Outcome, Refused>]) -> Result<Str
 }
 
 /// A process that can go on, or `none`.
-pub fn ready(alloc: Global, pid: Option<u32>) -> Result<String, RowError> {
+pub fn ready(alloc: Global, pid: Option<u32>) -> Result<String, TestRowError> {
     match pid {
         Some(pid) => unless_refused(format!(in alloc; "{pid}")),
         None => unless_refused(String::from_str(alloc, "none")),
@@ -116,7 +116,7 @@ pub fn ready(alloc: Global, pid: Option<u32>) -> Result<String, RowError> {
 }
 
 /// A deadline and its process, or `none`.
-pub fn deadline(alloc: Global, next: Option<(u64, u32)>) -> Result<String, RowError> {
+pub fn deadline(alloc: Global, next: Option<(u64, u32)>) -> Result<String, TestRowError> {
     match next {
         Some((when, pid)) => unless_refused(format!(in alloc; "{when} {pid}")),
         None => unless_refused(String::from_str(alloc, "none")),

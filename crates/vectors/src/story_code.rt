@@ -3,35 +3,35 @@
 use beam_asm::assemble;
 use beam_image::Image;
 use beam_listing::{ListingError, read_listing};
-use beam_tools::fault::Why;
+use beam_tools::fault::FileFaultKind;
 use beam_tools::files::Files;
 use std::alloc::Global;
 
-fn no_listing(error: ListingError) -> Why {
+fn no_listing(error: ListingError) -> FileFaultKind {
     match error {
-        ListingError::Syntax(line) => Why::Syntax(line),
-        ListingError::UnknownForm(line) => Why::UnknownForm(line),
-        ListingError::NoMemory => Why::NoMemory,
+        ListingError::Syntax(line) => FileFaultKind::Syntax(line),
+        ListingError::UnknownForm(line) => FileFaultKind::UnknownForm(line),
+        ListingError::NoMemory => FileFaultKind::NoMemory,
     }
 }
 
 // The file of a listing, given by the bytes of its text.
-fn assembled(alloc: Global, text: &[u8]) -> Result<Vec<u8>, Why> {
+fn assembled(alloc: Global, text: &[u8]) -> Result<Vec<u8>, FileFaultKind> {
     match str::from_utf8(text) {
         Ok(text) => match read_listing(alloc, text) {
-            Ok(listing) => assemble(alloc, &listing).map_err(Why::Unassembled),
+            Ok(listing) => assemble(alloc, &listing).map_err(FileFaultKind::Unassembled),
             Err(error) => Err(no_listing(error)),
         },
-        Err(_) => Err(Why::NoText),
+        Err(_) => Err(FileFaultKind::NoText),
     }
 }
 
 // The bytes of a file; where its name ends with `.S`, those of its listing's file.
-fn bytes_of<F: Files>(alloc: Global, files: &mut F, name: &str) -> Result<Vec<u8>, Why> {
+fn bytes_of<F: Files>(alloc: Global, files: &mut F, name: &str) -> Result<Vec<u8>, FileFaultKind> {
     match files.read(alloc, name) {
         Ok(bytes) if name.ends_with(".S") => assembled(alloc, &bytes),
         Ok(bytes) => Ok(bytes),
-        Err(error) => Err(Why::Unread(error)),
+        Err(error) => Err(FileFaultKind::Unread(error)),
     }
 }
 
@@ -41,11 +41,11 @@ pub fn image_of<F: Files>(
     files: &mut F,
     name: &str,
     length: usize,
-) -> Result<Image, Why> {
+) -> Result<Image, FileFaultKind> {
     match bytes_of(alloc, files, name) {
         Ok(bytes) => {
             let first = bytes.get(..length).unwrap_or(&bytes);
-            Image::prepare(alloc, first).map_err(Why::BadFile)
+            Image::prepare(alloc, first).map_err(FileFaultKind::BadFile)
         }
         Err(why) => Err(why),
     }

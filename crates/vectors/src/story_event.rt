@@ -1,12 +1,12 @@
 //! The events of stories, as lines write them.
 
-use crate::error::RowError;
+use crate::error::TestRowError;
 use crate::given::parted;
 use crate::native::{elements_of, pid_term};
 use crate::story_code::image_of;
 use beam_erltext::read_erl;
 use beam_image::Image;
-use beam_machine::event::{Event, Images, Mode, SpawnArguments};
+use beam_machine::event::{Event, Images, SpawnArguments, UpgradeMode};
 use beam_term::{Atom, Term};
 use beam_tools::files::Files;
 use std::alloc::Global;
@@ -49,36 +49,36 @@ impl Words<'_> {
 }
 
 /// A process of this node, or a name.
-fn receiver(alloc: Global, text: &str) -> Result<Term, RowError> {
+fn receiver(alloc: Global, text: &str) -> Result<Term, TestRowError> {
     match text.parse::<u32>() {
         Ok(id) => pid_term(alloc, id),
         Err(_) => match Atom::new(alloc, text) {
             Ok(name) => Ok(Term::atom(name)),
-            Err(_) => Err(RowError::No("name")),
+            Err(_) => Err(TestRowError::No("name")),
         },
     }
 }
 
 /// `send 1 {a,b}`, or `send name {a,b}`.
-fn send(alloc: Global, words: Words<'_>) -> Result<Happening, RowError> {
+fn send(alloc: Global, words: Words<'_>) -> Result<Happening, TestRowError> {
     match (receiver(alloc, words.first), read_erl(alloc, words.rest)) {
         (Ok(to), Ok(message)) => Ok(Happening::Event(Event::Send { to, message })),
-        _ => Err(RowError::No("receiver and message")),
+        _ => Err(TestRowError::No("receiver and message")),
     }
 }
 
-fn arguments(alloc: Global, text: &str) -> Result<SpawnArguments, RowError> {
+fn arguments(alloc: Global, text: &str) -> Result<SpawnArguments, TestRowError> {
     match elements_of(alloc, text) {
         Ok(items) => match SpawnArguments::new(items) {
             Some(arguments) => Ok(arguments),
-            None => Err(RowError::No("list of arguments")),
+            None => Err(TestRowError::No("list of arguments")),
         },
         Err(why) => Err(why),
     }
 }
 
 /// `spawn h:n [2]`.
-fn spawn(alloc: Global, words: Words<'_>) -> Result<Happening, RowError> {
+fn spawn(alloc: Global, words: Words<'_>) -> Result<Happening, TestRowError> {
     let (module, function) = words.first.split_once(':').unwrap_or(("", ""));
     match (
         Atom::new(alloc, module),
@@ -90,12 +90,12 @@ fn spawn(alloc: Global, words: Words<'_>) -> Result<Happening, RowError> {
             function,
             arguments,
         })),
-        _ => Err(RowError::No("call")),
+        _ => Err(TestRowError::No("call")),
     }
 }
 
 /// An event of a process, `steps 1 100`, of the clock, `clock 99`, or the process after one, `ready 0`.
-fn process(words: Words<'_>) -> Result<Happening, RowError> {
+fn process(words: Words<'_>) -> Result<Happening, TestRowError> {
     match (
         words.word,
         words.first.parse::<u32>(),
@@ -105,25 +105,25 @@ fn process(words: Words<'_>) -> Result<Happening, RowError> {
         ("deliver", Ok(pid), _) => Ok(Happening::Event(Event::Deliver { pid })),
         ("timeout", Ok(pid), _) => Ok(Happening::Event(Event::Timeout { pid })),
         ("steps", Ok(pid), Ok(rows)) => Ok(Happening::Event(Event::Steps { pid, rows })),
-        _ => Err(RowError::No("process")),
+        _ => Err(TestRowError::No("process")),
     }
 }
 
-fn clock(words: Words<'_>) -> Result<Happening, RowError> {
+fn clock(words: Words<'_>) -> Result<Happening, TestRowError> {
     match words.first.parse::<u64>() {
         Ok(now) => Ok(Happening::Event(Event::Clock { now })),
-        Err(_) => Err(RowError::No("time")),
+        Err(_) => Err(TestRowError::No("time")),
     }
 }
 
 /// An event of a module, `purge h`.
-fn module(alloc: Global, words: Words<'_>) -> Result<Happening, RowError> {
+fn module(alloc: Global, words: Words<'_>) -> Result<Happening, TestRowError> {
     match (words.word, Atom::new(alloc, words.whole)) {
         ("delete", Ok(module)) => Ok(Happening::Event(Event::Delete(module))),
         ("soft_purge", Ok(module)) => Ok(Happening::Event(Event::SoftPurge(module))),
         ("purge", Ok(module)) => Ok(Happening::Event(Event::Purge(module))),
         ("versions", Ok(module)) => Ok(Happening::Event(Event::Versions(module))),
-        _ => Err(RowError::No("event")),
+        _ => Err(TestRowError::No("event")),
     }
 }
 
@@ -136,7 +136,11 @@ fn length(text: &str) -> usize {
 }
 
 /// A load: `load h1.S`, `load_strict t.beam`, or `load h1.S cut 20` of its first 20 bytes.
-fn load<F: Files>(alloc: Global, files: &mut F, words: Words<'_>) -> Result<Happening, RowError> {
+fn load<F: Files>(
+    alloc: Global,
+    files: &mut F,
+    words: Words<'_>,
+) -> Result<Happening, TestRowError> {
     match image_of(alloc, files, words.first, length(words.rest)) {
         Ok(image) if words.word == "load" => Ok(Happening::Event(Event::Load(image))),
         Ok(image) => Ok(Happening::Event(Event::LoadStrict(image))),
@@ -144,12 +148,12 @@ fn load<F: Files>(alloc: Global, files: &mut F, words: Words<'_>) -> Result<Happ
     }
 }
 
-fn mode(text: &str) -> Result<Mode, RowError> {
+fn mode(text: &str) -> Result<UpgradeMode, TestRowError> {
     match text {
-        "strict" => Ok(Mode::Strict),
-        "soft" => Ok(Mode::Soft),
-        "hard" => Ok(Mode::Hard),
-        _ => Err(RowError::No("mode")),
+        "strict" => Ok(UpgradeMode::Strict),
+        "soft" => Ok(UpgradeMode::Soft),
+        "hard" => Ok(UpgradeMode::Hard),
+        _ => Err(TestRowError::No("mode")),
     }
 }
 
@@ -158,7 +162,7 @@ fn atomic_load<F: Files>(
     alloc: Global,
     files: &mut F,
     words: Words<'_>,
-) -> Result<Happening, RowError> {
+) -> Result<Happening, TestRowError> {
     let mode = mode(words.first)?;
     let mut images = Vec::new(alloc);
     for name in words.rest.split_whitespace() {
@@ -178,7 +182,7 @@ pub fn read_happening<F: Files>(
     alloc: Global,
     files: &mut F,
     text: &str,
-) -> Result<Happening, RowError> {
+) -> Result<Happening, TestRowError> {
     let words = Words::of(text);
     match words.word {
         "load" | "load_strict" => load(alloc, files, words),

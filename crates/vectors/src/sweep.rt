@@ -2,7 +2,7 @@
 
 use crate::devices::Device;
 use crate::draft::Draft;
-use crate::error::{RowError, unless_refused};
+use crate::error::{TestRowError, unless_refused};
 use crate::given::{bytes_of, parted};
 use crate::load_path::loaded;
 use crate::session::{ended, told};
@@ -11,7 +11,7 @@ use std::alloc::Global;
 
 /// The session at the place N, counted from 0. All devices but those of pieces give and take one byte a call.
 #[derive(Clone, Copy)]
-enum Sweep {
+enum SweepKind {
     /// The read after N others fails.
     Reads,
     /// The write after N others fails.
@@ -24,14 +24,14 @@ enum Sweep {
     Loads,
 }
 
-impl Sweep {
-    fn named(word: &str) -> Option<Sweep> {
+impl SweepKind {
+    fn named(word: &str) -> Option<SweepKind> {
         match word {
-            "reads" => Some(Sweep::Reads),
-            "writes" => Some(Sweep::Writes),
-            "ends" => Some(Sweep::Ends),
-            "pieces" => Some(Sweep::Pieces),
-            "loads" => Some(Sweep::Loads),
+            "reads" => Some(SweepKind::Reads),
+            "writes" => Some(SweepKind::Writes),
+            "ends" => Some(SweepKind::Ends),
+            "pieces" => Some(SweepKind::Pieces),
+            "loads" => Some(SweepKind::Loads),
             _ => None,
         }
     }
@@ -70,16 +70,16 @@ impl Stretch<'_> {
 }
 
 /// A sweep over an input, which writes the beginnings of an output.
-pub struct Swept {
+pub struct Sweep {
     alloc: Global,
-    sweep: Sweep,
+    sweep: SweepKind,
     input: Vec<u8>,
     output: Vec<u8>,
 }
 
-impl Drop for Swept {
+impl Drop for Sweep {
     fn drop(self) {
-        let Swept {
+        let Sweep {
             alloc: _alloc,
             sweep: _sweep,
             input: _input,
@@ -88,26 +88,26 @@ impl Drop for Swept {
     }
 }
 
-impl Swept {
+impl Sweep {
     /// The sweep of that name: `reads`, `writes`, `ends`, `pieces` or `loads`.
-    pub fn of(alloc: Global, name: &str, input: &str, output: &str) -> Result<Swept, RowError> {
+    pub fn of(alloc: Global, name: &str, input: &str, output: &str) -> Result<Sweep, TestRowError> {
         match (
-            Sweep::named(name),
+            SweepKind::named(name),
             bytes_of(alloc, input),
             bytes_of(alloc, output),
         ) {
-            (Some(sweep), Ok(input), Ok(output)) => Ok(Swept {
+            (Some(sweep), Ok(input), Ok(output)) => Ok(Sweep {
                 alloc,
                 sweep,
                 input,
                 output,
             }),
-            _ => Err(RowError::No("sweep")),
+            _ => Err(TestRowError::No("sweep")),
         }
     }
 
     // The outcome of a session over the first bytes of the input.
-    fn session(&self, device: Device, length: usize) -> Result<String, RowError> {
+    fn session(&self, device: Device, length: usize) -> Result<String, TestRowError> {
         let first = self.input.get(..length).unwrap_or(&self.input);
         match Vec::from_slice(self.alloc, first) {
             Ok(given) => {
@@ -115,36 +115,36 @@ impl Swept {
                 let end = pipe(self.alloc, &mut device);
                 ended(self.alloc, device.taken(), end)
             }
-            Err(_) => Err(RowError::NoMemory),
+            Err(_) => Err(TestRowError::NoMemory),
         }
     }
 
-    fn load(&self, device: Device) -> Result<String, RowError> {
+    fn load(&self, device: Device) -> Result<String, TestRowError> {
         match Vec::from_slice(self.alloc, &self.input) {
             Ok(file) => match loaded(self.alloc, device, file) {
                 Ok(answer) => told(self.alloc, &[], &answer),
                 Err(why) => Err(why),
             },
-            Err(_) => Err(RowError::NoMemory),
+            Err(_) => Err(TestRowError::NoMemory),
         }
     }
 
     // The outcome at a place.
-    fn at(&self, place: usize) -> Result<String, RowError> {
+    fn at(&self, place: usize) -> Result<String, TestRowError> {
         match self.sweep {
-            Sweep::Reads => self.session(Device::Reads(place as u64), usize::MAX),
-            Sweep::Writes => self.session(Device::Writes(place as u64), usize::MAX),
-            Sweep::Ends => self.session(Device::Pieces(1), place),
-            Sweep::Pieces => self.session(Device::Pieces(place), usize::MAX),
-            Sweep::Loads => self.load(Device::Reads(place as u64)),
+            SweepKind::Reads => self.session(Device::Reads(place as u64), usize::MAX),
+            SweepKind::Writes => self.session(Device::Writes(place as u64), usize::MAX),
+            SweepKind::Ends => self.session(Device::Pieces(1), place),
+            SweepKind::Pieces => self.session(Device::Pieces(place), usize::MAX),
+            SweepKind::Loads => self.load(Device::Reads(place as u64)),
         }
     }
 
     // The outcome that is wanted at a place of a stretch: a beginning of the output, and the end.
-    fn wanted(&self, stretch: Stretch<'_>, place: usize) -> Result<String, RowError> {
+    fn wanted(&self, stretch: Stretch<'_>, place: usize) -> Result<String, TestRowError> {
         match self.output.get(..stretch.written.unwrap_or(place)) {
             Some(written) => told(self.alloc, written, stretch.end),
-            None => Err(RowError::No("output of that length")),
+            None => Err(TestRowError::No("output of that length")),
         }
     }
 
@@ -172,7 +172,7 @@ impl Swept {
 
     /// The text of the wanted ends, if all places have them: each session over the input writes a beginning of the output, and ends so.
     /// Otherwise the outcome at the first place that has another.
-    pub fn found(&self, ends: &str) -> Result<String, RowError> {
+    pub fn found(&self, ends: &str) -> Result<String, TestRowError> {
         let mut misses = Draft::new(self.alloc);
         let mut first = 0;
         for text in ends.split(';') {
@@ -181,7 +181,7 @@ impl Swept {
                     self.push_stretch(stretch, &mut misses);
                     first = stretch.last.saturating_add(1);
                 }
-                None => misses.fail(RowError::No("ends")),
+                None => misses.fail(TestRowError::No("ends")),
             }
         }
         if misses.is_empty() {

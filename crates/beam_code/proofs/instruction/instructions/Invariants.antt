@@ -1,10 +1,10 @@
 use Rattle.std.proofs.Common.{◌-◌, length}
 use Rattle.std.specs.Prelude.{map}
 use Rattle.std.specs.List.{All}
-use Rattle.beam_code.specs.Parts.{tables_of}
+use Rattle.beam_code.specs.ReadChunk.{tables_of}
 use Rattle.beam_code.specs.Shared.{made_of, IsWithin}
 use Rattle.beam_code.proofs.Loops.{IsRead}
-use Rattle.beam_code.proofs.Places.{Placed}
+use Rattle.beam_code.proofs.ReadingLayout.{Placed}
 use Rattle.beam_code.proofs.instruction.instructions.Given as goal
 
 abbrev pub invariant-loop-starts : goal.invariant-loop-starts

@@ -3,7 +3,7 @@ use Rattle.std.specs.Prelude.{map, nat_eq}
 use Rattle.std.specs.Map.{lookup, keys_of}
 use Rattle.beam_code.specs.Bytes.{AreAscending}
 use Rattle.beam_code.proofs.Ascending.{ends_of, ascending_are}
-use Rattle.beam_code.proofs.Noted.{ascending, same_lookup}
+use Rattle.beam_code.proofs.LabelBytes.{ascending, same_lookup}
 use Rattle.beam_code.proofs.labels.labels.Goals as goal
 
 pub returns-clause-order : goal.returns-clause-order

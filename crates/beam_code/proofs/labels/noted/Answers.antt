@@ -4,7 +4,7 @@ use Rattle.std.specs.Ordering.{nat_cmp}
 use Rattle.std.specs.BTreeMap.{get}
 use Rattle.beam_model.specs.Listing.{is_this_number, label_of}
 use Rattle.beam_code.specs.Bytes.{byte_after}
-use Rattle.beam_code.proofs.Noted.{noted_more}
+use Rattle.beam_code.proofs.LabelBytes.{noted_more}
 use Rattle.beam_code.proofs.labels.noted.Goals as goal
 
 pub loop-at-preserved : goal.loop-at-preserved

@@ -1,4 +1,4 @@
-use Rattle.beam_code.proofs.Assembled.{code_again}
+use Rattle.beam_code.proofs.RoundTrip.{code_again}
 use Rattle.beam_code.proofs.laws.written_is_read.Goals as goal
 
 pub returns : goal.returns

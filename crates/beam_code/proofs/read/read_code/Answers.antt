@@ -1,8 +1,8 @@
 use Rattle.std.specs.Prelude.{Ok, Err}
 use Rattle.std.proofs.lemmas.Result.{err_from_is_err_and}
 use Rattle.beam_code.specs.declared.read.CodeChunk.{CodeChunk}
-use Rattle.beam_code.specs.Parts.{parts_of, tables_of}
-use Rattle.beam_code.proofs.Answered.{spelled, only}
+use Rattle.beam_code.specs.ReadChunk.{parts_of, tables_of}
+use Rattle.beam_code.proofs.ReadResults.{spelled, only}
 use Rattle.beam_code.proofs.read.read_code.Goals as goal
 
 pub returns-in_err-chunk-clause-only : goal.returns-in_err-chunk-clause-only

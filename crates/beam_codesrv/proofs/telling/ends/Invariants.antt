@@ -1,13 +1,13 @@
 use Rattle.std.proofs.Common.{◌≡◌, ◌++◌, map, length}
 use Rattle.std.specs.Prelude.{flat_map}
 use Rattle.beam_machine.specs.Change.{pids_of}
-use Rattle.beam_watches.specs.Index.{watches_of}
+use Rattle.beam_watches.specs.Origins.{origins_of}
 use Rattle.beam_codesrv.specs.Ends.{lingers_in, down_by}
 use Rattle.beam_codesrv.proofs.telling.ends.Given as goal
 
 abbrev pub invariant-loop-process : goal.invariant-loop-process
-invariant-loop-process l = l.sent.items ++ flat_map (λ pid. map down_by (watches_of l.fn.watches pid)) (pids_of (lingers_in l.fn.old) l.rest)
-    ≡ flat_map (λ pid. map down_by (watches_of l.fn.watches pid)) (pids_of (lingers_in l.fn.old) l.fn.processes)
+invariant-loop-process l = l.sent.items ++ flat_map (λ pid. map down_by (origins_of l.fn.origins pid)) (pids_of (lingers_in l.fn.old) l.rest)
+    ≡ flat_map (λ pid. map down_by (origins_of l.fn.origins pid)) (pids_of (lingers_in l.fn.old) l.fn.processes)
 
 abbrev pub decreases-loop-process : goal.decreases-loop-process
 decreases-loop-process l = length l.rest

@@ -3,26 +3,26 @@ use Rattle.beam_laws.specs.Private.{posted_all}
 use Rattle.beam_codesrv.specs.Ends.{lingers_in}
 use Rattle.beam_codesrv.proofs.Ending.{on_err}
 use Rattle.beam_codesrv.proofs.Heard.{all_hear}
-use Rattle.beam_codesrv.proofs.Watched.{one_is_watched, none_told}
+use Rattle.beam_codesrv.proofs.Monitored.{one_is_monitored, none_told}
 use Rattle.beam_codesrv.proofs.telling.tell.Goals as goal
 
-pub returns-then-not-one_is_watched-clause-told : goal.returns-then-not-one_is_watched-clause-told
-returns-then-not-one_is_watched-clause-told c =
+pub returns-then-not-one_is_monitored-clause-told : goal.returns-then-not-one_is_monitored-clause-told
+returns-then-not-one_is_monitored-clause-told c =
     let test = lingers_in c.args.old in
     let ps = c.args.processes.now in
-    none_told test ps (sym (one_is_watched test ps c.requires) ∙ (sym c.one_is_watched.ensures ∙ c.if-not-one_is_watched.true))
+    none_told test ps (sym (one_is_monitored test ps c.requires) ∙ (sym c.one_is_monitored.ensures ∙ c.if-not-one_is_monitored.true))
 
 pub returns-in_err-sent-clause-watched : goal.returns-in_err-sent-clause-watched
 returns-in_err-sent-clause-watched c =
     let test = lingers_in c.args.old in
     let ps = c.args.processes.now in
-    on_err c.from_residual.result (sym (one_is_watched test ps c.requires) ∙ (sym c.one_is_watched.ensures ∙ c.if-not-one_is_watched.false))
+    on_err c.from_residual.result (sym (one_is_monitored test ps c.requires) ∙ (sym c.one_is_monitored.ensures ∙ c.if-not-one_is_monitored.false))
 
 pub returns-in_err-post_all-clause-watched : goal.returns-in_err-post_all-clause-watched
 returns-in_err-post_all-clause-watched c =
     let test = lingers_in c.args.old in
     let ps = c.args.processes.now in
-    on_err c.from_residual-in_err-post_all.result (sym (one_is_watched test ps c.requires) ∙ (sym c.one_is_watched.ensures ∙ c.if-not-one_is_watched.false))
+    on_err c.from_residual-in_err-post_all.result (sym (one_is_monitored test ps c.requires) ∙ (sym c.one_is_monitored.ensures ∙ c.if-not-one_is_monitored.false))
 
 pub returns-clause-told : goal.returns-clause-told
 returns-clause-told c =

@@ -24,7 +24,7 @@ returns-in_default c =
     let same : c.rows.inside.process ≡ rows.process = ap (λ (r : Private). r.process) c.rows.view_is in
     record {
       ok = effect c.args.code.now c.args.state.now c.tell.new.state c.args.pid rows c.requires.rows c.deref.result.now c.rows.inside.process c.in_ok-then.then sent same c.in_ok-then.ensures.then c.in_ok-tell.ensures.ok
-          c.advance-was.new.self c.advance-was.result c.advance-was.ensures c.stands.ensures.pids
+          c.advance-was.new.self c.advance-was.result c.advance-was.ensures c.recall_invariant.ensures.pids
           (λ e. c.in_default.not-BeforeNodeRow (ends_before c.rows.inside.end (ap (λ (r : Private). r.end) c.rows.view_is ∙ e)));
       err = tt;
       refused = tt;
@@ -46,7 +46,7 @@ one_row-requires-clause-framed c =
     let sent : c.deref.result.now ≡ rows.sent = search rules in
     let same : c.rows.inside.process ≡ rows.process = ap (λ (r : Private). r.process) c.rows.view_is in
     effect_keeps c.args.code.now c.args.state.now c.tell.new.state c.args.pid rows c.requires.rows c.deref.result.now c.rows.inside.process c.in_ok-then.then sent same c.in_ok-then.ensures.then c.in_ok-tell.ensures.ok
-    c.advance-was.new.self c.advance-was.result c.advance-was.ensures IsFramedNode (λ s pid n. next_framed s (Steps pid n) tt) c.stands.ensures.pids c.requires.framed
+    c.advance-was.new.self c.advance-was.result c.advance-was.ensures IsFramedNode (λ s pid n. next_framed s (Steps pid n) tt) c.recall_invariant.ensures.pids c.requires.framed
 
 pub returns-in-Ok-clause-ok : goal.returns-in-Ok-clause-ok
 returns-in-Ok-clause-ok c =
@@ -55,7 +55,7 @@ returns-in-Ok-clause-ok c =
     let same : c.rows.inside.process ≡ rows.process = ap (λ (r : Private). r.process) c.rows.view_is in
     let ends : rows.end ≡ before_node_row = sym (ap (λ (r : Private). r.end) c.rows.view_is) ∙ ap end_of c.in-BeforeNodeRow.is in
     effect_and_row c.args.code.now c.args.state.now c.tell.new.state c.args.pid rows c.requires.rows c.deref.result.now c.rows.inside.process c.in_ok-then.then sent same c.in_ok-then.ensures.then c.in_ok-tell.ensures.ok
-    c.advance-was.new.self c.advance-was.result c.advance-was.ensures ends c.stands.ensures.pids c.one_row.new.state c.in-Ok.then c.in-Ok.ensures.ok.0 c.in-Ok.ensures.ok.1
+    c.advance-was.new.self c.advance-was.result c.advance-was.ensures ends c.recall_invariant.ensures.pids c.one_row.new.state c.in-Ok.then c.in-Ok.ensures.ok.0 c.in-Ok.ensures.ok.1
 
 pub replace-made-requires : goal.replace-made-requires
 replace-made-requires c =
@@ -67,7 +67,7 @@ replace-made-requires c =
       can = stands_back c.args.code.now c.args.state.now c.tell.new.state c.args.pid rows c.requires.rows c.deref.result.now c.rows.inside.process c.in_ok-then.then sent same c.in_ok-then.ensures.then c.in_ok-tell.ensures.ok
           c.advance-was.new.self c.advance-was.result c.advance-was.ensures ends c.one_row.new.state c.in-Err.ensures.err;
       rise = rises_back c.args.code.now c.args.state.now c.tell.new.state c.args.pid rows c.requires.rows c.deref.result.now c.rows.inside.process c.in_ok-then.then sent same c.in_ok-then.ensures.then c.in_ok-tell.ensures.ok
-          c.advance-was.new.self c.advance-was.result c.advance-was.ensures ends c.stands.ensures.references c.one_row.new.state c.in-Err.ensures.err;
+          c.advance-was.new.self c.advance-was.result c.advance-was.ensures ends c.recall_invariant.ensures.references c.one_row.new.state c.in-Err.ensures.err;
     }
 
 pub returns-clause-err : goal.returns-clause-err

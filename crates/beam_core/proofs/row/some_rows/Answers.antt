@@ -1,4 +1,4 @@
-use Rattle.beam_rows.specs.declared.run.Stop.TheVariants.{AtLimit, Waits, Ends, Asks, AtSpot, Refused}
+use Rattle.beam_rows.specs.declared.run.StopReason.TheVariants.{AtLimit, Waits, Ends, Asks, AtSpot, Refused}
 use Rattle.beam_core.specs.Rows.{PrivateRows}
 use Rattle.beam_core.proofs.Located.{rows_at_limit, rows_after_one, rows_at_spot, rows_refused, asks_runs, asks_can, rows_asked, rows_unanswered, ends_runs, rows_ended, rows_not_ended}
 use Rattle.beam_core.proofs.row.some_rows.Goals as goal

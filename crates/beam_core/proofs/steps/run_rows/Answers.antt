@@ -6,7 +6,7 @@ use Rattle.beam_machine.specs.State.{State, process_of}
 use Rattle.beam_rows.specs.Spots.{passes_after}
 use Rattle.beam_state.specs.Parts.{node}
 use Rattle.beam_core.specs.Rows.{StopsNext}
-use Rattle.beam_core.proofs.Kept.{turn_stays_framed}
+use Rattle.beam_core.proofs.PreservedByAnswers.{turn_stays_framed}
 use Rattle.beam_core.proofs.Located.{halts_before}
 use Rattle.beam_core.proofs.Stepping.{halts_more, halts_to_end, granted_some, none_done, passed, passes_twice}
 use Rattle.beam_core.proofs.steps.run_rows.Goals as goal

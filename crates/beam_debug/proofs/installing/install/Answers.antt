@@ -8,22 +8,22 @@ use Rattle.beam_machine.specs.Private.{Private}
 use Rattle.beam_machine.specs.State.{State}
 use Rattle.beam_proc.specs.Ending.{end_of}
 use Rattle.beam_core.specs.Installing.{Installed, node_rows}
-use Rattle.beam_debug.specs.Debugger.{room_of}
-use Rattle.beam_debug.specs.Marks.{debugged}
-use Rattle.beam_debug.specs.Room.{AreRising}
+use Rattle.beam_debug.specs.Debugger.{capacity_of}
+use Rattle.beam_debug.specs.DebuggedNode.{debugged}
+use Rattle.beam_debug.specs.Capacity.{AreRising}
 use Rattle.beam_debug.proofs.Installs.{ends_at_spot, replies_with, slices_run, slices_stop}
-use Rattle.beam_debug.proofs.Rooms.{higher, place_left}
+use Rattle.beam_debug.proofs.Capacities.{higher, place_left}
 use Rattle.beam_debug.proofs.installing.install.Goals as goal
 
 pub put-requires : goal.put-requires
 put-requires c =
-    let d : Debugged = debugged c.args.core.now c.args.marks.now in
+    let d : Debugged = debugged c.args.core.now c.args.debug.now in
     let pid : ℕ = c.args.pid in
     let pids = c.make_room.new.held in
-    let less : pid < vec_capacity pids = c.in_ok-make_room.ensures.room in
+    let less : pid < vec_capacity pids = c.in_ok-make_room.ensures.capacity in
     let same : pids.items ≡ d.held = c.make_room.ensures.items in
     let rising : AreRising 0 (vec_capacity pids) pids.items
-    = subst (λ ns. AreRising 0 (vec_capacity pids) ns) (sym same) (higher 0 (room_of c.args.marks.now) (vec_capacity pids) d.held c.make_room.ensures.kept c.requires.room.held) in
+    = subst (λ ns. AreRising 0 (vec_capacity pids) ns) (sym same) (higher 0 (capacity_of c.args.debug.now) (vec_capacity pids) d.held c.make_room.ensures.kept c.requires.capacity.held) in
     let out = c.requires.rows in
     let free : is_among pid pids.items ≡ false = ap (is_among pid) same ∙ subst (λ n. is_among n d.held ≡ false) out.own out.can.1.1 in
     let from : 0 ≤ pid = omega arith in
@@ -32,7 +32,7 @@ put-requires c =
 
 pub returns-in-AtSpot-clause-next : goal.returns-in-AtSpot-clause-next
 returns-in-AtSpot-clause-next c =
-    let d : Debugged = debugged c.args.core.now c.args.marks.now in
+    let d : Debugged = debugged c.args.core.now c.args.debug.now in
     let rows : Private = c.args.rows in
     let pid : ℕ = c.args.pid in
     let count : ℕ = c.rows_done-count.result in
@@ -43,11 +43,11 @@ returns-in-AtSpot-clause-next c =
     let does : Installed c.args.core.now pid rows after t = c.in_ok-then.ensures.ok in
     let held : c.put.new.pids.items ≡ with_pid pid d.held = c.put.ensures.items ∙ ap (with_pid pid) c.make_room.ensures.items in
     replies_with _ (Held count) t d.spots (with_pid pid d.held) (passes_on count pid d.passing) c.put.new.pids.items c.pass_on.new.passing.items _
-    (slices_stop d pid count rows after t c.requires.rows does counts (sym end ∙ ap end_of c.in-AtSpot.is)) held c.pass_on.ensures c.settle.ensures.marks
+    (slices_stop d pid count rows after t c.requires.rows does counts (sym end ∙ ap end_of c.in-AtSpot.is)) held c.pass_on.ensures c.settle.ensures.debug
 
 pub returns : goal.returns
 returns c =
-    let d : Debugged = debugged c.args.core.now c.args.marks.now in
+    let d : Debugged = debugged c.args.core.now c.args.debug.now in
     let rows : Private = c.args.rows in
     let pid : ℕ = c.args.pid in
     let count : ℕ = c.rows_done-count.result in
@@ -58,12 +58,12 @@ returns c =
     let does : Installed c.args.core.now pid rows after t = c.in_ok-then.ensures.ok in
     record {
       next = replies_with _ (Node (Ran count after)) t d.spots d.held (passes_on count pid d.passing) c.make_room.new.held.items c.pass_on.new.passing.items _
-          (slices_run d pid count rows after t c.requires.rows does counts (λ e. c.in_default.not-AtSpot (ends_at_spot c.rows.inside.end (end ∙ e)))) c.make_room.ensures.items c.pass_on.ensures c.settle-2.ensures.marks;
+          (slices_run d pid count rows after t c.requires.rows does counts (λ e. c.in_default.not-AtSpot (ends_at_spot c.rows.inside.end (end ∙ e)))) c.make_room.ensures.items c.pass_on.ensures c.settle-2.ensures.debug;
       err = tt;
       refused = tt;
       quiet = λ quiet. tt;
-      room = omega (arith, c.make_room.ensures.kept, c.settle-2.ensures.room);
+      capacity = omega (arith, c.make_room.ensures.kept, c.settle-2.ensures.capacity);
       begun =
-          let made : pid < vec_capacity c.make_room.new.held = c.in_ok-make_room.ensures.room in
-          omega (arith, made, c.settle-2.ensures.room);
+          let made : pid < vec_capacity c.make_room.new.held = c.in_ok-make_room.ensures.capacity in
+          omega (arith, made, c.settle-2.ensures.capacity);
     }

@@ -6,36 +6,36 @@ use Rattle.beam_machine.specs.Debug.{Debugged, is_among}
 use Rattle.beam_machine.specs.State.{process_of}
 use Rattle.beam_core.specs.Halt.{HaltsAt}
 use Rattle.beam_debug.specs.Answers.{answer_of}
-use Rattle.beam_debug.specs.Debugger.{room_of}
-use Rattle.beam_debug.specs.Marks.{debugged}
-use Rattle.beam_debug.specs.Room.{AreRising}
+use Rattle.beam_debug.specs.Debugger.{capacity_of}
+use Rattle.beam_debug.specs.DebuggedNode.{debugged}
+use Rattle.beam_debug.specs.Capacity.{AreRising}
 use Rattle.beam_debug.proofs.Accepted.{loud_if, rows_may}
-use Rattle.beam_debug.proofs.Answered.{some_rows}
+use Rattle.beam_debug.proofs.RowsToSpot.{some_rows}
 use Rattle.beam_debug.proofs.Debugging.{option_lives}
-use Rattle.beam_debug.proofs.Rooms.{first_row_loud, higher, place_left}
+use Rattle.beam_debug.proofs.Capacities.{first_row_loud, higher, place_left}
 use Rattle.beam_debug.proofs.steps.run_to_spot.Goals as goal
 
 pub returns-in_err-make_room_for-clause-memory : goal.returns-in_err-make_room_for-clause-memory
 returns-in_err-make_room_for-clause-memory c =
-    let d : Debugged = debugged c.args.core.now c.args.marks.now in
+    let d : Debugged = debugged c.args.core.now c.args.debug.now in
     rows_may d c.args.pid c.args.rows _ c.requires.runs c.requires.free c.in_err-make_room_for.ensures.needed.0
 
 pub returns-in_err-make_room_for-clause-loud : goal.returns-in_err-make_room_for-clause-loud
 returns-in_err-make_room_for-clause-loud c =
-    let d : Debugged = debugged c.args.core.now c.args.marks.now in
+    let d : Debugged = debugged c.args.core.now c.args.debug.now in
     let p = option_lives (process_of d.node.processes c.args.pid) c.requires.runs in
     let is : answer_of c.from_residual.result ≡ Err NoMemory = search rules in
     loud_if d _ c.args.pid c.args.rows (answer_of c.from_residual.result) is
-    (first_row_loud d (room_of c.args.marks.now) c.args.pid p.0 c.requires.room p.1 c.in_err-make_room_for.ensures.needed.1)
+    (first_row_loud d (capacity_of c.args.debug.now) c.args.pid p.0 c.requires.capacity p.1 c.in_err-make_room_for.ensures.needed.1)
 
 pub returns-in_err-count-clause-memory : goal.returns-in_err-count-clause-memory
 returns-in_err-count-clause-memory c =
-    let d : Debugged = debugged c.args.core.now c.args.marks.now in
+    let d : Debugged = debugged c.args.core.now c.args.debug.now in
     rows_may d c.args.pid c.args.rows _ c.requires.runs c.requires.free c.in_err-count.ensures.memory
 
 pub put-requires : goal.put-requires
 put-requires c =
-    let spots = c.args.marks.now.spots.items in
+    let spots = c.args.debug.now.spots.items in
     let passes = c.is_among-passes.result in
     let pid = c.args.pid in
     let n = c.args.rows in
@@ -47,10 +47,10 @@ put-requires c =
     let halts : HaltsAt spots passes pid n s (Ok (count, None)) t = subst (λ (xs : List Place). HaltsAt xs passes pid n s (Ok (count, None)) t) seen stops in
     let some : 0 < n = some_rows spots passes pid n count s t halts in
     let pids = c.make_room_for.new.held in
-    let less : pid < vec_capacity pids = c.in_ok-make_room_for.ensures.room some in
-    let same : pids.items ≡ c.args.marks.now.held.items = c.make_room_for.ensures.items in
+    let less : pid < vec_capacity pids = c.in_ok-make_room_for.ensures.capacity some in
+    let same : pids.items ≡ c.args.debug.now.held.items = c.make_room_for.ensures.items in
     let rising : AreRising 0 (vec_capacity pids) pids.items
-    = subst (λ ns. AreRising 0 (vec_capacity pids) ns) (sym same) (higher 0 (room_of c.args.marks.now) (vec_capacity pids) c.args.marks.now.held.items c.make_room_for.ensures.kept c.requires.room.held) in
+    = subst (λ ns. AreRising 0 (vec_capacity pids) ns) (sym same) (higher 0 (capacity_of c.args.debug.now) (vec_capacity pids) c.args.debug.now.held.items c.make_room_for.ensures.kept c.requires.capacity.held) in
     let free : is_among pid pids.items ≡ false = ap (is_among pid) same ∙ c.requires.free in
     let from : 0 ≤ pid = omega arith in
     let left : 0 + length pids.items < vec_capacity pids = place_left 0 (vec_capacity pids) pid pids.items from less rising free in

@@ -3,13 +3,13 @@ use Rattle.std.specs.Prelude.{Some}
 use Rattle.beam_machine.specs.declared.event.Then.TheVariants.{GoesOn}
 use Rattle.beam_machine.specs.Debug.{Debugged, is_among}
 use Rattle.beam_debug.specs.Halt.{then_at}
-use Rattle.beam_debug.specs.Marks.{debugged}
+use Rattle.beam_debug.specs.DebuggedNode.{debugged}
 use Rattle.beam_debug.proofs.Accepted.{step_may}
 use Rattle.beam_debug.proofs.steps.step_one.Goals as goal
 
 pub returns-in_err-then-clause-memory : goal.returns-in_err-then-clause-memory
 returns-in_err-then-clause-memory c =
-    let d : Debugged = debugged c.args.core.now c.args.marks.now in
+    let d : Debugged = debugged c.args.core.now c.args.debug.now in
     let runs : then_at d.node c.args.pid ≡ Some GoesOn = search rules in
     let held : is_among c.args.pid d.held ≡ true = search rules in
     step_may d c.args.pid _ runs held

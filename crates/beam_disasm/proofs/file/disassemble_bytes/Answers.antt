@@ -1,5 +1,5 @@
 use Rattle.beam_iff.specs.Chunks.{form_of}
-use Rattle.beam_disasm.proofs.Answered.{given, spelled, only}
+use Rattle.beam_disasm.proofs.ReadResults.{given, spelled, only}
 use Rattle.beam_disasm.proofs.file.disassemble_bytes.Goals as goal
 
 -- bytes that aren't a form aren't a file

@@ -1,6 +1,6 @@
 use Rattle.beam_model.specs.Text.{text_of}
-use Rattle.beam_erltext.proofs.AgainTerms.{text_again}
-use Rattle.beam_erltext.proofs.Spelled.{text_spelled}
+use Rattle.beam_erltext.proofs.TermRoundTrip.{text_again}
+use Rattle.beam_erltext.proofs.ReadingSound.{text_spelled}
 use Rattle.beam_erltext.proofs.law.printed_text_is_read.Goals as goal
 
 pub returns-clause-read : goal.returns-clause-read

@@ -1,4 +1,4 @@
-use Rattle.beam_erltext.proofs.Found.{one_value}
+use Rattle.beam_erltext.proofs.ReadingComplete.{one_value}
 use Rattle.beam_erltext.proofs.law.text_has_one_value.Goals as goal
 
 pub returns : goal.returns

@@ -4,21 +4,21 @@ use Rattle.beam_term.specs.TermValue.{TermValue, terms_of, list_before, tuple_of
 use Rattle.beam_term.specs.Elements.{items_depth-push}
 use Rattle.beam_model.specs.TextReading.{with_front, items_after, closed_by, tail_by, term_at, pairs_at, items_by}
 use Rattle.beam_erltext.specs.Puts.{tuple_elements_at}
-use Rattle.beam_erltext.specs.declared.fault.Fault.TheVariants as faults
+use Rattle.beam_erltext.specs.declared.read_fault.ReadFault.TheVariants as faults
 use Rattle.beam_erltext.proofs.Items.{IsLeft, item_faults, items_spent, after}
 use Rattle.beam_erltext.proofs.Pairs.{before_list, then_closed, as_tuple, tuple_long, tuple_short, pairs_item, pairs_end, pairs_none, fits_more}
 use Rattle.beam_erltext.proofs.Stack.{puts_stop, puts_term_stop, stopped_in, one_more}
 use Rattle.beam_erltext.proofs.read.+read.Goals as goal
 
 pub read_list-returns-then-left-eq0 : goal.read_list-returns-then-left-eq0
-read_list-returns-then-left-eq0 t c = pairs_none c.elements.invariant.1 c.elements.left c.elements.text.now (pairs_at c.args.room c.args.text.now.now) c.if-left-eq0.true c.elements.invariant.3
+read_list-returns-then-left-eq0 t c = pairs_none c.elements.invariant.1 c.elements.left c.elements.text.now (pairs_at c.args.depth_left c.args.text.now.now) c.if-left-eq0.true c.elements.invariant.3
 
 pub read_list-returns-in_err-read : goal.read_list-returns-in_err-read
 read_list-returns-in_err-read t c =
     let d = c.elements.left - 1 in
     let part : c.elements.left ≡ suc (c.elements.left - 1) = omega (arith, c.if-left-eq0.false) in
     let front = c.elements.invariant.1 in
-    let total = pairs_at c.args.room c.args.text.now.now in
+    let total = pairs_at c.args.depth_left c.args.text.now.now in
     puts_stop _ _ _ _ _ _ c.from_residual.result c.in_err-read.field-0.0 c.from_residual.ensures.1
     (stopped_in (term_at d c.elements.text.now) total c.read.new.place c.in_err-read.field-0.0
     (λ e h. pairs_end e front c.elements.left d c.elements.text.now total part h c.elements.invariant.3) c.in_err-read.ensures)
@@ -29,7 +29,7 @@ read_list-returns-in_err-after_element t c =
     let part : c.elements.left ≡ suc (c.elements.left - 1) = omega (arith, c.if-left-eq0.false) in
     let front = c.elements.invariant.1 in
     let x = c.in_ok-read.ensures.0 in
-    let total = pairs_at c.args.room c.args.text.now.now in
+    let total = pairs_at c.args.depth_left c.args.text.now.now in
     let so_far : before_list (front ++ x ∷ []) (tail_by (term_at d) (pairs_at d) c.read.new.text.now) ≡ total =
     pairs_item front c.elements.left d c.elements.text.now x c.read.new.text.now total part c.in_ok-read.ensures.2 c.elements.invariant.3 in
     puts_stop _ _ _ _ _ _ c.from_residual-in_err-after_element.result c.in_err-after_element.field-0.0 c.from_residual-in_err-after_element.ensures.1
@@ -42,11 +42,11 @@ read_list-elements-preserved t c =
     let part : c.elements.left ≡ suc (c.elements.left - 1) = omega (arith, c.if-left-eq0.false) in
     let front = c.elements.invariant.1 in
     let x = c.in_ok-read.ensures.0 in
-    let total = pairs_at c.args.room c.args.text.now.now in
+    let total = pairs_at c.args.depth_left c.args.text.now.now in
     let so_far : before_list (front ++ x ∷ []) (tail_by (term_at d) (pairs_at d) c.read.new.text.now) ≡ total =
     pairs_item front c.elements.left d c.elements.text.now x c.read.new.text.now total part c.in_ok-read.ensures.2 c.elements.invariant.3 in
     let done = one_more c.args.done.now.items front c.elements.done.items c.read.new.done.items x c.elements.invariant.2 c.in_ok-read.ensures.1 in
-    let fits = fits_more front x c.elements.left d c.args.room c.elements.invariant.4 part c.in_ok-read.ensures.3 in
+    let fits = fits_more front x c.elements.left d c.args.depth_left c.elements.invariant.4 part c.in_ok-read.ensures.3 in
     let behind = rw c.in-Element.is at c.in_ok-after_element.ensures in (
       omega (arith, c.elements.invariant.0),
       front ++ x ∷ [],
@@ -61,11 +61,11 @@ read_list-returns-in_err-put_list-in-End t c =
     let part : c.elements.left ≡ suc (c.elements.left - 1) = omega (arith, c.if-left-eq0.false) in
     let front = c.elements.invariant.1 in
     let x = c.in_ok-read.ensures.0 in
-    let total = pairs_at c.args.room c.args.text.now.now in
+    let total = pairs_at c.args.depth_left c.args.text.now.now in
     let so_far : before_list (front ++ x ∷ []) (tail_by (term_at d) (pairs_at d) c.read.new.text.now) ≡ total =
     pairs_item front c.elements.left d c.elements.text.now x c.read.new.text.now total part c.in_ok-read.ensures.2 c.elements.invariant.3 in
     let done = one_more c.args.done.now.items front c.elements.done.items c.read.new.done.items x c.elements.invariant.2 c.in_ok-read.ensures.1 in
-    let fits = fits_more front x c.elements.left d c.args.room c.elements.invariant.4 part c.in_ok-read.ensures.3 in
+    let fits = fits_more front x c.elements.left d c.args.depth_left c.elements.invariant.4 part c.in_ok-read.ensures.3 in
     let len : length c.args.done.now.items ≡ c.len-start.result = omega (arith, c.args.done.now.ok, c.len-start.ensures) in
     let all = one_more c.args.done.now.items (front ++ x ∷ []) c.read.new.done.items c.push.new.self.items c.nil.result done c.in_ok-push-in-End.ensures.items in
     let deep = fits c.nil.result (omega (arith, ap depth_of c.nil.ensures)) in
@@ -78,11 +78,11 @@ read_list-returns-in-End t c =
     let part : c.elements.left ≡ suc (c.elements.left - 1) = omega (arith, c.if-left-eq0.false) in
     let front = c.elements.invariant.1 in
     let x = c.in_ok-read.ensures.0 in
-    let total = pairs_at c.args.room c.args.text.now.now in
+    let total = pairs_at c.args.depth_left c.args.text.now.now in
     let so_far : before_list (front ++ x ∷ []) (tail_by (term_at d) (pairs_at d) c.read.new.text.now) ≡ total =
     pairs_item front c.elements.left d c.elements.text.now x c.read.new.text.now total part c.in_ok-read.ensures.2 c.elements.invariant.3 in
     let done = one_more c.args.done.now.items front c.elements.done.items c.read.new.done.items x c.elements.invariant.2 c.in_ok-read.ensures.1 in
-    let fits = fits_more front x c.elements.left d c.args.room c.elements.invariant.4 part c.in_ok-read.ensures.3 in
+    let fits = fits_more front x c.elements.left d c.args.depth_left c.elements.invariant.4 part c.in_ok-read.ensures.3 in
     let len : length c.args.done.now.items ≡ c.len-start.result = omega (arith, c.args.done.now.ok, c.len-start.ensures) in
     let behind = rw c.in-End.is at c.in_ok-after_element.ensures in
     let all = one_more c.args.done.now.items (front ++ x ∷ []) c.read.new.done.items c.push.new.self.items c.nil.result done c.in_ok-push-in-End.ensures.items in
@@ -101,7 +101,7 @@ read_list-returns-in_err-read-in-Tail t c =
     let part : c.elements.left ≡ suc (c.elements.left - 1) = omega (arith, c.if-left-eq0.false) in
     let front = c.elements.invariant.1 in
     let x = c.in_ok-read.ensures.0 in
-    let total = pairs_at c.args.room c.args.text.now.now in
+    let total = pairs_at c.args.depth_left c.args.text.now.now in
     let so_far : before_list (front ++ x ∷ []) (tail_by (term_at d) (pairs_at d) c.read.new.text.now) ≡ total =
     pairs_item front c.elements.left d c.elements.text.now x c.read.new.text.now total part c.in_ok-read.ensures.2 c.elements.invariant.3 in
     let behind = rw c.in-Tail.is at c.in_ok-after_element.ensures in
@@ -115,7 +115,7 @@ read_list-returns-in_err-close-in-Tail t c =
     let part : c.elements.left ≡ suc (c.elements.left - 1) = omega (arith, c.if-left-eq0.false) in
     let front = c.elements.invariant.1 in
     let x = c.in_ok-read.ensures.0 in
-    let total = pairs_at c.args.room c.args.text.now.now in
+    let total = pairs_at c.args.depth_left c.args.text.now.now in
     let so_far : before_list (front ++ x ∷ []) (tail_by (term_at d) (pairs_at d) c.read.new.text.now) ≡ total =
     pairs_item front c.elements.left d c.elements.text.now x c.read.new.text.now total part c.in_ok-read.ensures.2 c.elements.invariant.3 in
     let behind = rw c.in-Tail.is at c.in_ok-after_element.ensures in
@@ -130,11 +130,11 @@ read_list-returns-in_err-put_list-in-Tail t c =
     let part : c.elements.left ≡ suc (c.elements.left - 1) = omega (arith, c.if-left-eq0.false) in
     let front = c.elements.invariant.1 in
     let x = c.in_ok-read.ensures.0 in
-    let total = pairs_at c.args.room c.args.text.now.now in
+    let total = pairs_at c.args.depth_left c.args.text.now.now in
     let so_far : before_list (front ++ x ∷ []) (tail_by (term_at d) (pairs_at d) c.read.new.text.now) ≡ total =
     pairs_item front c.elements.left d c.elements.text.now x c.read.new.text.now total part c.in_ok-read.ensures.2 c.elements.invariant.3 in
     let done = one_more c.args.done.now.items front c.elements.done.items c.read.new.done.items x c.elements.invariant.2 c.in_ok-read.ensures.1 in
-    let fits = fits_more front x c.elements.left d c.args.room c.elements.invariant.4 part c.in_ok-read.ensures.3 in
+    let fits = fits_more front x c.elements.left d c.args.depth_left c.elements.invariant.4 part c.in_ok-read.ensures.3 in
     let len : length c.args.done.now.items ≡ c.len-start.result = omega (arith, c.args.done.now.ok, c.len-start.ensures) in
     let tail = c.in_ok-read-in-Tail.ensures.0 in
     let all = one_more c.args.done.now.items (front ++ x ∷ []) c.read.new.done.items c.read-in-Tail.new.done.items tail done c.in_ok-read-in-Tail.ensures.1 in
@@ -148,11 +148,11 @@ read_list-returns-in-Tail t c =
     let part : c.elements.left ≡ suc (c.elements.left - 1) = omega (arith, c.if-left-eq0.false) in
     let front = c.elements.invariant.1 in
     let x = c.in_ok-read.ensures.0 in
-    let total = pairs_at c.args.room c.args.text.now.now in
+    let total = pairs_at c.args.depth_left c.args.text.now.now in
     let so_far : before_list (front ++ x ∷ []) (tail_by (term_at d) (pairs_at d) c.read.new.text.now) ≡ total =
     pairs_item front c.elements.left d c.elements.text.now x c.read.new.text.now total part c.in_ok-read.ensures.2 c.elements.invariant.3 in
     let done = one_more c.args.done.now.items front c.elements.done.items c.read.new.done.items x c.elements.invariant.2 c.in_ok-read.ensures.1 in
-    let fits = fits_more front x c.elements.left d c.args.room c.elements.invariant.4 part c.in_ok-read.ensures.3 in
+    let fits = fits_more front x c.elements.left d c.args.depth_left c.elements.invariant.4 part c.in_ok-read.ensures.3 in
     let len : length c.args.done.now.items ≡ c.len-start.result = omega (arith, c.args.done.now.ok, c.len-start.ensures) in
     let behind = rw c.in-Tail.is at c.in_ok-after_element.ensures in
     let tail = c.in_ok-read-in-Tail.ensures.0 in
@@ -168,36 +168,36 @@ pub read_tuple-returns-in_err-read : goal.read_tuple-returns-in_err-read
 read_tuple-returns-in_err-read t c =
     let text = c.args.text.now.now in
     let front = c.loop.invariant.0 in
-    let total = items_by (term_at (c.args.room - 1)) (length text) text in
-    let left : IsLeft (term_at (c.args.room - 1)) front (length text) c.loop.counter c.loop.text.now total = record { more = omega (arith, c.loop-test.true); completes = c.loop.invariant.2 } in
+    let total = items_by (term_at (c.args.depth_left - 1)) (length text) text in
+    let left : IsLeft (term_at (c.args.depth_left - 1)) front (length text) c.loop.counter c.loop.text.now total = record { more = omega (arith, c.loop-test.true); completes = c.loop.invariant.2 } in
     puts_stop _ _ _ _ _ _ c.from_residual.result c.in_err-read.field-0.0 c.from_residual.ensures.1
-    (stopped_in (term_at (c.args.room - 1) c.loop.text.now) (tuple_elements_at (c.args.room - 1) text) c.read.new.place c.in_err-read.field-0.0
-    (λ e h. ap (as_tuple text) (item_faults (faults.At e) (term_at (c.args.room - 1)) front (length text) c.loop.counter c.loop.text.now total left h)) c.in_err-read.ensures)
+    (stopped_in (term_at (c.args.depth_left - 1) c.loop.text.now) (tuple_elements_at (c.args.depth_left - 1) text) c.read.new.place c.in_err-read.field-0.0
+    (λ e h. ap (as_tuple text) (item_faults (faults.At e) (term_at (c.args.depth_left - 1)) front (length text) c.loop.counter c.loop.text.now total left h)) c.in_err-read.ensures)
 
 pub read_tuple-returns-in_err-after_item : goal.read_tuple-returns-in_err-after_item
 read_tuple-returns-in_err-after_item t c =
     let text = c.args.text.now.now in
     let front = c.loop.invariant.0 in
-    let total = items_by (term_at (c.args.room - 1)) (length text) text in
-    let left : IsLeft (term_at (c.args.room - 1)) front (length text) c.loop.counter c.loop.text.now total = record { more = omega (arith, c.loop-test.true); completes = c.loop.invariant.2 } in
+    let total = items_by (term_at (c.args.depth_left - 1)) (length text) text in
+    let left : IsLeft (term_at (c.args.depth_left - 1)) front (length text) c.loop.counter c.loop.text.now total = record { more = omega (arith, c.loop-test.true); completes = c.loop.invariant.2 } in
     let x = c.in_ok-read.ensures.0 in
-    let others = items_by (term_at (c.args.room - 1)) (length text - (c.loop.counter + 1)) in
-    let so_far = after (term_at (c.args.room - 1)) front (length text) c.loop.counter c.loop.text.now total x c.read.new.text.now left c.in_ok-read.ensures.2 in
+    let others = items_by (term_at (c.args.depth_left - 1)) (length text - (c.loop.counter + 1)) in
+    let so_far = after (term_at (c.args.depth_left - 1)) front (length text) c.loop.counter c.loop.text.now total x c.read.new.text.now left c.in_ok-read.ensures.2 in
     puts_stop _ _ _ _ _ _ c.from_residual-in_err-after_item.result c.in_err-after_item.field-0.0 c.from_residual-in_err-after_item.ensures.1
-    (stopped_in (items_after others c.read.new.text.now) (tuple_elements_at (c.args.room - 1) text) c.after_item.new.place c.in_err-after_item.field-0.0
+    (stopped_in (items_after others c.read.new.text.now) (tuple_elements_at (c.args.depth_left - 1) text) c.after_item.new.place c.in_err-after_item.field-0.0
     (λ e h. ap (as_tuple text) (sym so_far ∙ ap (with_front (front ++ x ∷ [])) h)) (c.in_err-after_item.ensures others))
 
 pub read_tuple-returns-then-len-start : goal.read_tuple-returns-then-len-start
 read_tuple-returns-then-len-start t c =
     let text = c.args.text.now.now in
     let front = c.loop.invariant.0 in
-    let total = items_by (term_at (c.args.room - 1)) (length text) text in
-    let left : IsLeft (term_at (c.args.room - 1)) front (length text) c.loop.counter c.loop.text.now total = record { more = omega (arith, c.loop-test.true); completes = c.loop.invariant.2 } in
+    let total = items_by (term_at (c.args.depth_left - 1)) (length text) text in
+    let left : IsLeft (term_at (c.args.depth_left - 1)) front (length text) c.loop.counter c.loop.text.now total = record { more = omega (arith, c.loop-test.true); completes = c.loop.invariant.2 } in
     let x = c.in_ok-read.ensures.0 in
-    let others = items_by (term_at (c.args.room - 1)) (length text - (c.loop.counter + 1)) in
-    let so_far = after (term_at (c.args.room - 1)) front (length text) c.loop.counter c.loop.text.now total x c.read.new.text.now left c.in_ok-read.ensures.2 in
+    let others = items_by (term_at (c.args.depth_left - 1)) (length text - (c.loop.counter + 1)) in
+    let so_far = after (term_at (c.args.depth_left - 1)) front (length text) c.loop.counter c.loop.text.now total x c.read.new.text.now left c.in_ok-read.ensures.2 in
     let done = one_more c.args.done.now.items front c.loop.done.items c.read.new.done.items x c.loop.invariant.1 c.in_ok-read.ensures.1 in
-    let shallow : items_depth (terms_of (front ++ x ∷ [])) ≤ c.args.room - 1 = omega (arith, items_depth-push front x, c.loop.invariant.3, c.in_ok-read.ensures.3) in
+    let shallow : items_depth (terms_of (front ++ x ∷ [])) ≤ c.args.depth_left - 1 = omega (arith, items_depth-push front x, c.loop.invariant.3, c.in_ok-read.ensures.3) in
     let end = rw c.if-not-branch.true at c.in_ok-after_item.ensures in
     let ended : total ≡ Ok (front ++ x ∷ [], c.after_item.new.text.now) =
     sym so_far ∙ ap (with_front (front ++ x ∷ [])) (end others) ∙ ap (λ (xs : List TermValue). Ok (xs, c.after_item.new.text.now)) (append-nil (front ++ x ∷ [])) in
@@ -210,13 +210,13 @@ pub read_tuple-returns-in_err-put_tuple : goal.read_tuple-returns-in_err-put_tup
 read_tuple-returns-in_err-put_tuple t c =
     let text = c.args.text.now.now in
     let front = c.loop.invariant.0 in
-    let total = items_by (term_at (c.args.room - 1)) (length text) text in
-    let left : IsLeft (term_at (c.args.room - 1)) front (length text) c.loop.counter c.loop.text.now total = record { more = omega (arith, c.loop-test.true); completes = c.loop.invariant.2 } in
+    let total = items_by (term_at (c.args.depth_left - 1)) (length text) text in
+    let left : IsLeft (term_at (c.args.depth_left - 1)) front (length text) c.loop.counter c.loop.text.now total = record { more = omega (arith, c.loop-test.true); completes = c.loop.invariant.2 } in
     let x = c.in_ok-read.ensures.0 in
-    let others = items_by (term_at (c.args.room - 1)) (length text - (c.loop.counter + 1)) in
-    let so_far = after (term_at (c.args.room - 1)) front (length text) c.loop.counter c.loop.text.now total x c.read.new.text.now left c.in_ok-read.ensures.2 in
+    let others = items_by (term_at (c.args.depth_left - 1)) (length text - (c.loop.counter + 1)) in
+    let so_far = after (term_at (c.args.depth_left - 1)) front (length text) c.loop.counter c.loop.text.now total x c.read.new.text.now left c.in_ok-read.ensures.2 in
     let done = one_more c.args.done.now.items front c.loop.done.items c.read.new.done.items x c.loop.invariant.1 c.in_ok-read.ensures.1 in
-    let shallow : items_depth (terms_of (front ++ x ∷ [])) ≤ c.args.room - 1 = omega (arith, items_depth-push front x, c.loop.invariant.3, c.in_ok-read.ensures.3) in
+    let shallow : items_depth (terms_of (front ++ x ∷ [])) ≤ c.args.depth_left - 1 = omega (arith, items_depth-push front x, c.loop.invariant.3, c.in_ok-read.ensures.3) in
     let all : length c.read.new.done.items ≡ length c.args.done.now.items + length (front ++ x ∷ []) = ap length done ∙ length-append c.args.done.now.items (front ++ x ∷ []) in
     let len : length c.args.done.now.items ≡ c.len-start.result = omega (arith, c.args.done.now.ok, c.len-start.ensures) in
     let short : length (front ++ x ∷ []) < 2 ^ 32 = omega (arith, c.if-len-start.false, c.len.ensures, len, c.read.new.done.ok, all) in
@@ -230,13 +230,13 @@ pub read_tuple-returns-then-not-branch : goal.read_tuple-returns-then-not-branch
 read_tuple-returns-then-not-branch t c =
     let text = c.args.text.now.now in
     let front = c.loop.invariant.0 in
-    let total = items_by (term_at (c.args.room - 1)) (length text) text in
-    let left : IsLeft (term_at (c.args.room - 1)) front (length text) c.loop.counter c.loop.text.now total = record { more = omega (arith, c.loop-test.true); completes = c.loop.invariant.2 } in
+    let total = items_by (term_at (c.args.depth_left - 1)) (length text) text in
+    let left : IsLeft (term_at (c.args.depth_left - 1)) front (length text) c.loop.counter c.loop.text.now total = record { more = omega (arith, c.loop-test.true); completes = c.loop.invariant.2 } in
     let x = c.in_ok-read.ensures.0 in
-    let others = items_by (term_at (c.args.room - 1)) (length text - (c.loop.counter + 1)) in
-    let so_far = after (term_at (c.args.room - 1)) front (length text) c.loop.counter c.loop.text.now total x c.read.new.text.now left c.in_ok-read.ensures.2 in
+    let others = items_by (term_at (c.args.depth_left - 1)) (length text - (c.loop.counter + 1)) in
+    let so_far = after (term_at (c.args.depth_left - 1)) front (length text) c.loop.counter c.loop.text.now total x c.read.new.text.now left c.in_ok-read.ensures.2 in
     let done = one_more c.args.done.now.items front c.loop.done.items c.read.new.done.items x c.loop.invariant.1 c.in_ok-read.ensures.1 in
-    let shallow : items_depth (terms_of (front ++ x ∷ [])) ≤ c.args.room - 1 = omega (arith, items_depth-push front x, c.loop.invariant.3, c.in_ok-read.ensures.3) in
+    let shallow : items_depth (terms_of (front ++ x ∷ [])) ≤ c.args.depth_left - 1 = omega (arith, items_depth-push front x, c.loop.invariant.3, c.in_ok-read.ensures.3) in
     let end = rw c.if-not-branch.true at c.in_ok-after_item.ensures in
     let ended : total ≡ Ok (front ++ x ∷ [], c.after_item.new.text.now) =
     sym so_far ∙ ap (with_front (front ++ x ∷ [])) (end others) ∙ ap (λ (xs : List TermValue). Ok (xs, c.after_item.new.text.now)) (append-nil (front ++ x ∷ [])) in
@@ -253,13 +253,13 @@ pub read_tuple-loop-preserved : goal.read_tuple-loop-preserved
 read_tuple-loop-preserved t c =
     let text = c.args.text.now.now in
     let front = c.loop.invariant.0 in
-    let total = items_by (term_at (c.args.room - 1)) (length text) text in
-    let left : IsLeft (term_at (c.args.room - 1)) front (length text) c.loop.counter c.loop.text.now total = record { more = omega (arith, c.loop-test.true); completes = c.loop.invariant.2 } in
+    let total = items_by (term_at (c.args.depth_left - 1)) (length text) text in
+    let left : IsLeft (term_at (c.args.depth_left - 1)) front (length text) c.loop.counter c.loop.text.now total = record { more = omega (arith, c.loop-test.true); completes = c.loop.invariant.2 } in
     let x = c.in_ok-read.ensures.0 in
-    let others = items_by (term_at (c.args.room - 1)) (length text - (c.loop.counter + 1)) in
-    let so_far = after (term_at (c.args.room - 1)) front (length text) c.loop.counter c.loop.text.now total x c.read.new.text.now left c.in_ok-read.ensures.2 in
+    let others = items_by (term_at (c.args.depth_left - 1)) (length text - (c.loop.counter + 1)) in
+    let so_far = after (term_at (c.args.depth_left - 1)) front (length text) c.loop.counter c.loop.text.now total x c.read.new.text.now left c.in_ok-read.ensures.2 in
     let done = one_more c.args.done.now.items front c.loop.done.items c.read.new.done.items x c.loop.invariant.1 c.in_ok-read.ensures.1 in
-    let shallow : items_depth (terms_of (front ++ x ∷ [])) ≤ c.args.room - 1 = omega (arith, items_depth-push front x, c.loop.invariant.3, c.in_ok-read.ensures.3) in
+    let shallow : items_depth (terms_of (front ++ x ∷ [])) ≤ c.args.depth_left - 1 = omega (arith, items_depth-push front x, c.loop.invariant.3, c.in_ok-read.ensures.3) in
     let more = rw c.if-not-branch.false at c.in_ok-after_item.ensures in (
       front ++ x ∷ [],
       done,
@@ -271,4 +271,4 @@ pub read_tuple-returns : goal.read_tuple-returns
 read_tuple-returns t c =
     let text = c.args.text.now.now in
     ap (as_tuple text)
-    (items_spent (term_at (c.args.room - 1)) c.loop.invariant.0 (length text) c.loop.counter c.loop.text.now (items_by (term_at (c.args.room - 1)) (length text) text) c.loop-test.false c.loop.invariant.2)
+    (items_spent (term_at (c.args.depth_left - 1)) c.loop.invariant.0 (length text) c.loop.counter c.loop.text.now (items_by (term_at (c.args.depth_left - 1)) (length text) text) c.loop-test.false c.loop.invariant.2)

@@ -4,12 +4,12 @@ use Rattle.beam_term.specs.TermValue.{TermValue}
 use Rattle.beam_model.specs.External.{IsExternal}
 use Rattle.beam_model.specs.ExternalReading.{external_at}
 use Rattle.beam_etf.specs.Faults.{fault_of}
-use Rattle.beam_etf.proofs.Again.{external_again}
+use Rattle.beam_etf.proofs.ReadingComplete.{external_again}
 use Rattle.beam_etf.proofs.Cut.{cut_short, exit_cut}
 use Rattle.beam_etf.proofs.Exits.{exit_only, exit_fault}
 use Rattle.beam_etf.proofs.Faults.{external_err}
-use Rattle.beam_etf.proofs.Found.{ok_is}
-use Rattle.beam_etf.proofs.FoundParts.{external_takes}
+use Rattle.beam_etf.proofs.ReadingSound.{ok_is}
+use Rattle.beam_etf.proofs.ReadingSoundParts.{external_takes}
 use Rattle.beam_etf.proofs.reading.read_term.Goals as goal
 
 pub overflow_sub-result : goal.overflow_sub-result

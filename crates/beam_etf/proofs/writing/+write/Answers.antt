@@ -26,9 +26,9 @@ write-returns-in_ok-write_tuple_front-in-Tuple t c =
 pub write_items-write-requires : goal.write_items-write-requires
 write_items-write-requires t c = omega (arith, c.decreases, item_depth c.args.items.now c.loop-item.item-index c.item-item.result (omega arith) c.item-item.is)
 
-pub write_list-returns-then-is_text : goal.write_list-returns-then-is_text
-write_list-returns-then-is_text t c =
-    let is = string_is c.args.head.now c.args.tail.now c.args.list.now c.requires (sym c.is_text.ensures ∙ c.if-is_text.true)
+pub write_list-returns-then-is_byte_list : goal.write_list-returns-then-is_byte_list
+write_list-returns-then-is_byte_list t c =
+    let is = string_is c.args.head.now c.args.tail.now c.args.list.now c.requires (sym c.is_byte_list.ensures ∙ c.if-is_byte_list.true)
     (omega (arith, c.pair_count-count.ensures.value, c.pair_count-count.ensures.few)) in
     subst (λ (o : List ℕ). OnOk c.write_string.result (c.write_string.new.out.items ≡ c.args.out.now.items ++ o)) (sym is) c.write_string.ensures
 
@@ -36,7 +36,7 @@ pub write_list-returns : goal.write_list-returns
 write_list-returns t c =
     let out = c.args.out.now.items in
     let elements = written_part false c.args.head.now ++ written_part true c.args.tail.now in
-    let is = list_is c.args.head.now c.args.tail.now c.args.list.now c.requires (sym c.is_text.ensures ∙ c.if-is_text.false) in
+    let is = list_is c.args.head.now c.args.tail.now c.args.list.now c.requires (sym c.is_byte_list.ensures ∙ c.if-is_byte_list.false) in
     let path =
     ap (λ (o : List ℕ). o ++ elements) c.in_ok-write_list_front.ensures
     ∙ ap (λ (n : ℕ). (out ++ (108 ∷ to_be_bytes w32 n)) ++ elements) c.pair_count-count.ensures.value

@@ -1,4 +1,4 @@
-use Rattle.beam_iff.proofs.Answered.{given, spelled, only, refused}
+use Rattle.beam_iff.proofs.ReadResults.{given, spelled, only, refused}
 use Rattle.beam_iff.proofs.read.chunks.Goals as goal
 
 pub returns-in_err-content-clause-only : goal.returns-in_err-content-clause-only

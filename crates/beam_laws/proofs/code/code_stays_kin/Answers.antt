@@ -1,4 +1,4 @@
-use Rattle.beam_laws.proofs.Answered.{answered_kin}
+use Rattle.beam_laws.proofs.PreservedByAnswers.{answered_kin}
 use Rattle.beam_laws.proofs.Kinship.{own_kin, stays_kin, stay_kin, is_same, same_itself}
 use Rattle.beam_laws.proofs.code.code_stays_kin.Goals as goal
 

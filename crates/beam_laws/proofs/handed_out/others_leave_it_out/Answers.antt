@@ -1,5 +1,5 @@
 use Rattle.beam_laws.proofs.StayingOut.{comes_out, stays_out, stay_out}
-use Rattle.beam_laws.proofs.Answered.{answered_out}
+use Rattle.beam_laws.proofs.PreservedByAnswers.{answered_out}
 use Rattle.beam_laws.proofs.handed_out.others_leave_it_out.Goals as goal
 
 pub returns-clause-start : goal.returns-clause-start

@@ -5,7 +5,7 @@ use Rattle.beam_listing.proofs.forms.stop.Given as goal
 
 abbrev pub invariant-loop-first : goal.invariant-loop-first
 invariant-loop-first l = record {
-  found : stop_from l.mark l.stands (reverse l.brackets.items) l.count l.rest ≡ stop_in l.mark l.text;
+  found : stop_from l.mark l.state (reverse l.brackets.items) l.count l.rest ≡ stop_in l.mark l.text;
   place : l.count + length l.rest ≡ length l.text;
 }
 

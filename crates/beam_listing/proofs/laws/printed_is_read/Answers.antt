@@ -1,4 +1,4 @@
-use Rattle.beam_listing.proofs.Again.{printed_again}
+use Rattle.beam_listing.proofs.RoundTrip.{printed_again}
 use Rattle.beam_listing.proofs.Loads.{loadable_has_text}
 use Rattle.beam_listing.proofs.laws.printed_is_read.Goals as goal
 

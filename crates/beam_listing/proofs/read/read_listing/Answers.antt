@@ -1,6 +1,6 @@
 use Rattle.std.proofs.Common.{◌≡◌, ap, ◌∙◌}
 use Rattle.beam_model.specs.Forms.{uncommented}
-use Rattle.beam_listing.proofs.Answered.{spelled, only}
+use Rattle.beam_listing.proofs.ReadResults.{spelled, only}
 use Rattle.beam_listing.proofs.read.read_listing.Goals as goal
 
 pub returns-clause-spelled : goal.returns-clause-spelled

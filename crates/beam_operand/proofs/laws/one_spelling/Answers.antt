@@ -1,4 +1,4 @@
-use Rattle.beam_operand.proofs.Same.{no_other_spelling}
+use Rattle.beam_operand.proofs.SpellingLaws.{no_other_spelling}
 use Rattle.beam_operand.proofs.laws.one_spelling.Goals as goal
 
 pub returns : goal.returns

@@ -1,4 +1,4 @@
-use Rattle.beam_operand.proofs.Same.{five_short, five_long, literal_3, list_of_two}
+use Rattle.beam_operand.proofs.SpellingLaws.{five_short, five_long, literal_3, list_of_two}
 use Rattle.beam_operand.proofs.laws.worked_bytes.Goals as goal
 
 pub returns-clause-short : goal.returns-clause-short

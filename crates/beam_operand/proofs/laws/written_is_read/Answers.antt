@@ -1,5 +1,5 @@
-use Rattle.beam_operand.proofs.Again.{operand_again}
-use Rattle.beam_operand.proofs.Same.{written_spells}
+use Rattle.beam_operand.proofs.RoundTrip.{operand_again}
+use Rattle.beam_operand.proofs.SpellingLaws.{written_spells}
 use Rattle.beam_operand.proofs.laws.written_is_read.Goals as goal
 
 pub returns-clause-spells : goal.returns-clause-spells

@@ -1,4 +1,4 @@
-use Rattle.beam_operand.proofs.Same.{shortest_spelling}
+use Rattle.beam_operand.proofs.SpellingLaws.{shortest_spelling}
 use Rattle.beam_operand.proofs.laws.written_is_shortest.Goals as goal
 
 pub returns : goal.returns

@@ -1,6 +1,6 @@
 use Rattle.std.proofs.lemmas.Result.{err_from_is_err_and}
 use Rattle.beam_operand.proofs.Fronts.{front, only_at_ok, only_at_err}
-use Rattle.beam_operand.proofs.Same.{told_whole, spelled_whole}
+use Rattle.beam_operand.proofs.SpellingLaws.{told_whole, spelled_whole}
 use Rattle.beam_operand.proofs.Small.{all_small}
 use Rattle.beam_operand.proofs.read.read_operand.Goals as goal
 

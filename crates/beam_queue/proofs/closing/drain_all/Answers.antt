@@ -1,11 +1,11 @@
-use Rattle.beam_queue.proofs.Homes.{last_home, rest_home, one_drained}
+use Rattle.beam_queue.proofs.Draining.{last_has_no_stealers, rest_have_no_stealers, one_drained}
 use Rattle.beam_queue.proofs.closing.drain_all.Goals as goal
 
 pub drain-requires : goal.drain-requires
-drain-requires g c = record { home = last_home _ _ _ c.in-Some.ensures.items c.loop-lane.invariant.0 }
+drain-requires g c = record { no_stealers = last_has_no_stealers _ _ _ c.in-Some.ensures.items c.loop-run_queue.invariant.0 }
 
-pub loop-lane-preserved : goal.loop-lane-preserved
-loop-lane-preserved g c = (
-  rest_home _ _ _ c.in-Some.ensures.items c.loop-lane.invariant.0,
-  λ pid. one_drained pid _ _ _ _ _ _ _ c.in-Some.ensures.items (c.loop-lane.invariant.1 pid) (c.in_ok-left.ensures pid),
+pub loop-run_queue-preserved : goal.loop-run_queue-preserved
+loop-run_queue-preserved g c = (
+  rest_have_no_stealers _ _ _ c.in-Some.ensures.items c.loop-run_queue.invariant.0,
+  λ pid. one_drained pid _ _ _ _ _ _ _ c.in-Some.ensures.items (c.loop-run_queue.invariant.1 pid) (c.in_ok-left.ensures pid),
 )

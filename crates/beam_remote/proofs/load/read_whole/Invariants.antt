@@ -1,10 +1,10 @@
 use Rattle.std.proofs.Common.{◌≡◌, ◌-◌, length}
-use Rattle.beam_remote.specs.Told.{more}
+use Rattle.beam_remote.specs.DeviceHistory.{appended}
 use Rattle.beam_remote.proofs.load.read_whole.Given as goal
 
 abbrev pub invariant-loop-buffer : goal.invariant-loop-buffer
 invariant-loop-buffer g l = record {
-  input : g.F.Source.input l.source ≡ more (g.F.Source.input l.fn.source) l.bytes.items;
+  input : g.F.Source.input l.source ≡ appended (g.F.Source.input l.fn.source) l.bytes.items;
   failed : g.F.Source.failed l.source ≡ g.F.Source.failed l.fn.source;
 }
 

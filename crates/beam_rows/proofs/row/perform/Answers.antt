@@ -6,7 +6,7 @@ use Rattle.beam_machine.specs.Quiet.{is_quiet_action, is_calm}
 use Rattle.beam_model.specs.Place.{Place}
 use Rattle.beam_machine.specs.Process.{Process}
 use Rattle.beam_rows.specs.Asked.{Performs, without_exception}
-use Rattle.beam_rows.proofs.Finished.{row_does, row_goes, row_undone}
+use Rattle.beam_rows.proofs.Finished.{row_does, row_goes, row_fails}
 use Rattle.beam_rows.proofs.Made.{row_made}
 use Rattle.beam_rows.proofs.row.perform.Goals as goal
 
@@ -35,7 +35,7 @@ returns-in-Stack-clause-loud c =
     let next = c.args.next in
     let row = c.stacks-row in
     let ends = rw c.instance-in-Stack.ensures at c.finish-in-Stack.ensures in
-    let loud = row_undone _ next.instance row.new.process c.finish-in-Stack.new.process row.result c.finish-in-Stack.result row.ensures.loud ends in
+    let loud = row_fails _ next.instance row.new.process c.finish-in-Stack.new.process row.result c.finish-in-Stack.result row.ensures.loud ends in
     subst (λ (a : Action). OnErr c.finish-in-Stack.result ((is_quiet_action a && is_calm (perform c.args.code.now a next (without_exception p))) ≡ false)) (sym c.in-Stack.is) loud
 
 pub returns-in-Some-clause-does : goal.returns-in-Some-clause-does

@@ -3,8 +3,8 @@ use Rattle.beam_model.specs.declared.instruction.Instruction.{Instruction}
 use Rattle.beam_model.specs.Framed.{frame_effect, row_at, AreFramed}
 use Rattle.beam_shapes.specs.Shown.{IsSmall}
 use Rattle.beam_shapes.specs.Forced.{Fails, IsAssignment}
-use Rattle.beam_shapes.specs.declared.error.FrameError.{FrameError}
-use Rattle.beam_shapes.specs.declared.error.FrameError.TheVariants.{FrameMismatch}
+use Rattle.beam_shapes.specs.declared.error.FrameCheckError.{FrameCheckError}
+use Rattle.beam_shapes.specs.declared.error.FrameCheckError.TheVariants.{FrameMismatch}
 use Rattle.beam_shapes.proofs.Small.{small_rows}
 use Rattle.beam_shapes.proofs.Fits.{refused}
 use Rattle.beam_shapes.proofs.search.frames.Goals as goal
@@ -18,5 +18,5 @@ pub returns-in-Err-FrameMismatch-clause-unframed : goal.returns-in-Err-FrameMism
 returns-in-Err-FrameMismatch-clause-unframed c = λ e framed.
     let code = c.in_ok-code.code in let k = c.in_ok-known.known in
     let is : code ≡ c.args.listing.now.instructions = search rules in
-    let refusal : Fails FrameMismatch (IsAssignment code) k = subst (λ (x : FrameError). Fails x (IsAssignment code) k) c.in-Err-FrameMismatch.field-0-is c.in-Err-FrameMismatch.ensures in
+    let refusal : Fails FrameMismatch (IsAssignment code) k = subst (λ (x : FrameCheckError). Fails x (IsAssignment code) k) c.in-Err-FrameMismatch.field-0-is c.in-Err-FrameMismatch.ensures in
     refused code k _ c.in_ok-known.ensures.0 refusal (subst (λ (is' : List Instruction). AreFramed is') (sym is) framed)

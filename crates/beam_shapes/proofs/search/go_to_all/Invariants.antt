@@ -1,9 +1,9 @@
 use Rattle.std.proofs.Common.{◌≡◌, Bool, true, ℕ, length}
 use Rattle.std.specs.List.{list_all}
 use Rattle.beam_model.specs.Framed.{Assignment, may_have, shape_of_label}
-use Rattle.beam_shapes.specs.Forced.{Stand, assigned, Spreads, MayGo, Forces, Fails}
+use Rattle.beam_shapes.specs.Forced.{ShapeState, assigned, Spreads, MayGo, Forces, Fails}
 use Rattle.beam_shapes.specs.Shown.{shown}
-use Rattle.beam_shapes.specs.declared.error.FrameError.{FrameError}
+use Rattle.beam_shapes.specs.declared.error.FrameCheckError.{FrameCheckError}
 use Rattle.beam_shapes.proofs.search.go_to_all.Given as goal
 
 -- the result for the remaining labels is the result for all
@@ -12,9 +12,9 @@ invariant-loop-label l =
     let f : Assignment → ℕ → Bool = λ a label. may_have (shown l.fn.known.parts l.shape) (shape_of_label a l.code label) in record {
       parts : l.known.parts ≡ l.fn.known.parts;
       places : length l.known.known ≡ length l.fn.known.known;
-      forces : (new : Stand) → Forces (λ a. list_all (f a) l.rest ≡ true) l.known new → Forces (λ a. list_all (f a) l.fn.labels ≡ true) l.fn.known new;
-      fails : (e : FrameError) → Fails e (λ a. list_all (f a) l.rest ≡ true) l.known → Fails e (λ a. list_all (f a) l.fn.labels ≡ true) l.fn.known;
-      goes : (new : Stand) → Spreads l.known new → MayGo (assigned new.known) l.code (shown l.fn.known.parts l.shape) l.rest
+      forces : (new : ShapeState) → Forces (λ a. list_all (f a) l.rest ≡ true) l.known new → Forces (λ a. list_all (f a) l.fn.labels ≡ true) l.fn.known new;
+      fails : (e : FrameCheckError) → Fails e (λ a. list_all (f a) l.rest ≡ true) l.known → Fails e (λ a. list_all (f a) l.fn.labels ≡ true) l.fn.known;
+      goes : (new : ShapeState) → Spreads l.known new → MayGo (assigned new.known) l.code (shown l.fn.known.parts l.shape) l.rest
           → MayGo (assigned new.known) l.code (shown l.fn.known.parts l.shape) l.fn.labels;
     }
 

@@ -1,7 +1,7 @@
 use Rattle.std.specs.Prelude.{None}
-use Rattle.beam_debug.specs.Answers.{said}
+use Rattle.beam_debug.specs.Answers.{reply_of}
 use Rattle.beam_journal.specs.Entering.{entry_of}
 use Rattle.beam_shared.proofs.checking_out.deliver.Given as goal
 
-abbrev pub ghosts-enter_alone : goal.ghosts-enter_alone
-ghosts-enter_alone g a = record { entry = entry_of a.event None (said a.reply.now) }
+abbrev pub ghosts-enter_without_seat : goal.ghosts-enter_without_seat
+ghosts-enter_without_seat g a = record { entry = entry_of a.event None (reply_of a.reply.now) }

@@ -12,20 +12,20 @@ bounds-seen-number g c =
     let l = c.loop-at in
     let length_is : length l.seats.items ≡ length c.args.seats.now.items = ap length l.invariant.seats in
     let within : l.at < length l.seats.items = omega (arith, c.loop-at-test.true, l.auto.at-end, c.len-at-end.ensures, length_is) in
-    let is = read_is l.seats.items l.at c.index_mut.result.now c.known.new.seat c.index.result.now within c.index_mut.ensures.value c.known.ensures.seat c.index.ensures in
+    let is = read_is l.seats.items l.at c.index_mut.result.now c.check_seat.new.seat c.index.result.now within c.index_mut.ensures.value c.check_seat.ensures.seat c.index.ensures in
     let number : c.number-number.result ≡ c.index_mut.result.now.number = c.number-number.ensures ∙ ap (λ s. s.number) is in
     let given : l.keeper.given ≡ c.args.keeper.now.given = ap (λ k. k.given) l.invariant.keeper in
     let few : c.args.keeper.now.given ≤ 4096 = c.requires in
-    omega (arith, number, given, few, c.known.ensures.given)
+    omega (arith, number, given, few, c.check_seat.ensures.given)
 
 pub returns-then-seen-number-clause-is : goal.returns-then-seen-number-clause-is
 returns-then-seen-number-clause-is g c =
     let l = c.loop-at in
     let length_is : length l.seats.items ≡ length c.args.seats.now.items = ap length l.invariant.seats in
     let within : l.at < length l.seats.items = omega (arith, c.loop-at-test.true, l.auto.at-end, c.len-at-end.ensures, length_is) in
-    let is = read_is l.seats.items l.at c.index_mut.result.now c.known.new.seat c.index.result.now within c.index_mut.ensures.value c.known.ensures.seat c.index.ensures in
+    let is = read_is l.seats.items l.at c.index_mut.result.now c.check_seat.new.seat c.index.result.now within c.index_mut.ensures.value c.check_seat.ensures.seat c.index.ensures in
     let number : c.number-number.result ≡ c.index_mut.result.now.number = c.number-number.ensures ∙ ap (λ s. s.number) is in
-    let own : slice_get l.seats.items l.at ≡ Some c.index_mut.result.now = seat_at l.seats.items l.at c.index_mut.result.now c.known.new.seat c.index.result.now within c.index_mut.ensures.value c.known.ensures.seat c.index.ensures in
+    let own : slice_get l.seats.items l.at ≡ Some c.index_mut.result.now = seat_at l.seats.items l.at c.index_mut.result.now c.check_seat.new.seat c.index.result.now within c.index_mut.ensures.value c.check_seat.ensures.seat c.index.ensures in
     let here : slice_get c.args.seats.now.items l.at ≡ Some c.index_mut.result.now = ap (λ items. slice_get items l.at) (sym l.invariant.seats) ∙ own in
     let seen : get_or l.seen c.index_mut.result.now.number false ≡ true = ap (λ n. get_or l.seen n false) (sym number) ∙ c.if-seen-number.true in
     (λ e. absurd (true≢false (sym e)), λ distinct. absurd (noted_twice _ _ _ l.seen l.at c.index_mut.result.now l.invariant.noted here seen distinct))
@@ -35,11 +35,11 @@ bounds-seen-number-in-loop-at g c =
     let l = c.loop-at in
     let length_is : length l.seats.items ≡ length c.args.seats.now.items = ap length l.invariant.seats in
     let within : l.at < length l.seats.items = omega (arith, c.loop-at-test.true, l.auto.at-end, c.len-at-end.ensures, length_is) in
-    let is = read_is l.seats.items l.at c.index_mut.result.now c.known.new.seat c.index.result.now within c.index_mut.ensures.value c.known.ensures.seat c.index.ensures in
+    let is = read_is l.seats.items l.at c.index_mut.result.now c.check_seat.new.seat c.index.result.now within c.index_mut.ensures.value c.check_seat.ensures.seat c.index.ensures in
     let number : c.number-number.result ≡ c.index_mut.result.now.number = c.number-number.ensures ∙ ap (λ s. s.number) is in
     let given : l.keeper.given ≡ c.args.keeper.now.given = ap (λ k. k.given) l.invariant.keeper in
     let few : c.args.keeper.now.given ≤ 4096 = c.requires in
-    omega (arith, number, given, few, c.known.ensures.given)
+    omega (arith, number, given, few, c.check_seat.ensures.given)
 
 pub loop-at-preserved : goal.loop-at-preserved
 loop-at-preserved g c =
@@ -47,20 +47,20 @@ loop-at-preserved g c =
     let s = c.index_mut.result.now in
     let length_is : length l.seats.items ≡ length c.args.seats.now.items = ap length l.invariant.seats in
     let within : l.at < length l.seats.items = omega (arith, c.loop-at-test.true, l.auto.at-end, c.len-at-end.ensures, length_is) in
-    let is = read_is l.seats.items l.at s c.known.new.seat c.index.result.now within c.index_mut.ensures.value c.known.ensures.seat c.index.ensures in
+    let is = read_is l.seats.items l.at s c.check_seat.new.seat c.index.result.now within c.index_mut.ensures.value c.check_seat.ensures.seat c.index.ensures in
     let number : c.number-number.result ≡ s.number = c.number-number.ensures ∙ ap (λ s. s.number) is in
     let given : l.keeper.given ≡ c.args.keeper.now.given = ap (λ k. k.given) l.invariant.keeper in
     let most : c.args.keeper.now.given ≤ 4096 = c.requires in
-    let few : s.number < 4096 = omega (arith, given, most, c.known.ensures.given) in
-    let own : slice_get l.seats.items l.at ≡ Some s = seat_at l.seats.items l.at s c.known.new.seat c.index.result.now within c.index_mut.ensures.value c.known.ensures.seat c.index.ensures in
+    let few : s.number < 4096 = omega (arith, given, most, c.check_seat.ensures.given) in
+    let own : slice_get l.seats.items l.at ≡ Some s = seat_at l.seats.items l.at s c.check_seat.new.seat c.index.result.now within c.index_mut.ensures.value c.check_seat.ensures.seat c.index.ensures in
     let here : slice_get c.args.seats.now.items l.at ≡ Some s = ap (λ items. slice_get items l.at) (sym l.invariant.seats) ∙ own in
     let free : get_or l.seen s.number false ≡ false = ap (λ n. get_or l.seen n false) (sym number) ∙ c.if-seen-number.false in
-    let kept : s.kept ≡ of_seat s.number c.args.keeper.now.journal = subst (λ k. s.kept ≡ of_seat s.number k.journal) l.invariant.keeper c.known.ensures.kept in
-    let below : s.number < c.args.keeper.now.given = omega (arith, given, c.known.ensures.given) in
+    let kept : s.kept ≡ of_seat s.number c.args.keeper.now.journal = subst (λ k. s.kept ≡ of_seat s.number k.journal) l.invariant.keeper c.check_seat.ensures.kept in
+    let below : s.number < c.args.keeper.now.given = omega (arith, given, c.check_seat.ensures.given) in
     let more = one_more c.args.keeper.now.given c.args.keeper.now.journal c.args.seats.now.items l.seen l.at s l.invariant.noted here few free kept below in
-    let back : set l.seats.items l.at c.known.new.seat ≡ l.seats.items = written_back l.seats.items l.at s c.known.new.seat c.index.result.now within c.index_mut.ensures.value c.known.ensures.seat c.index.ensures in
+    let back : set l.seats.items l.at c.check_seat.new.seat ≡ l.seats.items = written_back l.seats.items l.at s c.check_seat.new.seat c.index.result.now within c.index_mut.ensures.value c.check_seat.ensures.seat c.index.ensures in
     record {
-      keeper = c.known.ensures.keeper ∙ l.invariant.keeper;
+      keeper = c.check_seat.ensures.keeper ∙ l.invariant.keeper;
       seats = back ∙ l.invariant.seats;
       noted = subst (λ n. AreNoted c.args.keeper.now.given c.args.keeper.now.journal c.args.seats.now.items (set l.seen n true) (l.at + 1)) (sym number) more;
     }

@@ -1,5 +1,5 @@
 use Rattle.std.proofs.Common.{◌≡◌, ◌++◌, [], ◌∷◌, Some, ap, sym, ◌∙◌, append_assoc}
-use Rattle.beam_stack.specs.Words.{held, slot_in}
+use Rattle.beam_stack.specs.Words.{slots_with, slot_in}
 use Rattle.beam_stack.proofs.Lists.{with_word, held_last}
 use Rattle.beam_stack.proofs.word.copy_slots.Goals as goal
 
@@ -9,5 +9,5 @@ loop-word-preserved-in_ok-push c =
     let more = c.in-Some.more.now in
     let slot = c.in-Some-2.slot in
     let holds : slot_in word ≡ Some slot = sym c.in_ok-slot.ensures ∙ c.in-Some-2.is in
-    let rest : held [] c.loop-word.rest.now ≡ slot ∷ held [] more = ap (held []) c.in-Some.ensures.cases.0 ∙ held_last [] more word ∙ ap (λ o. with_word o (held [] more)) holds in
-    ap (λ ys. ys ++ held [] more) c.in_ok-push.ensures.items ∙ append_assoc c.loop-word.slots.items (slot ∷ []) (held [] more) ∙ ap (λ ys. c.loop-word.slots.items ++ ys) (sym rest) ∙ c.loop-word.invariant
+    let rest : slots_with [] c.loop-word.rest.now ≡ slot ∷ slots_with [] more = ap (slots_with []) c.in-Some.ensures.cases.0 ∙ held_last [] more word ∙ ap (λ o. with_word o (slots_with [] more)) holds in
+    ap (λ ys. ys ++ slots_with [] more) c.in_ok-push.ensures.items ∙ append_assoc c.loop-word.slots.items (slot ∷ []) (slots_with [] more) ∙ ap (λ ys. c.loop-word.slots.items ++ ys) (sym rest) ∙ c.loop-word.invariant

@@ -58,16 +58,16 @@ change-requires-clause-keeps c =
     let same = still_there (answer_of c.args.references.now c.args.processes.now c.args.asker.now.pid c.args.native c.args.arguments.now).processes c.answer_of.new.processes c.args.asker.now.pid c.args.asker.now.index c.args.reason.now is in
     λ q r then there given. answers_keep q r c.args.asker.now.dropped c.args.prepared (Ok c.in-Ok-Ok.value) (cur_runs c.requires.asking c.args.references.now c.args.native c.args.arguments.now c.answer_of.new.processes c.in-Ok-Ok.value v same q there) (search rules)
 
-pub answer-requires-clause-asking : goal.answer-requires-clause-asking
-answer-requires-clause-asking c =
+pub return_value-requires-clause-asking : goal.return_value-requires-clause-asking
+return_value-requires-clause-asking c =
     let told = told_alone c.args.references.now c.args.processes.now c.tell.new.processes c.args.asker.now.index c.args.asker.now.pid c.args.reason.now c.new.result.items c.in_ok-told.told.items c.requires.asking.located c.requires.lawful c.in_ok-told.ensures.ok.0 c.in_ok-told.ensures.ok.1 c.new.ensures.items in
     let m = makes_is c.args.references.now c.tell.new.processes (answer_of c.args.references.now c.tell.new.processes c.args.asker.now.pid c.args.native c.args.arguments.now) _ (Err c.in-Ok-Err.fault) c.answer_of.new.references c.answer_of.new.processes c.in-Ok-Err.ensures c.in-Ok-Err.field-0-is in
     let counts = fault_counts c.args.references.now c.args.processes.now c.tell.new.processes c.answer_of.new.processes c.args.asker.now.index c.args.asker.now.pid c.answer_of.new.references c.args.reason.now c.args.native c.args.arguments.now c.requires.asking.located c.requires.silent told c.in-Ok-Err.fault m in
     let back = told_back c.args.references.now c.args.processes.now c.tell.new.processes c.args.asker.now.index c.args.asker.now.pid c.args.reason.now c.new.result.items c.in_ok-told.told.items c.requires.asking.located c.requires.lawful c.in_ok-told.ensures.ok.0 c.in_ok-told.ensures.ok.1 c.take_all_back.new.processes (c.take_all_back.ensures ∙ (ap (λ qs. all_taken qs c.deref.result.now) (fault_stays c.args.references.now c.args.processes.now c.tell.new.processes c.answer_of.new.processes c.args.asker.now.index c.args.asker.now.pid c.answer_of.new.references c.args.reason.now c.args.native c.args.arguments.now c.requires.asking.located c.requires.silent told c.in-Ok-Err.fault m) ∙ ap (all_taken c.tell.new.processes) c.deref.ensures.value)) in
     subst (IsAsking c.args.asker.now.index c.args.asker.now.pid c.args.asker.now.dropped c.args.asker.now.after) (sym back) c.requires.asking
 
-pub answer-requires-clause-lawful : goal.answer-requires-clause-lawful
-answer-requires-clause-lawful c =
+pub return_value-requires-clause-lawful : goal.return_value-requires-clause-lawful
+return_value-requires-clause-lawful c =
     let told = told_alone c.args.references.now c.args.processes.now c.tell.new.processes c.args.asker.now.index c.args.asker.now.pid c.args.reason.now c.new.result.items c.in_ok-told.told.items c.requires.asking.located c.requires.lawful c.in_ok-told.ensures.ok.0 c.in_ok-told.ensures.ok.1 c.new.ensures.items in
     let m = makes_is c.args.references.now c.tell.new.processes (answer_of c.args.references.now c.tell.new.processes c.args.asker.now.pid c.args.native c.args.arguments.now) _ (Err c.in-Ok-Err.fault) c.answer_of.new.references c.answer_of.new.processes c.in-Ok-Err.ensures c.in-Ok-Err.field-0-is in
     let counts = fault_counts c.args.references.now c.args.processes.now c.tell.new.processes c.answer_of.new.processes c.args.asker.now.index c.args.asker.now.pid c.answer_of.new.references c.args.reason.now c.args.native c.args.arguments.now c.requires.asking.located c.requires.silent told c.in-Ok-Err.fault m in
@@ -94,9 +94,9 @@ returns-in-Ok-Err c =
     let m = makes_is c.args.references.now c.tell.new.processes (answer_of c.args.references.now c.tell.new.processes c.args.asker.now.pid c.args.native c.args.arguments.now) _ (Err c.in-Ok-Err.fault) c.answer_of.new.references c.answer_of.new.processes c.in-Ok-Err.ensures c.in-Ok-Err.field-0-is in
     let counts = fault_counts c.args.references.now c.args.processes.now c.tell.new.processes c.answer_of.new.processes c.args.asker.now.index c.args.asker.now.pid c.answer_of.new.references c.args.reason.now c.args.native c.args.arguments.now c.requires.asking.located c.requires.silent told c.in-Ok-Err.fault m in
     let back = told_back c.args.references.now c.args.processes.now c.tell.new.processes c.args.asker.now.index c.args.asker.now.pid c.args.reason.now c.new.result.items c.in_ok-told.told.items c.requires.asking.located c.requires.lawful c.in_ok-told.ensures.ok.0 c.in_ok-told.ensures.ok.1 c.take_all_back.new.processes (c.take_all_back.ensures ∙ (ap (λ qs. all_taken qs c.deref.result.now) (fault_stays c.args.references.now c.args.processes.now c.tell.new.processes c.answer_of.new.processes c.args.asker.now.index c.args.asker.now.pid c.answer_of.new.references c.args.reason.now c.args.native c.args.arguments.now c.requires.asking.located c.requires.silent told c.in-Ok-Err.fault m) ∙ ap (all_taken c.tell.new.processes) c.deref.ensures.value)) in
-    subst (λ n. AnswersNative c.args.asker.now.pid c.args.asker.now.dropped c.args.native c.args.arguments.now c.args.asker.now.after c.args.references.now c.args.processes.now c.answer.result n c.answer.new.processes) (sym counts)
-    (fault_answers c.requires.asking c.args.references.now c.args.native c.args.arguments.now c.in-Ok-Err.fault c.answer.result c.answer.new.processes (fault_is c.args.references.now c.args.processes.now c.tell.new.processes c.answer_of.new.processes c.args.asker.now.index c.args.asker.now.pid c.answer_of.new.references c.args.reason.now c.args.native c.args.arguments.now c.requires.asking.located c.requires.silent told c.in-Ok-Err.fault m)
-    (subst (λ qs. MadeBy c.args.asker.now.pid (λ p. answers (bare_if c.args.asker.now.dropped p) c.args.asker.now.after (Err (exception.Fault c.in-Ok-Err.fault))) qs c.answer.result c.answer.new.processes) back c.answer.ensures))
+    subst (λ n. AnswersNative c.args.asker.now.pid c.args.asker.now.dropped c.args.native c.args.arguments.now c.args.asker.now.after c.args.references.now c.args.processes.now c.return_value.result n c.return_value.new.processes) (sym counts)
+    (fault_answers c.requires.asking c.args.references.now c.args.native c.args.arguments.now c.in-Ok-Err.fault c.return_value.result c.return_value.new.processes (fault_is c.args.references.now c.args.processes.now c.tell.new.processes c.answer_of.new.processes c.args.asker.now.index c.args.asker.now.pid c.answer_of.new.references c.args.reason.now c.args.native c.args.arguments.now c.requires.asking.located c.requires.silent told c.in-Ok-Err.fault m)
+    (subst (λ qs. MadeBy c.args.asker.now.pid (λ p. answers (bare_if c.args.asker.now.dropped p) c.args.asker.now.after (Err (exception.Fault c.in-Ok-Err.fault))) qs c.return_value.result c.return_value.new.processes) back c.return_value.ensures))
 
 pub returns-in-Err : goal.returns-in-Err
 returns-in-Err c = (

@@ -38,14 +38,14 @@ change-requires-clause-keeps c =
     let m = makes_is c.args.references.now c.args.processes.now (answer_of c.args.references.now c.args.processes.now c.args.asker.now.pid c.args.native c.args.arguments.now) _ (Ok c.in-Ok.value) c.answer_of.new.references c.answer_of.new.processes c.in_ok-value.ensures c.in-Ok.is in
     λ q r then there given. answers_keep q r c.args.asker.now.dropped c.args.prepared (Ok c.in-Ok.value) (left_runs c.requires.asking c.args.references.now c.args.native c.args.arguments.now c.answer_of.new.processes (Ok c.in-Ok.value) m.0 m.1 q there) (search rules)
 
-pub answer-requires-clause-asking : goal.answer-requires-clause-asking
-answer-requires-clause-asking c =
+pub return_value-requires-clause-asking : goal.return_value-requires-clause-asking
+return_value-requires-clause-asking c =
     let m = makes_is c.args.references.now c.args.processes.now (answer_of c.args.references.now c.args.processes.now c.args.asker.now.pid c.args.native c.args.arguments.now) _ (Err c.in-Err.fault) c.answer_of.new.references c.answer_of.new.processes c.in_ok-value.ensures c.in-Err.is in
     let l = fault_left c.requires.asking c.args.references.now c.args.native c.args.arguments.now c.in-Err.fault c.answer_of.new.processes c.answer_of.new.references m in
     subst (IsAsking c.args.asker.now.index c.args.asker.now.pid c.args.asker.now.dropped c.args.asker.now.after) (sym l.0) c.requires.asking
 
-pub answer-requires-clause-lawful : goal.answer-requires-clause-lawful
-answer-requires-clause-lawful c =
+pub return_value-requires-clause-lawful : goal.return_value-requires-clause-lawful
+return_value-requires-clause-lawful c =
     let m = makes_is c.args.references.now c.args.processes.now (answer_of c.args.references.now c.args.processes.now c.args.asker.now.pid c.args.native c.args.arguments.now) _ (Err c.in-Err.fault) c.answer_of.new.references c.answer_of.new.processes c.in_ok-value.ensures c.in-Err.is in
     let l = fault_left c.requires.asking c.args.references.now c.args.native c.args.arguments.now c.in-Err.fault c.answer_of.new.processes c.answer_of.new.references m in
     subst (λ n. AreLawful n c.answer_of.new.processes) (sym l.1) (subst (AreLawful c.args.references.now) (sym l.0) c.requires.lawful)
@@ -64,6 +64,6 @@ pub returns-in-Err : goal.returns-in-Err
 returns-in-Err c =
     let m = makes_is c.args.references.now c.args.processes.now (answer_of c.args.references.now c.args.processes.now c.args.asker.now.pid c.args.native c.args.arguments.now) _ (Err c.in-Err.fault) c.answer_of.new.references c.answer_of.new.processes c.in_ok-value.ensures c.in-Err.is in
     let l = fault_left c.requires.asking c.args.references.now c.args.native c.args.arguments.now c.in-Err.fault c.answer_of.new.processes c.answer_of.new.references m in
-    subst (λ n. AnswersNative c.args.asker.now.pid c.args.asker.now.dropped c.args.native c.args.arguments.now c.args.asker.now.after c.args.references.now c.args.processes.now c.answer.result n c.answer.new.processes) (sym l.1)
-    (fault_answers c.requires.asking c.args.references.now c.args.native c.args.arguments.now c.in-Err.fault c.answer.result c.answer.new.processes m.1
-    (subst (λ qs. MadeBy c.args.asker.now.pid (λ p. answers (bare_if c.args.asker.now.dropped p) c.args.asker.now.after (Err (exception.Fault c.in-Err.fault))) qs c.answer.result c.answer.new.processes) l.0 c.answer.ensures))
+    subst (λ n. AnswersNative c.args.asker.now.pid c.args.asker.now.dropped c.args.native c.args.arguments.now c.args.asker.now.after c.args.references.now c.args.processes.now c.return_value.result n c.return_value.new.processes) (sym l.1)
+    (fault_answers c.requires.asking c.args.references.now c.args.native c.args.arguments.now c.in-Err.fault c.return_value.result c.return_value.new.processes m.1
+    (subst (λ qs. MadeBy c.args.asker.now.pid (λ p. answers (bare_if c.args.asker.now.dropped p) c.args.asker.now.after (Err (exception.Fault c.in-Err.fault))) qs c.return_value.result c.return_value.new.processes) l.0 c.return_value.ensures))

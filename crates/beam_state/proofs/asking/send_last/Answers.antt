@@ -6,7 +6,7 @@ use Rattle.beam_machine.specs.NodeNative.{answer_of}
 use Rattle.beam_machine.specs.Process.{Process, then_of}
 use Rattle.beam_machine.specs.Row.{answers}
 use Rattle.beam_state.specs.Asking.{CanDrop, bare_if}
-use Rattle.beam_state.specs.Gives.{Sends}
+use Rattle.beam_state.specs.Returns.{Sends}
 use Rattle.beam_state.proofs.Askers.{goes_last, fault_answers}
 use Rattle.beam_state.proofs.Keeping.{answers_keep}
 use Rattle.beam_state.proofs.Lasting.{sent_value, sent_counts, sent_is, sends_other, still_there, cur_within, cur_lives, cur_runs, cur_drops, cur_wrote}
@@ -71,4 +71,4 @@ pub returns-in-Err : goal.returns-in-Err
 returns-in-Err c =
     let sent : Sends c.args.processes.now (answer_of c.args.references c.args.processes.now c.args.asker.now.pid c.args.native c.args.arguments.now) (Ok (Err c.in-Err.fault)) =
     subst (λ v. Sends c.args.processes.now (answer_of c.args.references c.args.processes.now c.args.asker.now.pid c.args.native c.args.arguments.now) (Ok v)) c.in-Err.is (c.in_ok-value.ensures c.args.references) in
-    fault_answers c.requires.asking c.args.references c.args.native c.args.arguments.now c.in-Err.fault c.answer.result c.answer.new.processes (ap (λ a. a.value) sent) c.answer.ensures
+    fault_answers c.requires.asking c.args.references c.args.native c.args.arguments.now c.in-Err.fault c.return_value.result c.return_value.new.processes (ap (λ a. a.value) sent) c.return_value.ensures

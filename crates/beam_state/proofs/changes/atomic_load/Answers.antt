@@ -5,7 +5,7 @@ use Rattle.beam_model.specs.SameText.{same_text}
 use Rattle.beam_machine.specs.Process.{Process}
 use Rattle.beam_codesrv.specs.Replacement.{node, said}
 use Rattle.beam_state.specs.Indexed.{entry_of, IsIndexed}
-use Rattle.beam_state.proofs.Indexing.{KeepNames, as_many, all_indexed, all_watched_if, upgraded_keeps}
+use Rattle.beam_state.proofs.Indexing.{KeepNames, as_many, all_indexed, all_monitored_if, upgraded_keeps}
 use Rattle.beam_state.proofs.changes.atomic_load.Goals as goal
 
 pub renew_all-requires : goal.renew_all-requires
@@ -25,7 +25,7 @@ invariant_of-processes c =
     let renewed : c.renew_all.new.agenda ≡ map entry_of qs = c.renew_all.ensures ∙ ap (map entry_of) (c.deref.ensures.value ∙ whole) in
     rw whole (
       (subst (λ es. IsIndexed (get same_text c.processes.inside.names) es qs) (sym renewed) (all_indexed (get same_text c.processes.inside.names) c.processes.inside.agenda ps qs c.processes.invariant.0 kept)),
-      all_watched_if c.processes.inside.complete c.processes.inside.watched ps qs kept c.processes.invariant.1,
+      all_monitored_if c.processes.inside.complete c.processes.inside.monitor_index ps qs kept c.processes.invariant.1,
     )
 
 pub invariant_of-processes-2 : goal.invariant_of-processes-2
@@ -37,5 +37,5 @@ invariant_of-processes-2 c =
     let renewed : c.renew_all.new.agenda ≡ map entry_of qs = c.renew_all.ensures ∙ ap (map entry_of) (c.deref.ensures.value ∙ whole) in
     rw whole (
       (subst (λ es. IsIndexed (get same_text c.processes.inside.names) es qs) (sym renewed) (all_indexed (get same_text c.processes.inside.names) c.processes.inside.agenda ps qs c.processes.invariant.0 kept)),
-      all_watched_if c.processes.inside.complete c.processes.inside.watched ps qs kept c.processes.invariant.1,
+      all_monitored_if c.processes.inside.complete c.processes.inside.monitor_index ps qs kept c.processes.invariant.1,
     )

@@ -1,5 +1,5 @@
 use Rattle.std.proofs.Common.{◌≡◌, ◌∷◌, rules}
-use Rattle.beam_state.proofs.Watching.{found_more}
+use Rattle.beam_state.proofs.MonitorKeys.{found_more}
 use Rattle.beam_state.proofs.ends.found.Goals as goal
 
 pub loop-key-preserved : goal.loop-key-preserved

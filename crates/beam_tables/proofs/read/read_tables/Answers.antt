@@ -1,5 +1,5 @@
 use Rattle.beam_iff.specs.Chunks.{form_of}
-use Rattle.beam_tables.proofs.Answered.{spelled, only}
+use Rattle.beam_tables.proofs.ReadResults.{spelled, only}
 use Rattle.beam_tables.proofs.read.read_tables.Goals as goal
 
 pub returns-clause-spelled : goal.returns-clause-spelled

@@ -1,6 +1,6 @@
 use Rattle.std.proofs.Common.{subst, List, ℕ}
 use Rattle.clap.specs.Walk.{texts}
-use Rattle.beam_tools.specs.Assembler.{IsToldBeside, as_app}
+use Rattle.beam_tools.specs.Assembler.{IsReportedBeside, as_app}
 use Rattle.beam_tools.specs.Lines.{IsAnswer}
 use Rattle.beam_tools.specs.declared.program.Program.TheVariants.{Assembler}
 use Rattle.beam_tools.proofs.Left.{same_above}
@@ -9,7 +9,7 @@ use Rattle.beam_tools.proofs.assembler.as_run.Goals as goal
 pub returns-clause-fault : goal.returns-clause-fault
 returns-clause-fault g c = λ failed.
     let P : List ℕ → Type 0 =
-    λ text. IsToldBeside (texts c.args.words.now) text c.in-Err.fault (g.E.Errors.told c.args.errors.now) (g.E.Errors.told c.report_beside.new.errors) in
+    λ text. IsReportedBeside (texts c.args.words.now) text c.in-Err.fault (g.E.Errors.told c.args.errors.now) (g.E.Errors.told c.report_beside.new.errors) in
     (c.in-Err.fault, c.give.new.text.items, c.report_beside.ensures.status, c.in-Err.ensures.fault, subst P c.deref.ensures.value c.report_beside.ensures.told, c.in-Err.ensures.left)
 
 pub returns-clause-untouched : goal.returns-clause-untouched

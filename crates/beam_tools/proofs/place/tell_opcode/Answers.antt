@@ -3,7 +3,7 @@ use Rattle.std.specs.Io.KnownBytes.{append_known}
 use Rattle.std.specs.Fmt.{decimal}
 use Rattle.beam_tools.specs.Names.{newline}
 use Rattle.beam_tools.specs.Place.{byte_text}
-use Rattle.beam_tools.proofs.Told.{one_three}
+use Rattle.beam_tools.proofs.AppendedTexts.{one_three}
 use Rattle.beam_tools.proofs.place.tell_opcode.Goals as goal
 
 pub returns : goal.returns

@@ -1,7 +1,7 @@
 use Rattle.sched_tests.proofs.talking.found_here.Given as goal
 
-abbrev pub ghosts-found-B-Room : goal.ghosts-found-B-Room
-ghosts-found-B-Room g a = record { table = a.blank }
+abbrev pub ghosts-found-B-NodeBrand : goal.ghosts-found-B-NodeBrand
+ghosts-found-B-NodeBrand g a = record { table = a.unbranded }
 
-abbrev pub ghosts-found-B-Queues : goal.ghosts-found-B-Queues
-ghosts-found-B-Queues g a = record { deques = a.queues }
+abbrev pub ghosts-found-B-QueueBrand : goal.ghosts-found-B-QueueBrand
+ghosts-found-B-QueueBrand g a = record { deques = a.queues }

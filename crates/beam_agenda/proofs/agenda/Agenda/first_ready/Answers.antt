@@ -1,6 +1,6 @@
 use Rattle.std.proofs.Common.{ap, ◌∙◌}
 use Rattle.beam_agenda.specs.First.{first_ready}
-use Rattle.beam_agenda.proofs.Parts.{ready_from, ready_within}
+use Rattle.beam_agenda.proofs.FlagsAndTimes.{ready_from, ready_within}
 use Rattle.beam_agenda.proofs.agenda.Agenda.first_ready.Goals as goal
 
 pub returns-clause-first : goal.returns-clause-first

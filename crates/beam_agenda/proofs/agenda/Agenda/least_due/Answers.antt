@@ -1,7 +1,7 @@
 use Rattle.std.proofs.Common.{length, sym, ap, ◌∙◌, arith}
 use Rattle.std.specs.Prelude.{Some, None}
 use Rattle.beam_agenda.specs.First.{least_due}
-use Rattle.beam_agenda.proofs.Parts.{length-entries_of, no_least, least_is}
+use Rattle.beam_agenda.proofs.FlagsAndTimes.{length-entries_of, no_least, least_is}
 use Rattle.beam_agenda.proofs.agenda.Agenda.least_due.Goals as goal
 
 pub returns-in_err-at-clause-least : goal.returns-in_err-at-clause-least

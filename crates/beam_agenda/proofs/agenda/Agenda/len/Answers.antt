@@ -1,5 +1,5 @@
 use Rattle.std.proofs.Common.{length, sym, ap, ◌∙◌}
-use Rattle.beam_agenda.proofs.Parts.{length-entries_of}
+use Rattle.beam_agenda.proofs.FlagsAndTimes.{length-entries_of}
 use Rattle.beam_agenda.proofs.agenda.Agenda.len.Goals as goal
 
 pub returns : goal.returns

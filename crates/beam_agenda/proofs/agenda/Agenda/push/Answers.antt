@@ -1,10 +1,10 @@
 use Rattle.std.proofs.Common.{◌≡◌, [], ◌∷◌, ◌++◌, length, rules, sym, ap, subst, ◌∙◌, arith}
 use Rattle.std.proofs.Math.ListN.{set}
 use Rattle.std.specs.Int.{from_bool}
-use Rattle.beam_agenda.specs.Entries.{lesser}
+use Rattle.beam_agenda.specs.Entries.{earlier}
 use Rattle.beam_agenda.specs.Least.{least_of}
-use Rattle.beam_agenda.specs.Parts.{entries_of, Covers}
-use Rattle.beam_agenda.proofs.Parts.{room_made, pushed, Covers-push, least_of-append}
+use Rattle.beam_agenda.specs.FlagsAndTimes.{entries_of, Covers}
+use Rattle.beam_agenda.proofs.FlagsAndTimes.{room_made, pushed, Covers-push, least_of-append}
 use Rattle.beam_agenda.proofs.agenda.Agenda.push.Goals as goal
 
 pub invariant_of-self-in_err-push : goal.invariant_of-self-in_err-push
@@ -33,8 +33,8 @@ invariant_of-self-2 c =
     let put : c.set.new.self ≡ set c.make_room.new.self (length a.times) c.from.result = rw c.len-count.ensures at c.set.ensures in (
       subst (λ ns. Covers ns c.push.new.self) (sym put)
           (subst (Covers (set c.make_room.new.self (length a.times) c.from.result)) (sym c.in_ok-push.ensures.ok) (Covers-push c.make_room.new.self a.times c.from.result c.args.entry.due room.1 room.0)),
-      c.lesser-self-inside.ensures
-          ∙ (ap (λ least. lesser least c.args.entry.due) c.self.invariant.1
+      c.earlier-self-inside.ensures
+          ∙ (ap (λ least. earlier least c.args.entry.due) c.self.invariant.1
           ∙ (sym (least_of-append a.times c.args.entry.due)
           ∙ ap least_of (sym c.in_ok-push.ensures.ok))),
     )

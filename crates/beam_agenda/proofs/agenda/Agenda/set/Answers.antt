@@ -2,13 +2,13 @@ use Rattle.std.proofs.Common.{◌≡◌, ◌<◌, ℕ, List, length, sym, ap, su
 use Rattle.std.proofs.Math.ListN.{set}
 use Rattle.std.specs.Int.{from_bool}
 use Rattle.beam_agenda.specs.declared.agenda.Agenda.TheInside.{Inside}
-use Rattle.beam_agenda.specs.declared.entry.Entry.{Entry}
-use Rattle.beam_agenda.specs.Parts.{entries_of, Covers}
-use Rattle.beam_agenda.proofs.Parts.{length-entries_of, length-Covers, set_same, changed, Covers-set}
+use Rattle.beam_agenda.specs.declared.entry.AgendaEntry.{AgendaEntry}
+use Rattle.beam_agenda.specs.FlagsAndTimes.{entries_of, Covers}
+use Rattle.beam_agenda.proofs.FlagsAndTimes.{length-entries_of, length-Covers, set_same, changed, Covers-set}
 use Rattle.beam_agenda.proofs.Same.{same_due}
 use Rattle.beam_agenda.proofs.agenda.Agenda.set.Goals as goal
 
-index_within : (a : Inside) (es : List Entry) (i : ℕ) → Covers a.flags a.times → entries_of a.flags a.times ≡ es → i < length es → i < length a.times
+index_within : (a : Inside) (es : List AgendaEntry) (i : ℕ) → Covers a.flags a.times → entries_of a.flags a.times ≡ es → i < length es → i < length a.times
 index_within a es i h v l = omega (arith, length-entries_of a.flags a.times h, ap length v)
 
 pub set-requires : goal.set-requires

@@ -1,6 +1,6 @@
 use Rattle.std.proofs.Common.{subst}
 use Rattle.beam_code.specs.Bytes.{AreStarts}
-use Rattle.beam_code.proofs.Standing.{spells}
+use Rattle.beam_code.proofs.InstructionsAtStarts.{spells}
 use Rattle.beam_code.proofs.bytes.CodeBytes.fetch.Goals as goal
 
 pub returns-clause-spells : goal.returns-clause-spells

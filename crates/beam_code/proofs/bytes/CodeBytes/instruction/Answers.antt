@@ -1,6 +1,6 @@
-use Rattle.beam_code.specs.Parts.{tables_of}
-use Rattle.beam_code.specs.Places.{chunk_with}
-use Rattle.beam_code.proofs.Standing.{read_is}
+use Rattle.beam_code.specs.ReadChunk.{tables_of}
+use Rattle.beam_code.specs.ChunkLayout.{chunk_with}
+use Rattle.beam_code.proofs.InstructionsAtStarts.{read_is}
 use Rattle.beam_code.proofs.bytes.CodeBytes.instruction.Goals as goal
 
 pub returns-in-Ok : goal.returns-in-Ok

@@ -1,8 +1,8 @@
 use Rattle.std.proofs.Common.{length, ap, arith}
 use Rattle.beam_code.specs.Bytes.{CodeBytes, instructions_in}
-use Rattle.beam_code.specs.Parts.{tables_of}
-use Rattle.beam_code.specs.Places.{chunk_with}
-use Rattle.beam_code.proofs.Standing.{how_many}
+use Rattle.beam_code.specs.ReadChunk.{tables_of}
+use Rattle.beam_code.specs.ChunkLayout.{chunk_with}
+use Rattle.beam_code.proofs.InstructionsAtStarts.{how_many}
 use Rattle.beam_code.proofs.bytes.CodeBytes.len.Goals as goal
 
 pub returns : goal.returns

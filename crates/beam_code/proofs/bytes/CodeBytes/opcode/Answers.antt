@@ -1,7 +1,7 @@
 use Rattle.std.proofs.Common.{refl}
-use Rattle.beam_code.specs.Parts.{tables_of}
-use Rattle.beam_code.specs.Places.{chunk_with}
-use Rattle.beam_code.proofs.Standing.{opcode_byte}
+use Rattle.beam_code.specs.ReadChunk.{tables_of}
+use Rattle.beam_code.specs.ChunkLayout.{chunk_with}
+use Rattle.beam_code.proofs.InstructionsAtStarts.{opcode_byte}
 use Rattle.beam_code.proofs.bytes.CodeBytes.opcode.Goals as goal
 
 pub unwrap-requires : goal.unwrap-requires

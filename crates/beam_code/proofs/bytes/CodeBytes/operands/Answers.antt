@@ -1,7 +1,7 @@
 use Rattle.std.proofs.Common.{ap, sym, subst, ◌∙◌}
 use Rattle.beam_code.specs.Bytes.{AreStarts}
 use Rattle.beam_code.specs.Operands.{read_or_none}
-use Rattle.beam_code.proofs.Standing.{operands_are, not_line}
+use Rattle.beam_code.proofs.InstructionsAtStarts.{operands_are, not_line}
 use Rattle.beam_code.proofs.bytes.CodeBytes.operands.Goals as goal
 
 pub invariant_of-result : goal.invariant_of-result

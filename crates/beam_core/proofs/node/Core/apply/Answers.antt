@@ -1,7 +1,7 @@
 use Rattle.beam_machine.specs.State.{State}
 use Rattle.beam_shape_laws.proofs.Nodes.{answered_framed}
 use Rattle.beam_state.specs.Parts.{node}
-use Rattle.beam_core.proofs.Kept.{stays_home, stays_ordered}
+use Rattle.beam_core.proofs.PreservedByAnswers.{stays_home, stays_ordered}
 use Rattle.beam_core.proofs.node.Core.apply.Goals as goal
 
 pub invariant_of-self : goal.invariant_of-self

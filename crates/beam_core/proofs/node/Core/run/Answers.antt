@@ -22,7 +22,7 @@ loop-event-preserved c =
     let front_run = ap (λ r. r.state) c.loop-event.invariant.run in
     record {
       each = omega (arith, longer, c.loop-event.invariant.each);
-      room = omega (arith, c.push.ensures.capacity, c.loop-event.invariant.room);
+      capacity = omega (arith, c.push.ensures.capacity, c.loop-event.invariant.capacity);
       run = rw (front, pushed) (run_more c.args.self.now c.loop-event.self c.apply-answer.new.self (take at events) answers event answer each c.loop-event.invariant.run c.apply-answer.ensures.next);
       loud = rw (front, pushed) (each_more StopsLoudly c.args.self.now c.loop-event.self c.apply-answer.new.self (take at events) answers event answer each front_run c.loop-event.invariant.loud c.apply-answer.ensures.next c.apply-answer.ensures.loud);
       memory = rw (front, pushed) (each_more LacksMemory c.args.self.now c.loop-event.self c.apply-answer.new.self (take at events) answers event answer each front_run c.loop-event.invariant.memory c.apply-answer.ensures.next c.apply-answer.ensures.memory);

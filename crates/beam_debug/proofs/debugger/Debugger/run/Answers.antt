@@ -29,9 +29,9 @@ loop-event-preserved c =
     let so_far : (debug_run c.args.self.now.state (effective_debug_events (take at events) (map answer_of answers))).state ≡ c.loop-event.self.state = ap (λ (r : DebugRun). r.state) c.loop-event.invariant.run in
     record {
       each = omega (arith, longer, c.loop-event.invariant.each);
-      room = omega (arith, c.push.ensures.capacity, c.loop-event.invariant.room);
+      capacity = omega (arith, c.push.ensures.capacity, c.loop-event.invariant.capacity);
       run = rw (front, told) (run_more c.args.self.now.state c.loop-event.self.state c.apply-answer.new.self.state (take at events) (map answer_of answers) event (answer_of answer) each c.loop-event.invariant.run c.apply-answer.ensures.next);
-      held = omega (arith, c.apply-answer.ensures.room, c.loop-event.invariant.held);
+      held = omega (arith, c.apply-answer.ensures.capacity, c.loop-event.invariant.held);
       loud = rw (front, told) (each_more DebugLoudly c.args.self.now.state c.loop-event.self.state c.apply-answer.new.self.state (take at events) (map answer_of answers) event (answer_of answer) each so_far c.loop-event.invariant.loud c.apply-answer.ensures.next c.apply-answer.ensures.loud);
       memory = rw (front, told) (each_more LacksMemory c.args.self.now.state c.loop-event.self.state c.apply-answer.new.self.state (take at events) (map answer_of answers) event (answer_of answer) each so_far c.loop-event.invariant.memory c.apply-answer.ensures.next c.apply-answer.ensures.memory);
     }

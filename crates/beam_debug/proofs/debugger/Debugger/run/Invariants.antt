@@ -11,10 +11,10 @@ use Rattle.beam_debug.proofs.debugger.Debugger.run.Given as goal
 abbrev pub invariant-loop-event : goal.invariant-loop-event
 invariant-loop-event l = record {
   each : length l.answers.items ≡ l.event-index;
-  room : length l.events ≤ vec_capacity l.answers;
+  capacity : length l.events ≤ vec_capacity l.answers;
   run : debug_run l.fn.self.state (effective_debug_events (take l.event-index l.events) (map answer_of l.answers.items))
       ≡ record { answers = effective_debug_answers (map answer_of l.answers.items); state = l.self.state };
-  held : l.fn.self.room ≤ l.self.room;
+  held : l.fn.self.capacity ≤ l.self.capacity;
   loud : Each DebugLoudly l.fn.self.state (take l.event-index l.events) (map answer_of l.answers.items);
   memory : Each LacksMemory l.fn.self.state (take l.event-index l.events) (map answer_of l.answers.items);
 }

@@ -1,7 +1,7 @@
 use Rattle.std.specs.Prelude.{Some}
-use Rattle.beam_debug.specs.Answers.{said}
+use Rattle.beam_debug.specs.Answers.{reply_of}
 use Rattle.beam_journal.specs.Entering.{entry_of}
 use Rattle.beam_shared.proofs.node.Node.command.Given as goal
 
-abbrev pub ghosts-enter : goal.ghosts-enter
-ghosts-enter g a = record { entry = entry_of a.event (Some a.seat.now.number) (said a.reply.now) }
+abbrev pub ghosts-enter_for_seat : goal.ghosts-enter_for_seat
+ghosts-enter_for_seat g a = record { entry = entry_of a.event (Some a.seat.now.number) (reply_of a.reply.now) }

@@ -13,11 +13,11 @@ invariant_of-self c =
     let items = c.self.inside.words.items in
     let newest = c.self.inside.newest in
     let rest : List Word = take (newest + 1) items in
-    let some : 0 < length rest = omega (arith, above_zero (vec_len c.keep.new.words) c.if-not-is_empty.ensures, c.keep.new.words.ok.0, ap length c.keep.ensures) in
+    let some : 0 < length rest = omega (arith, above_zero (vec_len c.truncate_words.new.words) c.if-not-is_empty.ensures, c.truncate_words.new.words.ok.0, ap length c.truncate_words.ensures) in
     let end : Ends rest = ends rest some in
     let front = end.front in
     let head = end.last in
-    let words : c.mark_last.new.words.items ≡ front ++ marked false head ∷ [] = c.mark_last.ensures.last front head (c.keep.ensures ∙ end.is) in
+    let words : c.mark_last.new.words.items ≡ front ++ marked false head ∷ [] = c.mark_last.ensures.last front head (c.truncate_words.ensures ∙ end.is) in
     let is : take (newest + 1) items ≡ front ++ head ∷ [] = end.is in
     let made : IsMarked (front ++ marked false head ∷ []) newest (with_y (frames_of items) None) = dropped items newest front head c.self.invariant.0 is in (
       subst (λ ws. IsStack ws newest) (sym words) made.stack,
@@ -29,11 +29,11 @@ returns-then-not-is_empty c =
     let items = c.self.inside.words.items in
     let newest = c.self.inside.newest in
     let rest : List Word = take (newest + 1) items in
-    let some : 0 < length rest = omega (arith, above_zero (vec_len c.keep.new.words) c.if-not-is_empty.ensures, c.keep.new.words.ok.0, ap length c.keep.ensures) in
+    let some : 0 < length rest = omega (arith, above_zero (vec_len c.truncate_words.new.words) c.if-not-is_empty.ensures, c.truncate_words.new.words.ok.0, ap length c.truncate_words.ensures) in
     let end : Ends rest = ends rest some in
     let front = end.front in
     let head = end.last in
-    let words : c.mark_last.new.words.items ≡ front ++ marked false head ∷ [] = c.mark_last.ensures.last front head (c.keep.ensures ∙ end.is) in
+    let words : c.mark_last.new.words.items ≡ front ++ marked false head ∷ [] = c.mark_last.ensures.last front head (c.truncate_words.ensures ∙ end.is) in
     let is : take (newest + 1) items ≡ front ++ head ∷ [] = end.is in
     let made : IsMarked (front ++ marked false head ∷ []) newest (with_y (frames_of items) None) = dropped items newest front head c.self.invariant.0 is in
     ap frames_of words ∙ made.frames_are ∙ ap (λ fs. with_y fs None) c.self.view_is

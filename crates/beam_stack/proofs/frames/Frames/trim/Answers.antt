@@ -13,7 +13,7 @@ invariant_of-self c =
     let n = c.args.dropped in
     let some : n ≤ y_count (frames_of items) = subst (λ fs. n ≤ y_count fs) (sym c.self.view_is) c.requires in
     let long : c.len.result ≡ length items = c.len.ensures ∙ c.self.inside.words.ok.0 in
-    let cut : c.keep.new.words.items ≡ take (length items - n) items = c.keep.ensures ∙ ap (λ m. take (m - n) items) long in (
+    let cut : c.truncate_words.new.words.items ≡ take (length items - n) items = c.truncate_words.ensures ∙ ap (λ m. take (m - n) items) long in (
       subst (λ ws. IsStack ws newest) (sym cut) (trim_stack items newest n c.self.invariant.0 some),
       subst (λ ws. length ws ≤ 65536) (sym cut) (take_most (length items - n) 65536 items c.self.invariant.1),
     )
@@ -24,5 +24,5 @@ returns c =
     let n = c.args.dropped in
     let some : n ≤ y_count (frames_of items) = subst (λ fs. n ≤ y_count fs) (sym c.self.view_is) c.requires in
     let long : c.len.result ≡ length items = c.len.ensures ∙ c.self.inside.words.ok.0 in
-    ap frames_of (c.keep.ensures ∙ ap (λ m. take (m - n) items) long) ∙ trim_frames items n some
+    ap frames_of (c.truncate_words.ensures ∙ ap (λ m. take (m - n) items) long) ∙ trim_frames items n some
     ∙ ap (λ fs. with_y fs (option_map (drop n) (newest_y fs))) c.self.view_is

@@ -2,7 +2,7 @@ use Rattle.std.proofs.Common.{◌≡◌, refl}
 use Rattle.std.specs.Prelude.{List, slice_set}
 use Rattle.std.specs.Fn.{FnOnceReturnsAtMut}
 use Rattle.beam_machine.specs.Process.{Process}
-use Rattle.beam_state.proofs.Keeping.{agenda_within, keeps_indexed, keeps_watched, says_of, sets, stands, stays}
+use Rattle.beam_state.proofs.Keeping.{agenda_within, keeps_indexed, keeps_monitored, says_of, sets, stands, stays}
 use Rattle.beam_state.proofs.processes.Processes.change.Goals as goal
 
 pub change-result-requires-clause-callable : goal.change-result-requires-clause-callable
@@ -19,7 +19,7 @@ invariant_of-self g c =
     let q : Process = c.change-result.new.self in
     let keeps = c.requires.keeps p q c.change-result.result (stands ps c.args.self.now c.args.index p c.self.view_is c.requires.within c.index_mut-process.ensures.value) c.change-result.ensures in (
       keeps_indexed _ c.self.inside.agenda c.set.new.self ps c.args.self.now c.args.index p q c.entry_of.result c.self.view_is c.requires.within c.index_mut-process.ensures.value keeps.0 c.entry_of.ensures c.set.ensures c.self.invariant.0,
-      keeps_watched c.self.inside.complete c.self.inside.watched ps c.args.self.now c.args.index p q c.self.view_is c.requires.within c.index_mut-process.ensures.value keeps.1 c.self.invariant.1,
+      keeps_monitored c.self.inside.complete c.self.inside.monitor_index ps c.args.self.now c.args.index p q c.self.view_is c.requires.within c.index_mut-process.ensures.value keeps.1 c.self.invariant.1,
     )
 
 pub returns : goal.returns

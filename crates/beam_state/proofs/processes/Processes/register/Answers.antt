@@ -5,11 +5,11 @@ use Rattle.beam_machine.specs.Process.{Process}
 use Rattle.beam_machine.specs.State.{registered}
 use Rattle.beam_model.specs.SameText.{same_text}
 use Rattle.beam_state.specs.Indexed.{entry_of, IsIndexed}
-use Rattle.beam_state.specs.Watching.{WatchNoMore}
+use Rattle.beam_state.specs.MonitorKeys.{MonitorNoMore}
 use Rattle.beam_state.proofs.Finding.{there}
 use Rattle.beam_state.proofs.Indexing.{Adds, named_indexed}
-use Rattle.beam_state.proofs.Keeping.{agenda_within, items_within, keeps_watched, makes}
-use Rattle.beam_state.proofs.Watching.{no_more}
+use Rattle.beam_state.proofs.Keeping.{agenda_within, items_within, keeps_monitored, makes}
+use Rattle.beam_state.proofs.MonitorKeys.{no_more}
 use Rattle.beam_state.proofs.processes.Processes.register.Goals as goal
 
 pub set-requires : goal.set-requires
@@ -29,7 +29,7 @@ invariant_of-self-2 c =
       subst (λ es. IsIndexed (get same_text c.insert.new.self) es (slice_set ps c.args.index q)) (sym agenda)
           (subst (λ q. IsIndexed (get same_text c.insert.new.self) (slice_set c.self.inside.agenda c.args.index (entry_of r)) (slice_set ps c.args.index q)) (sym is)
           (named_indexed (get same_text c.self.inside.names) (get same_text c.insert.new.self) c.self.inside.agenda ps c.args.index p c.args.name c.self.invariant.0 (there ps c.args.index p (items_within ps c.args.self.now c.args.index c.self.view_is c.requires.within) c.index_mut-process.ensures.value) free adds)),
-      keeps_watched c.self.inside.complete c.self.inside.watched ps c.args.self.now c.args.index p q c.self.view_is c.requires.within c.index_mut-process.ensures.value (subst (λ (q : Process). WatchNoMore p.monitors q.monitors) (sym is) (no_more p.monitors)) c.self.invariant.1,
+      keeps_monitored c.self.inside.complete c.self.inside.monitor_index ps c.args.self.now c.args.index p q c.self.view_is c.requires.within c.index_mut-process.ensures.value (subst (λ (q : Process). MonitorNoMore p.monitors q.monitors) (sym is) (no_more p.monitors)) c.self.invariant.1,
     )
 
 pub returns-clause-ok : goal.returns-clause-ok

@@ -3,7 +3,7 @@ use Rattle.std.specs.Prelude.{is_some}
 use Rattle.beam_machine.specs.Process.{Process}
 use Rattle.beam_machine.specs.State.{process_of, with_process, live_process}
 use Rattle.beam_laws.specs.Monitors.{ArePart}
-use Rattle.beam_laws.specs.Private.{having}
+use Rattle.beam_laws.specs.Private.{with_name_and_transit}
 use Rattle.beam_state.specs.Parts.{Parts, parts, with_processes}
 use Rattle.beam_state.specs.Posting.{CanReplace}
 use Rattle.beam_state.specs.Indexed.{GoesOnFrom}
@@ -19,9 +19,9 @@ living-index-requires c =
 pub change-requires-clause-keeps : goal.change-requires-clause-keeps
 change-requires-clause-keeps c = λ p q was there given.
     let can = subst (λ (s : Parts). CanReplace s.processes c.args.pid c.args.process) (sym c.self.view_is) c.requires.can in
-    let is : q ≡ having p.name p.transit c.args.process = search rules in
+    let is : q ≡ with_name_and_transit p.name p.transit c.args.process = search rules in
     let part = subst (λ (s : Parts). (q : Process) → live_process s.processes c.args.pid ≡ Some q → ArePart q.monitors c.args.process.monitors) (sym c.self.view_is) c.requires.part in
-    subst (GoesOnFrom p) (sym is) (said c.self.inside.processes c.living-index.result p (λ q. GoesOnFrom q (having q.name q.transit c.args.process)) there (goes_on_there c.self.inside.processes c.args.pid c.args.process can c.living-index.result c.living-index.ensures.0 part))
+    subst (GoesOnFrom p) (sym is) (said c.self.inside.processes c.living-index.result p (λ q. GoesOnFrom q (with_name_and_transit q.name q.transit c.args.process)) there (goes_on_there c.self.inside.processes c.args.pid c.args.process can c.living-index.result c.living-index.ensures.0 part))
 
 pub invariant_of-self : goal.invariant_of-self
 invariant_of-self c =
@@ -38,7 +38,7 @@ returns c = λ q there.
     let old : process_of ps c.args.pid ≡ Some q = subst (λ (s : Parts). process_of s.processes c.args.pid ≡ Some q) (sym c.self.view_is) there in
     let done : Replaced ps c.living-index.result c.args.process c.change.new.self c.change.result = search rules in
     let does = replaced_is ps c.args.pid c.args.process can c.living-index.result c.living-index.ensures.0 c.change.new.self c.change.result q done old in
-    let put : Process = having q.name q.transit c.args.process in (
+    let put : Process = with_name_and_transit q.name q.transit c.args.process in (
       ap (λ qs. parts qs c.self.inside.clock c.self.inside.instances c.self.inside.references) does.0 ∙ ap (λ (s : Parts). with_processes s (with_process s.processes c.args.pid put)) c.self.view_is,
       does.1,
     )

@@ -11,7 +11,7 @@ use Rattle.beam_state.proofs.Answering.{set_process}
 use Rattle.beam_state.proofs.Asked.{runs_found, said}
 use Rattle.beam_state.proofs.Leaving.{is_there}
 use Rattle.beam_state.proofs.Responding.{changed_lawful}
-use Rattle.beam_state.proofs.Watching.{part_fewer}
+use Rattle.beam_state.proofs.MonitorKeys.{part_fewer}
 use Rattle.beam_state.proofs.state.State.change.Goals as goal
 
 pub change-requires-clause-keeps : goal.change-requires-clause-keeps

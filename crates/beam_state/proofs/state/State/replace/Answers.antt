@@ -3,7 +3,7 @@ use Rattle.std.specs.Prelude.{is_some}
 use Rattle.beam_machine.specs.Process.{Process}
 use Rattle.beam_machine.specs.State.{process_of, with_process, live_process}
 use Rattle.beam_laws.specs.Monitors.{Rise}
-use Rattle.beam_laws.specs.Private.{having}
+use Rattle.beam_laws.specs.Private.{with_name_and_transit}
 use Rattle.beam_state.specs.Parts.{Parts, parts, with_processes}
 use Rattle.beam_state.specs.Posting.{CanReplace}
 use Rattle.beam_state.proofs.Replacing.{Replaced, is_live, keeps_there, replaced_lawful, replaced_is}
@@ -33,7 +33,7 @@ returns c = λ q there.
     let old : process_of ps c.args.pid ≡ Some q = subst (λ (s : Parts). process_of s.processes c.args.pid ≡ Some q) (sym c.self.view_is) there in
     let done : Replaced ps c.living-index.result c.args.process c.replace.new.self c.replace.result = c.replace.ensures in
     let does = replaced_is ps c.args.pid c.args.process can c.living-index.result c.living-index.ensures.0 c.replace.new.self c.replace.result q done old in
-    let put : Process = having q.name q.transit c.args.process in (
+    let put : Process = with_name_and_transit q.name q.transit c.args.process in (
       ap (λ qs. parts qs c.self.inside.clock c.self.inside.instances c.self.inside.references) does.0 ∙ ap (λ (s : Parts). with_processes s (with_process s.processes c.args.pid put)) c.self.view_is,
       does.1,
     )

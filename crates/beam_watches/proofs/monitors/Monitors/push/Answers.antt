@@ -1,5 +1,5 @@
 use Rattle.std.proofs.Common.{sym, subst, ◌∙◌}
-use Rattle.beam_watches.specs.Kept.{AreBelow}
+use Rattle.beam_watches.specs.MonitorEntries.{AreBelow}
 use Rattle.beam_watches.proofs.Parts.{below_first, below_second, apart_pushed}
 use Rattle.beam_watches.proofs.monitors.Monitors.push.Goals as goal
 

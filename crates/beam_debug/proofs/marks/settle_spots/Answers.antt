@@ -1,7 +1,0 @@
-use Rattle.std.proofs.Common.{rules, tests}
-use Rattle.std.proofs.lemmas.Fn.{filter_same}
-use Rattle.beam_machine.specs.Change.{is_live}
-use Rattle.beam_debug.proofs.marks.settle_spots.Goals as goal
-
-pub returns : goal.returns
-returns c = filter_same _ (λ spot. is_live c.args.core.now.code spot.instance) _ (λ spot kept g step. search (rules, tests)) _ _ c.retain.ensures.filtered

@@ -1,6 +1,0 @@
-use Rattle.std.proofs.Common.{◌≡◌}
-use Rattle.beam_model.specs.External.{is_byte_list}
-use Rattle.beam_etf.proofs.writing.is_text.Given as goal
-
-abbrev pub invariant-loop-head : goal.invariant-loop-head
-invariant-loop-head l = is_byte_list l.rest ≡ is_byte_list l.list

@@ -1,0 +1,9 @@
+use Rattle.beam_queue.specs.Closing.{stealer_count, KeepsCounts}
+use Rattle.beam_queue.specs.Counting.{total}
+use Rattle.beam_queue.proofs.closing.return_stealers.Given as goal
+
+abbrev pub invariant-loop-stealer : goal.invariant-loop-stealer
+invariant-loop-stealer g l = KeepsCounts l.fn.run_queues.items l.run_queues.items
+
+abbrev pub decreases-loop-stealer : goal.decreases-loop-stealer
+decreases-loop-stealer g l = total stealer_count l.run_queues.items

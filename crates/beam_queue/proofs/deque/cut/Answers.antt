@@ -1,5 +1,0 @@
-use Rattle.beam_queue.proofs.Moves.{forks}
-use Rattle.beam_queue.proofs.deque.cut.Goals as goal
-
-pub another-requires : goal.another-requires
-another-requires c = forks _ _ c.requires

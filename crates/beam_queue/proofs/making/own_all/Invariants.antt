@@ -1,9 +1,0 @@
-use Rattle.std.proofs.Common.{◌≡◌, ◌++◌, length, map}
-use Rattle.std.specs.List.{range_with_len}
-use Rattle.beam_queue.specs.Lanes.{new_lane}
-use Rattle.beam_queue.proofs.making.own_all.Given as goal
-
--- a lane for each queue so far
-abbrev pub invariant-loop-fresh : goal.invariant-loop-fresh
-invariant-loop-fresh g l =
-    (l.yielded ++ l.fresh-iterator.rest.items ≡ l.fn.queues.items) × (l.lanes.items ≡ map new_lane (range_with_len 0 (length l.yielded)))

@@ -1,0 +1,49 @@
+-- The clauses of a node's command, of its answer and of its refusal, make it an answered command.
+use Rattle.std.proofs.Common.{◌≡◌, ◌≢◌, ◌<◌, ◌++◌, ◌∷◌, [], false, length, Some}
+use Rattle.std.specs.Prelude.{Result, Ok, Err, IfOk, IfErr, OnErr, OnOk}
+use Rattle.beam_machine.specs.declared.debug.DebugEvent.{DebugEvent}
+use Rattle.beam_machine.specs.Journal.{IsLawful, replay}
+use Rattle.beam_model.specs.Listing.{Listing}
+use Rattle.beam_debug.specs.declared.outcome.Outcome.{Outcome}
+use Rattle.beam_debug.specs.Answers.{reply_of}
+use Rattle.beam_debug.specs.Loud.{DebugLoudly}
+use Rattle.beam_journal.specs.Entering.{Accepts, entry_of}
+use Rattle.beam_receipts.specs.Receipts.{SeatHistory, of_seat}
+use Rattle.beam_shared.specs.declared.refusal.Refusal.{Refusal}
+use Rattle.beam_shared.specs.Node.{Node, accepted}
+use Rattle.beam_shared.specs.Refusals.{RefusesCommand, must_wait}
+use Rattle.beam_shared.specs.Seats.{AddUp, AreOfSeats}
+use Rattle.beam_sched.specs.CommandAnswers.{CommandAnswered, answer_of}
+
+pub command_answered : (n new : Node) (s t : SeatHistory) (event : DebugEvent Listing) (r : Result Outcome Refusal)
+    → IsLawful n.journal → replay n.journal ≡ n.state → AreOfSeats n → AddUp n → s.kept ≡ of_seat s.number n.journal → s.number < n.seats
+    → IfOk r (λ reply. Accepts n.state event (reply_of reply))
+    → IfOk r (λ reply. new ≡ accepted n event s.number (reply_of reply))
+    → IfOk r (λ reply. t ≡ record s { kept = s.kept ++ entry_of event (Some s.number) (reply_of reply) ∷ [] })
+    → IfOk r (λ reply. DebugLoudly n.state event (Ok (reply_of reply)) new.state)
+    → OnOk r ((length n.journal ≢ n.limit) × (must_wait n.checked_out event ≡ false))
+    → IfErr r (λ refusal. RefusesCommand n event refusal)
+    → OnErr r ((new ≡ n) × (t ≡ s))
+    → CommandAnswered s event (answer_of r) t
+command_answered n new s t event (Ok outcome) lawful replays of_seats add_up kept given accepts node seat loud may refused err = record {
+  node = n;
+  new = new;
+  lawful = lawful;
+  replays = replays;
+  of_seats = of_seats;
+  add_up = add_up;
+  given = given;
+  kept = kept;
+  answered = record { accepts = accepts; loud = loud; may = may; node = node; seat = seat };
+}
+command_answered n new s t event (Err refusal) lawful replays of_seats add_up kept given accepts node seat loud may refused err = record {
+  node = n;
+  new = new;
+  lawful = lawful;
+  replays = replays;
+  of_seats = of_seats;
+  add_up = add_up;
+  given = given;
+  kept = kept;
+  answered = record { why = refused; node = err.0; seat = err.1 };
+}

@@ -1,0 +1,15 @@
+-- Moments at which the node is to be scanned. (This node's own.)
+use Rattle.std.specs.Prelude.{ℕ, min, Option, Some, None, option_map}
+use Rattle.beam_machine.specs.Process.{Process}
+use Rattle.beam_machine.specs.Ready.{due_of}
+
+-- the lesser of two moments
+abbrev pub earlier : Option ℕ → Option ℕ → Option ℕ
+earlier (Some a) (Some b) = Some (min a b)
+earlier (Some a) None = Some a
+earlier None b = b
+
+-- the deadline of a process, if there is one and it waits
+abbrev pub deadline_of : Option Process → Option ℕ
+deadline_of (Some p) = option_map (λ due. due.0) (due_of p)
+deadline_of None = None

@@ -1,0 +1,52 @@
+//! Which processes can go by an event that is accepted.
+
+use beam_debug::outcome::Outcome;
+use beam_image::Image;
+use beam_machine::debug::DebugEvent;
+use beam_machine::event::{Event, Reply};
+use beam_term::Term;
+
+/// Which processes can go after an event that couldn't before.
+#[derive(Clone, Copy, Debug, PartialEq, Eq)]
+pub enum MadeRunnable {
+    /// Only this process, and if it has ended, those that monitor it.
+    One(u32),
+    /// Only the process that the event starts.
+    Started,
+    /// Any process.
+    Any,
+    /// None: the event only reads something.
+    Nobody,
+}
+
+/// The receiver of a message, which may be any process if it is sent to a name.
+fn receiver(to: &Term) -> MadeRunnable {
+    match to.as_pid() {
+        Some(pid) => MadeRunnable::One(pid.id),
+        None => MadeRunnable::Any,
+    }
+}
+
+impl MadeRunnable {
+    /// Which processes can go after an event.
+    pub fn of(event: &DebugEvent<Image>) -> MadeRunnable {
+        match event {
+            DebugEvent::Node(Event::Spawn { .. }) => MadeRunnable::Started,
+            DebugEvent::Node(Event::Send { to, .. }) => receiver(to),
+            DebugEvent::Node(Event::Deliver { pid } | Event::Timeout { pid })
+            | DebugEvent::Resume { pid } => MadeRunnable::One(*pid),
+            DebugEvent::Node(Event::Versions(_)) | DebugEvent::Inspect { .. } =>
+                MadeRunnable::Nobody,
+            _ => MadeRunnable::Any,
+        }
+    }
+
+    /// The process that can go, by the node's answer to the event. `None` where it may be any, or where there is none.
+    pub fn pid(self, outcome: &Outcome) -> Option<u32> {
+        match (self, outcome) {
+            (MadeRunnable::One(pid), _) => Some(pid),
+            (MadeRunnable::Started, Outcome::Node(Reply::Started(pid))) => Some(*pid),
+            _ => None,
+        }
+    }
+}

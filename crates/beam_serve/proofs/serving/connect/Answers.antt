@@ -1,6 +1,0 @@
-use denote.Param.Send.{sendable}
-use Rattle.beam_serve.proofs.Crossing.{Attendant_send}
-use Rattle.beam_serve.proofs.serving.connect.Goals as goal
-
-pub run_with_helpers-schedulers-requires-send-H : goal.run_with_helpers-schedulers-requires-send-H
-run_with_helpers-schedulers-requires-send-H g c κs w = let t = c.type_bounds in search (sendable, Attendant_send) depth 20

@@ -1,0 +1,111 @@
+//! The connections to a port, with a session over each of them.
+
+use crate::acceptor::Acceptor;
+use crate::sessions::Incoming;
+use crate::streams::Streams;
+use crate::timed_stream::TimedStream;
+use beam_remote::{ServeError, Served, SessionFailure};
+use beam_tools::os_error::OsError;
+use log::{Log, info, warn};
+use std::net::{SocketAddr, TcpStream};
+use std::sync::Wait;
+use std::time::{Clock, Duration};
+
+/// Both ways of a connection.
+type Link<'a, R> = Streams<TimedStream<'a, TcpStream, R>, TimedStream<'a, TcpStream, R>>;
+
+/// The connections that one thread takes.
+#[derive(Drop)]
+pub struct IncomingConnections<'a, R> {
+    rt: &'a R,
+    acceptor: &'a Acceptor<'a>,
+    /// The number of this thread among those that take connections, from 0 on.
+    number: usize,
+    /// How long a peer may give or take nothing.
+    idle: Option<Duration>,
+    /// The peer of the session.
+    peer: Option<SocketAddr>,
+}
+
+impl<'a, R> IncomingConnections<'a, R> {
+    /// The connections that the thread of this number takes at an acceptor.
+    pub fn new(
+        rt: &'a R,
+        acceptor: &'a Acceptor<'a>,
+        number: usize,
+        idle: Option<Duration>,
+    ) -> IncomingConnections<'a, R> {
+        IncomingConnections {
+            rt,
+            acceptor,
+            number,
+            idle,
+            peer: None,
+        }
+    }
+}
+
+/// Logs that a session failed: a warning with the refusal's name, and then, at info, the peer, the command after which it failed, and the
+/// operating system's error, if a stream failed.
+fn log_failure<R: Log>(rt: &R, peer: SocketAddr, error: &ServeError, os_error: Option<OsError>) {
+    warn!(rt; "{}", error);
+    if let SessionFailure::BadFrame(fault) = error.why {
+        info!(rt; "{peer}: {error} {fault} after command {}", error.done);
+    } else if let Some(os_error) = os_error {
+        info!(rt; "{peer}: {error} after command {}: {}", error.done, os_error.kind_text());
+    } else {
+        info!(rt; "{peer}: {error} after command {}", error.done);
+    }
+}
+
+impl<'a, R: Wait + Clock + Log> IncomingConnections<'a, R> {
+    /// Both ways of a connection. `None` where there are no descriptors for them, or the sockets are shut.
+    fn open(&self, stream: TcpStream) -> Option<Link<'a, R>> {
+        let rt = self.rt;
+        let (Ok(input), Ok(served)) = (stream.try_clone(), stream.try_clone()) else {
+            warn!(rt; "ReadFailed");
+            return None;
+        };
+        if !self
+            .acceptor
+            .endpoint()
+            .sockets
+            .register(rt, self.number, served)
+        {
+            return None;
+        }
+        // Replies are short, and a client waits for each.
+        let _ = stream.set_nodelay(true);
+        let input = TimedStream::new(rt, input, self.idle);
+        let output = TimedStream::new(rt, stream, self.idle);
+        Some(Streams::new(input, output))
+    }
+}
+
+impl<'a, R: Wait + Clock + Log> Incoming<Link<'a, R>> for IncomingConnections<'a, R> {
+    fn next(&mut self) -> Option<Link<'a, R>> {
+        for _ in self.rt.forever() {
+            let (stream, peer) = self.acceptor.next(self.rt)?;
+            info!(self.rt; "{peer}: connected");
+            if let Some(link) = self.open(stream) {
+                self.peer = Some(peer);
+                return Some(link);
+            }
+        }
+        unreachable!()
+    }
+
+    // A session that ends since the sockets are shut isn't a failure.
+    fn ended(&mut self, link: Link<'a, R>, end: Result<Served, ServeError>) {
+        let os_error = link.os_error();
+        drop(link);
+        let sockets = self.acceptor.endpoint().sockets;
+        sockets.unregister(self.rt, self.number);
+        if sockets.are_shut(self.rt) {
+            return;
+        }
+        if let (Err(error), Some(peer)) = (end, self.peer) {
+            log_failure(self.rt, peer, &error, os_error);
+        }
+    }
+}

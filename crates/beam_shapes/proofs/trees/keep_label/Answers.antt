@@ -1,9 +1,0 @@
-use Rattle.std.proofs.Common.{refl}
-use Rattle.std.specs.Prelude.{nat_eq}
-use Rattle.std.proofs.lemmas.Bool.{eqb-true, eq-eqb}
-use Rattle.beam_shapes.proofs.Kept.{kept}
-use Rattle.beam_shapes.proofs.trees.keep_label.Goals as goal
-
-pub returns-in-Ok-clause-kept : goal.returns-in-Ok-clause-kept
-returns-in-Ok-clause-kept c =
-    kept nat_eq (λ x y e. eqb-true x y e) (λ x. eq-eqb x x refl) c.args.labels.now.keys c.insert_full.new.self.keys c.args.label c.in-Ok.at c.in-Ok.ensures.keys c.in-Ok.ensures.stored c.in-Ok.ensures.within

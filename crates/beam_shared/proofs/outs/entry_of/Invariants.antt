@@ -1,9 +1,0 @@
-use Rattle.std.proofs.Common.{◌≡◌, length}
-use Rattle.beam_shared.specs.Kept.{entry_of}
-use Rattle.beam_shared.proofs.outs.entry_of.Given as goal
-
-abbrev pub invariant-loop-entry : goal.invariant-loop-entry
-invariant-loop-entry l = entry_of l.pid l.rest ≡ entry_of l.pid l.fn.out
-
-abbrev pub decreases-loop-entry : goal.decreases-loop-entry
-decreases-loop-entry l = length l.rest

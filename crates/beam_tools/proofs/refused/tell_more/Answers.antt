@@ -1,5 +1,0 @@
-use Rattle.std.proofs.Common.{◌∙◌}
-use Rattle.beam_tools.proofs.refused.tell_more.Goals as goal
-
-pub returns : goal.returns
-returns g c = (c.deref.result.now, c.tell.ensures, λ no. c.deref.ensures.value ∙ c.more-lines.ensures no)

@@ -1,0 +1,55 @@
+//! Why a command line gives nothing to do.
+
+/// What is wrong with a command line.
+pub enum Wrong<'a> {
+    /// The command doesn't take the words, for this reason.
+    Words(Vec<u8>),
+    /// A word is no UTF-8.
+    NoText,
+    /// No subcommand is named.
+    NoCommand,
+    /// No file is named.
+    NoFile,
+    /// Two files have this one name.
+    Same(&'a str),
+    /// The name of a module that has more than 255 characters.
+    LongModule(&'a str),
+    /// The name of a function that has more than 255 characters.
+    LongFunction(&'a str),
+    /// Text that writes no list of at most 255 terms.
+    NoList(&'a str),
+    /// Text that names no level of a log.
+    NoLevel(&'a str),
+    /// Text that isn't a module's and a function's name with a colon between.
+    NoStart(&'a str),
+}
+
+impl Drop for Wrong<'_> {
+    fn drop(self) {
+        match self {
+            Wrong::Words(_words) => {}
+            Wrong::NoText
+            | Wrong::NoCommand
+            | Wrong::NoFile
+            | Wrong::Same(_)
+            | Wrong::LongModule(_)
+            | Wrong::LongFunction(_)
+            | Wrong::NoList(_)
+            | Wrong::NoLevel(_)
+            | Wrong::NoStart(_) => {}
+        }
+    }
+}
+
+/// Why a command line gives nothing to do.
+#[derive(Drop)]
+pub enum EarlyExit<'a> {
+    /// The words ask for the help.
+    Help,
+    /// The words ask for the version.
+    Version,
+    /// The command line is wrong.
+    Wrong(Wrong<'a>),
+    /// Memory was refused.
+    NoMemory,
+}

@@ -1,6 +1,0 @@
-use Rattle.beam_watches.proofs.Flags.{kept_rising}
-use Rattle.beam_watches.proofs.kept.Kept.entries.Goals as goal
-
-pub returns-clause-rising : goal.returns-clause-rising
-returns-clause-rising c =
-    rw (c.deref-2.ensures.value, c.deref-3.ensures.value, c.deref.ensures) (kept_rising _ c.self.inside.flags.items c.self.invariant.rising)

@@ -1,0 +1,292 @@
+//! What a test does beside the workers.
+
+use crate::barrier_gate::{BarrierGate, Tally};
+use crate::commands::Commands;
+use crate::test_deadline::{REFUSED, Unfinished};
+use beam_debug::debugger::Debugger;
+use beam_journal::journal::MOST_ENTRIES;
+use beam_machine::debug::DebugEvent;
+use beam_queue::QueueBrand;
+use beam_receipts::brand::NodeBrand;
+use beam_sched::schedulers::{ForegroundTask, StartedThreads};
+use beam_sched::shared::Shared;
+use beam_sched::thread_context::ThreadContext;
+use std::alloc::Global;
+use std::sync::Wait;
+use std::test::Fail;
+use std::time;
+use std::time::Duration;
+
+/// What a scenario waits for at its end.
+#[derive(Clone, Copy)]
+pub enum Wanted {
+    /// Nothing.
+    Nothing,
+    /// The end of each of the processes from 1 to this number. Those that are held are resumed.
+    Ends(u32),
+    /// The end of a process.
+    End(u32),
+    /// This many entries of the journal.
+    Entries(u32),
+    /// These counts of processes that the workers report to the gate.
+    Tally(Tally),
+}
+
+/// What a test does with a new node, and what it waits for then.
+pub struct Scenario {
+    /// How many entries its journal can have.
+    pub limit: u32,
+    /// The first commands.
+    pub first: Commands,
+    /// The number of the slice from which on slices are held, and how many have to be checked out until they are let go.
+    pub held: (u32, u32),
+    /// Commands that are given once these slices are checked out, 1 ms apart.
+    pub then: Commands,
+    pub wanted: Wanted,
+    /// Whether the workers are stopped once `wanted` has come.
+    pub stops: bool,
+    /// Whether the time is the number of slices that were checked out, in milliseconds, and not a clock's.
+    pub is_by_slices: bool,
+}
+
+impl Drop for Scenario {
+    fn drop(self) {
+        let Scenario {
+            limit: _limit,
+            first: _first,
+            held: _held,
+            then: _then,
+            wanted: _wanted,
+            stops: _stops,
+            is_by_slices: _is_by_slices,
+        } = self;
+    }
+}
+
+impl Scenario {
+    /// A scenario of these commands, after which each of the processes from 1 to `ends` ends.
+    pub fn ending(alloc: Global, first: Commands, ends: u32) -> Scenario {
+        Scenario {
+            limit: MOST_ENTRIES,
+            first,
+            held: (0, 0),
+            then: Commands::new(alloc),
+            wanted: Wanted::Ends(ends),
+            stops: false,
+            is_by_slices: false,
+        }
+    }
+
+    /// A scenario of these commands, and of others, 1 ms apart, once the slices of `held` are checked out, which are held until then. Each of
+    /// the processes from 1 to `ends` ends.
+    pub fn with_barrier(first: Commands, held: (u32, u32), then: Commands, ends: u32) -> Scenario {
+        Scenario {
+            limit: MOST_ENTRIES,
+            first,
+            held,
+            then,
+            wanted: Wanted::Ends(ends),
+            stops: false,
+            is_by_slices: false,
+        }
+    }
+
+    /// A scenario of these commands, whose workers are stopped once `wanted` has come.
+    pub fn until(alloc: Global, first: Commands, wanted: Wanted) -> Scenario {
+        Scenario {
+            limit: MOST_ENTRIES,
+            first,
+            held: (0, 0),
+            then: Commands::new(alloc),
+            wanted,
+            stops: true,
+            is_by_slices: false,
+        }
+    }
+
+    /// How many processes are looked at after the scenario.
+    pub fn ends(&self) -> u32 {
+        match self.wanted {
+            Wanted::Ends(count) => count,
+            _ => 0,
+        }
+    }
+
+    /// Fails if a command couldn't be made.
+    pub fn made(&self) -> Result<(), Fail> {
+        self.first.made()?;
+        self.then.made()
+    }
+}
+
+/// Plays a scenario beside the workers.
+#[derive(Drop)]
+pub struct ScenarioRunner<'a, B: NodeBrand + QueueBrand, R> {
+    rt: &'a R,
+    shared: &'a Shared<B>,
+    gate: &'a BarrierGate<'a, R>,
+    context: ThreadContext<B>,
+    scenario: Scenario,
+    /// How many workers are wanted.
+    workers: usize,
+    /// Why the scenario wasn't played to its end.
+    unfinished: Option<Unfinished>,
+}
+
+fn has_ended(node: &Debugger, pid: u32) -> bool {
+    match node.process(pid) {
+        Some(process) => process.is_ended(),
+        None => false,
+    }
+}
+
+/// Whether the processes 1 to `count` have ended.
+fn have_ended(node: &Debugger, count: u32) -> bool {
+    (1..=count).all(|pid| has_ended(node, pid))
+}
+
+/// The first of the processes 1 to `count` that is held.
+fn first_held(node: &Debugger, count: u32) -> Option<u32> {
+    (1..=count).find(|pid| node.is_held(*pid))
+}
+
+impl Wanted {
+    /// Whether it has come, given the number of entries and the counts that were reported.
+    fn has_come(self, node: &Debugger, entered: u32, report: Tally) -> bool {
+        match self {
+            Wanted::Nothing => true,
+            Wanted::Ends(count) => have_ended(node, count),
+            Wanted::End(pid) => has_ended(node, pid),
+            Wanted::Entries(count) => entered >= count,
+            Wanted::Tally(tally) => report == tally,
+        }
+    }
+
+    /// The failure of a scenario in which it doesn't come.
+    fn late(self) -> Unfinished {
+        match self {
+            Wanted::Nothing => Unfinished::Late("nothing", 0),
+            Wanted::Ends(count) => Unfinished::Late("so many of the processes to end", count),
+            Wanted::End(pid) => Unfinished::Late("the process of this number to end", pid),
+            Wanted::Entries(count) => Unfinished::Late("so many entries of the journal", count),
+            Wanted::Tally(tally) => Unfinished::Late(
+                "the gate to be told what is wanted, with so many ends",
+                tally.ended,
+            ),
+        }
+    }
+}
+
+impl<'a, B: NodeBrand + QueueBrand, R: Wait + time::Clock> ScenarioRunner<'a, B, R> {
+    pub fn new(
+        rt: &'a R,
+        shared: &'a Shared<B>,
+        gate: &'a BarrierGate<'a, R>,
+        context: ThreadContext<B>,
+        scenario: Scenario,
+        workers: usize,
+    ) -> ScenarioRunner<'a, B, R> {
+        ScenarioRunner {
+            rt,
+            shared,
+            gate,
+            context,
+            scenario,
+            workers,
+            unfinished: Some(Unfinished::Undone("no story was played")),
+        }
+    }
+
+    /// The thread context, and why the scenario wasn't played to its end, if it wasn't.
+    pub fn end(self) -> (ThreadContext<B>, Option<Unfinished>) {
+        let ScenarioRunner {
+            gate,
+            context,
+            unfinished,
+            ..
+        } = self;
+        match unfinished {
+            None => (context, gate.report().late),
+            unfinished => (context, unfinished),
+        }
+    }
+
+    /// Whether `wanted` has come, and a process that is held, if there is one.
+    fn look(&self) -> (bool, Option<u32>) {
+        let tally = self.gate.report().tally;
+        let locked = self.shared.node().lock(self.rt);
+        let node = locked.node();
+        let has_come = self
+            .scenario
+            .wanted
+            .has_come(node.debugger(), node.entered(), tally);
+        (has_come, first_held(node.debugger(), self.scenario.ends()))
+    }
+
+    /// Resumes a process, if one is held. False if the command was refused.
+    fn let_go(&mut self, held: Option<u32>) -> bool {
+        match held {
+            Some(pid) => self
+                .shared
+                .command(self.rt, &mut self.context, DebugEvent::Resume { pid })
+                .is_ok(),
+            None => true,
+        }
+    }
+
+    /// Waits for `wanted`. Answers what didn't come, if it didn't.
+    fn wait(&mut self) -> Option<Unfinished> {
+        for _ in 0..u32::MAX {
+            let (has_come, held) = self.look();
+            if has_come {
+                return None;
+            }
+            if !self.let_go(held) {
+                return Some(REFUSED);
+            }
+            if !self.gate.deadline.lasts(self.rt) {
+                break;
+            }
+        }
+        Some(self.scenario.wanted.late())
+    }
+
+    /// Gives the commands, up to the wait at the end. Answers why not all were given, if they weren't.
+    fn begin(&mut self, workers: usize) -> Option<Unfinished> {
+        let rt = self.rt;
+        let shared = self.shared;
+        if workers != self.workers {
+            return Some(Unfinished::Undone("a thread could not be made"));
+        }
+        if !self
+            .scenario
+            .first
+            .give(rt, shared, &mut self.context, Duration::ZERO)
+        {
+            return Some(REFUSED);
+        }
+        let late = self.gate.wait_for_all();
+        if late.is_some() {
+            return late;
+        }
+        let is_given = self
+            .scenario
+            .then
+            .give(rt, shared, &mut self.context, Duration::from_millis(1));
+        if is_given { None } else { Some(REFUSED) }
+    }
+}
+
+impl<B: NodeBrand + QueueBrand, R: Wait + time::Clock> ForegroundTask for ScenarioRunner<'_, B, R> {
+    fn run(&mut self, started: StartedThreads) {
+        self.unfinished = self.begin(started.workers);
+        self.gate.open();
+        if self.unfinished.is_none() {
+            self.unfinished = self.wait();
+        }
+        // A failure is reported even if a process never ends.
+        if self.scenario.stops || self.unfinished.is_some() {
+            self.shared.stop(self.rt);
+        }
+    }
+}

@@ -1,0 +1,250 @@
+//! Moments at which waits begin and end.
+ghost use Rattle.std.specs.Prelude.{◌≡◌};
+
+use crate::commands::Argument::Integer;
+use crate::commands::Commands;
+use crate::listings::SLEEP;
+use crate::played::JournalCounts;
+use crate::stage::{closed, staged};
+use crate::test_deadline::{REFUSED, TestDeadline, Unfinished};
+use beam_debug::debugger::Debugger;
+use beam_journal::journal::MOST_ENTRIES;
+use beam_queue as queue;
+use beam_queue::QueueBrand;
+use beam_receipts::brand::NodeBrand;
+use beam_receipts::keeper::UnbrandedKeeper;
+use beam_sched::clock::Clock;
+use beam_sched::gate::NoGate;
+use beam_sched::schedulers::{ForegroundTask, StartedThreads, run_schedulers};
+use beam_sched::shared::Shared;
+use beam_sched::thread_context::ThreadContext;
+use std::alloc::Global;
+use std::marker::Brand;
+use std::process::Abort;
+use std::sync::Wait;
+use std::sync::atomic::{AtomicU64, Ordering};
+use std::test::*;
+use std::thread::Threads;
+use std::time;
+use std::time::Duration;
+
+/// A clock that stays at the time at which it was put, and counts how often it was read.
+#[derive(Drop)]
+struct ManualClock {
+    time: AtomicU64,
+    reads: AtomicU64,
+}
+
+impl ManualClock {
+    fn put(&self, time: u64) {
+        self.time.store(time, Ordering::SeqCst);
+    }
+}
+
+impl Clock for ManualClock {
+    fn moment(&self) -> u64 {
+        let time = self.time.load(Ordering::SeqCst);
+        let _ = self.reads.fetch_add(1, Ordering::SeqCst);
+        time
+    }
+}
+
+/// How a process stands.
+#[derive(Clone, Copy, PartialEq, Eq)]
+enum ProcessState {
+    Waiting,
+    Ended,
+    Otherwise,
+}
+
+/// How the first process stands.
+fn first_process_state(node: &Debugger) -> ProcessState {
+    match node.process(1) {
+        Some(process) if process.is_ended() => ProcessState::Ended,
+        Some(process) if process.is_waiting() => ProcessState::Waiting,
+        _ => ProcessState::Otherwise,
+    }
+}
+
+/// How often the worker reads the clock at 200, once its process waits. It reads it first in a scan, if one is still wanted after the
+/// commands, and then twice each time that it rests.
+const SETTLED: u64 = 4;
+
+/// How often the worker reads the clock at 299.
+const EARLY: u64 = 60;
+
+/// Starts a process that waits for 100 ms, on a node that has been idle for 200 ms. Checks how the process stands 99 ms later, and whether
+/// it ends 100 ms later.
+#[derive(Drop)]
+struct WaitTest<'a, B: NodeBrand + QueueBrand, R> {
+    rt: &'a R,
+    deadline: TestDeadline,
+    shared: &'a Shared<B>,
+    clock: &'a ManualClock,
+    context: ThreadContext<B>,
+    commands: Commands,
+    /// How the process stood 99 ms later.
+    early: ProcessState,
+    /// Why the test didn't come to its end.
+    unfinished: Option<Unfinished>,
+}
+
+impl<B: NodeBrand + QueueBrand, R: Wait + time::Clock> WaitTest<'_, B, R> {
+    fn process_state(&self) -> ProcessState {
+        first_process_state(self.shared.node().lock(self.rt).node().debugger())
+    }
+
+    /// Waits until the process stands so. False if it didn't in time.
+    fn wait_for(&self, wanted: ProcessState) -> bool {
+        for _ in 0..u32::MAX {
+            if self.process_state() == wanted {
+                return true;
+            }
+            if !self.deadline.lasts(self.rt) {
+                break;
+            }
+        }
+        false
+    }
+
+    /// Puts the clock, and waits until the worker has read it `often` times. False if it didn't in time.
+    fn is_read_at(&self, time: u64, often: u64) -> bool {
+        self.clock.put(time);
+        let before = self.clock.reads.load(Ordering::SeqCst);
+        for _ in 0..u32::MAX {
+            let reads = self.clock.reads.load(Ordering::SeqCst);
+            if reads.saturating_sub(before) >= often {
+                return true;
+            }
+            if !self.deadline.lasts(self.rt) {
+                break;
+            }
+        }
+        false
+    }
+
+    /// Plays the test. Answers why it didn't come to its end, if it didn't.
+    fn play(&mut self) -> Option<Unfinished> {
+        self.clock.put(200);
+        let is_given = self
+            .commands
+            .give(self.rt, self.shared, &mut self.context, Duration::ZERO);
+        if !is_given {
+            return Some(REFUSED);
+        }
+        if !self.wait_for(ProcessState::Waiting) {
+            return Some(Unfinished::Late("the process of this number to wait", 1));
+        }
+        if !self.is_read_at(200, SETTLED) || !self.is_read_at(299, EARLY) {
+            return Some(Unfinished::Late("the clock to be read before this time", 300));
+        }
+        self.early = self.process_state();
+        self.clock.put(300);
+        if self.wait_for(ProcessState::Ended) {
+            None
+        } else {
+            Some(Unfinished::Late("the process of this number to end", 1))
+        }
+    }
+}
+
+impl<B: NodeBrand + QueueBrand, R: Wait + time::Clock> ForegroundTask for WaitTest<'_, B, R> {
+    fn run(&mut self, _started: StartedThreads) {
+        self.unfinished = self.play();
+    }
+}
+
+/// The outcome of the test.
+#[derive(Clone, Copy)]
+struct WaitResult {
+    /// Why the test didn't come to its end.
+    unfinished: Option<Unfinished>,
+    /// How the process stood at 299.
+    early: ProcessState,
+    /// The moments in the journal, one after another.
+    moments: u64,
+}
+
+/// All thread contexts, which came back, how the process stood, and why the test didn't come to its end, if it didn't.
+fn run<'a, B: NodeBrand + QueueBrand + Send + Sync, R: Threads + Wait + time::Clock + Sync>(
+    rt: &'a R,
+    alloc: Global,
+    shared: &'a Shared<B>,
+    clock: &'a ManualClock,
+    contexts: Vec<ThreadContext<B>>,
+    context: ThreadContext<B>,
+    commands: Commands,
+) -> (Vec<ThreadContext<B>>, ProcessState, Option<Unfinished>) {
+    let mut waits = WaitTest {
+        rt,
+        deadline: TestDeadline::new(rt),
+        shared,
+        clock,
+        context,
+        commands,
+        early: ProcessState::Otherwise,
+        unfinished: None,
+    };
+    let mut contexts = run_schedulers(rt, alloc, shared, &NoGate, clock, contexts, &mut waits);
+    let WaitTest {
+        context,
+        early,
+        unfinished,
+        ..
+    } = waits;
+    // A thread context that is lost keeps the node from being closed.
+    let _ = contexts.push(context);
+    (contexts, early, unfinished)
+}
+
+fn wait_once<B: NodeBrand + QueueBrand + Send + Sync, R: Threads + Wait + time::Clock + Sync>(
+    rt: &R,
+    alloc: Global,
+    unbranded: UnbrandedKeeper,
+    queues: queue::UnbrandedQueues,
+    commands: Commands,
+) -> Result<WaitResult, Fail>
+    requires node { unbranded ≡ B.table }
+    requires queues { queues ≡ B.deques }
+{
+    let clock = ManualClock {
+        time: AtomicU64::new(0),
+        reads: AtomicU64::new(0),
+    };
+    let (node, workers, context, _) = staged::<B>(alloc, unbranded, queues, MOST_ENTRIES, 1)?;
+    let shared = Shared::new(alloc, node);
+    let (contexts, early, unfinished) = run(rt, alloc, &shared, &clock, workers, context, commands);
+    let (journal, _) = closed(alloc, shared.into_node(), contexts)?;
+    let (_, moments) = JournalCounts::of(&journal).moments;
+    Ok(WaitResult {
+        unfinished,
+        early,
+        moments,
+    })
+}
+
+fn wait_here<R: Threads + Wait + time::Clock + Sync>(
+    rt: &R,
+    alloc: Global,
+) -> Result<WaitResult, Fail> {
+    let unbranded = UnbrandedKeeper::new(alloc)?;
+    let queues = queue::UnbrandedQueues::new(alloc, 2)?;
+    let commands = Commands::new(alloc)
+        .load(SLEEP)
+        .spawn("s", "sleep", &[Integer(100)]);
+    commands.made()?;
+    wait_once::<Brand, R>(rt, alloc, unbranded, queues, commands)
+}
+
+#[test]
+fn a_wait_begins_at_its_moment(rt: HostRuntime) -> Result<(), Fail> {
+    let waited = wait_here(&rt, rt.alloc())?;
+    if let Some(unfinished) = waited.unfinished {
+        return Err(unfinished.fail());
+    }
+    assert_eq!(rt;
+        (waited.early == ProcessState::Waiting, waited.moments),
+        (true, 200_300)
+    );
+    Ok(())
+}
