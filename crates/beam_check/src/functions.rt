@@ -14,7 +14,7 @@ use std::alloc::{AllocError, Global};
 /// The stage before an instruction: what stands in front of it.
 #[derive(Clone, Copy)]
 pub enum Stage<'a> {
-    Nothing,
+    Start,
     FirstLabel,
     Informed(&'a Atom, u32),
     Body,
@@ -106,7 +106,7 @@ impl<'a> Stage<'a> {
         ensures { option_map shown result ≡ next_stage owner.now (shown self.entry) instruction.now }
     {
         match self {
-            Stage::Nothing => at_start(instruction),
+            Stage::Start => at_start(instruction),
             Stage::FirstLabel => after_first_label(owner, instruction),
             Stage::Informed(_, _) => after_func_info(instruction),
             Stage::Body => within_body(instruction),
@@ -119,7 +119,7 @@ impl<'a> Stage<'a> {
         ensures { result ≡ may_end (shown self.entry) }
     {
         match self {
-            Stage::Nothing | Stage::Body | Stage::BodyLabel => true,
+            Stage::Start | Stage::Body | Stage::BodyLabel => true,
             Stage::FirstLabel | Stage::Informed(_, _) => false,
         }
     }
@@ -144,7 +144,7 @@ pub fn functions_of(alloc: Global, listing: &Listing) -> Result<Option<Vec<Funct
     ensures { IfOk result (λ o. option_map (λ v. v.items) o ≡ functions_of listing.now) }
 {
     let mut functions = Vec::new(alloc);
-    let mut stage = Stage::Nothing;
+    let mut stage = Stage::Start;
     let mut rest = listing.instructions.as_slice();
     while let Some((instruction, others)) = rest.split_first() {
         let Some(next) = stage.next_stage(&listing.module, instruction) else {

@@ -84,7 +84,7 @@ impl<B: NodeBrand + QueueBrand, G: Gate, C: Clock, R: Wait + time::Clock> Worker
             return WorkerAction::End;
         }
         if self.must_scan() {
-            return WorkerAction::Look;
+            return WorkerAction::Scan;
         }
         match self.dequeue() {
             Some(pid) => WorkerAction::Run(pid),
@@ -126,7 +126,7 @@ impl<B: NodeBrand + QueueBrand, G: Gate, C: Clock, R: Wait + time::Clock> Worker
         match next_action {
             WorkerAction::Rest => idle.wait(self.rt, guard, self.wait_limit()),
             WorkerAction::End => idle.end(guard),
-            WorkerAction::Run(_) | WorkerAction::Look => drop(guard),
+            WorkerAction::Run(_) | WorkerAction::Scan => drop(guard),
         }
         idle.end_wait();
         next_action
@@ -281,7 +281,7 @@ impl<B: NodeBrand + QueueBrand, G: Gate, C: Clock, R: Wait + time::Clock> Worker
         let next_action = self.next_action();
         match next_action {
             WorkerAction::Run(pid) => self.run(pid),
-            WorkerAction::Look => self.scan(),
+            WorkerAction::Scan => self.scan(),
             WorkerAction::Rest | WorkerAction::End => {}
         }
         self.report_threshold();

@@ -8,7 +8,7 @@ pub enum WorkerAction {
     /// It runs a process.
     Run(u32),
     /// It looks which processes of the node can go.
-    Look,
+    Scan,
     /// It has waited, or is to wait.
     Rest,
     /// It ends.
@@ -28,7 +28,7 @@ pub fn idle_action(
     if is_stopped {
         WorkerAction::End
     } else if is_wanted {
-        WorkerAction::Look
+        WorkerAction::Scan
     } else if is_closed && retry.is_none() {
         WorkerAction::End
     } else {

@@ -55,7 +55,7 @@ fn mismatch_part(first: FirstMismatch) -> PartFault {
 // Which instructions came before the next one, as far as the next one depends on that.
 #[derive(Clone, Copy)]
 enum HeadStage<'a> {
-    Nothing,
+    Start,
     FirstLabel,
     Informed(FunctionName<'a>),
     Body,
@@ -195,7 +195,7 @@ fn next_stage<'a>(
     instruction: &'a Instruction,
 ) -> Option<HeadStage<'a>> {
     match (stage, instruction.opcode) {
-        (HeadStage::Nothing, Opcode::Label) => Some(HeadStage::FirstLabel),
+        (HeadStage::Start, Opcode::Label) => Some(HeadStage::FirstLabel),
         (HeadStage::FirstLabel, Opcode::Line) => Some(HeadStage::FirstLabel),
         (HeadStage::FirstLabel | HeadStage::BodyLabel, Opcode::FuncInfo) => {
             informed(module, instruction.operands.as_slice())
@@ -392,7 +392,7 @@ pub fn part_faults(alloc: Global, listing: &Listing) -> Result<Vec<PartFault>, A
         listing,
         defined,
         seen,
-        stage: HeadStage::Nothing,
+        stage: HeadStage::Start,
         entries: Vec::new(alloc),
         parts: Vec::new(alloc),
         lacks_memory: false,
