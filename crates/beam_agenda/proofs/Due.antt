@@ -17,7 +17,7 @@ due_at by None = false
 abbrev pub due_of_pair : ℕ → List (Option ℕ) → ℕ → ℕ
 due_of_pair by ts k = cond (due_at by (slice_get ts (double k))) (double k) (suc (double k))
 
--- ---- of two
+-- ---- of two times
 
 or_none : (b : Bool) → b ≡ (b || false)
 or_none true = refl

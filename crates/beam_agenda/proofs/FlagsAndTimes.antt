@@ -13,7 +13,7 @@ use Rattle.beam_agenda.specs.Positions.{first_position, position_from}
 use Rattle.beam_agenda.proofs.Pairing.{nat_le_false, earlier_none, earlier_of_three}
 use Rattle.beam_agenda.proofs.Positions.{add_none, all_within}
 
--- ---- their number
+-- ---- their count
 
 pub length-entries_of : (ns : List ℕ) (ts : List (Option ℕ)) → Covers ns ts → length (entries_of ns ts) ≡ length ts
 length-entries_of [] [] h = refl
@@ -54,7 +54,7 @@ Covers-set (m ∷ ns) [] i n due l h = absurd (omega arith)
 Covers-set (m ∷ ns) (t ∷ ts) zero n due l h = h
 Covers-set (m ∷ ns) (t ∷ ts) (suc i) n due l h = Covers-set ns ts i n due (omega arith) h
 
--- ---- an entry more
+-- ---- one entry more
 
 pub entries_of-append : (ns : List ℕ) (ts : List (Option ℕ)) → Covers ns ts → entries_of (ns ++ 0 ∷ []) ts ≡ entries_of ns ts
 entries_of-append [] [] h = refl
@@ -86,7 +86,7 @@ Covers-push [] ts n due l h = absurd (omega arith)
 Covers-push (m ∷ ns) [] n due l h = h.1
 Covers-push (m ∷ ns) (t ∷ ts) n due l h = Covers-push ns ts n due (omega arith) h
 
--- room for one more
+-- room for one more entry
 abbrev pub Room : List ℕ → List (Option ℕ) → List AgendaEntry → Type 0
 Room ns ts es = Covers ns ts × (length ts < length ns) × (entries_of ns ts ≡ es)
 

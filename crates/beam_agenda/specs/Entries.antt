@@ -1,7 +1,7 @@
 -- Times that may be missing.
 use Rattle.std.specs.Prelude.{ℕ, Bool, false, nat_le, if◌then◌else◌, Option, Some, None}
 
--- the time that comes first
+-- the earlier of two times
 abbrev pub earlier : Option ℕ → Option ℕ → Option ℕ
 earlier (Some a) (Some b) = if nat_le a b then Some a else Some b
 earlier (Some a) None = Some a

@@ -2,7 +2,7 @@
 use Rattle.std.specs.Prelude.{ℕ, List, [], ◌∷◌, Option}
 use Rattle.beam_agenda.specs.Entries.{earlier}
 
--- the lesser time of each pair of neighbours; the last time by itself where their number is odd
+-- the earlier time of each pair of neighbours; the last time by itself where their count is odd
 abbrev pub pairs : List (Option ℕ) → List (Option ℕ)
 pairs [] = []
 pairs (a ∷ []) = a ∷ []

@@ -17,7 +17,7 @@ pub(crate) struct Times {
     above: Above,
 }
 
-/// The list above a list: one time for each two; none for a list of one time or of no times.
+/// The list above a list: one time for each two neighbours; none for a list of one time or of no times.
 #[cycle(times)]
 #[derive(Drop)]
 enum Above {
@@ -75,7 +75,7 @@ fn pair(times: &[Option<u64>], at: usize) -> Option<u64>
     }
 }
 
-/// The position of the first of the two times for which one of the list above stands, if it is due, else of the second.
+/// The position of the first of the two times for which the one at `at` of the list above stands, if the first is due, else of the second.
 fn due_of_pair(times: &[Option<u64>], by: u64, at: usize) -> usize
     requires { 2 * at < length times.now }
     ensures { (due : Option ℕ) → slice_get times.now (2 * at) ≡ Some due → result ≡ (if is_due_by by due then 2 * at else 2 * at + 1) }

@@ -1,4 +1,4 @@
--- Tests of labels by a mark for each label are tests by the list of the marked labels.
+-- Tests of labels by a function that marks labels are tests by the list of the marked labels.
 use Rattle.std.proofs.Common.{◌≡◌, ℕ, Bool, ◌&&◌, ◌||◌, true, false, List, [], ◌∷◌, ◌++◌, length, refl, ap, sym, ◌∙◌}
 use Rattle.std.specs.Prelude.{◌==◌, not, nat_lt}
 use Rattle.std.specs.List.{list_all, zip}
@@ -65,7 +65,7 @@ or_swapped true false = refl
 or_swapped false true = refl
 or_swapped false false = refl
 
--- where the mark tells the numbers before, no number stands among them or twice
+-- where exactly the earlier numbers are marked, no number stands among them or twice
 unmarked_new : (marked : ℕ → Bool) (before ns : List ℕ) → Tells marked before → are_unmarked marked ns ≡ are_new before ns
 unmarked_new marked before [] h = refl
 unmarked_new marked before (n ∷ rest) h =

@@ -1,4 +1,4 @@
--- LabelSet in a table and a set, and what is asked of labels by a test of them.
+-- A set of labels, in a table and an index set, and what is asked of labels by a test of them.
 use Rattle.std.specs.Prelude.{◌≡◌, ℕ, Bool, true, false, ◌&&◌, ◌||◌, nat_lt, length, slice_index_or, if◌then◌else◌, List}
 use Rattle.std.specs.List.{list_all}
 use Rattle.beam_model.specs.declared.instruction.Argument.{Argument}
@@ -12,11 +12,11 @@ use Rattle.beam_model.specs.Opcodes.{kinds_of}
 use Rattle.beam_model.specs.Loadable.{is_among, is_none_label, all_operands}
 use Rattle.beam_check.specs.declared.labels.LabelSet.{LabelSet}
 
--- a label is marked in the table, or is past it and in the set
+-- a label of the set: it is marked in the table, or it is past the table and in the index set
 abbrev pub has_label : LabelSet → ℕ → Bool
 has_label labels n = if nat_lt n (length labels.near.items) then slice_index_or labels.near.items n false else is_among n labels.far.keys
 
--- these labels are marked, and no others
+-- the set holds these labels, and no others
 abbrev pub HasLabels : List ℕ → LabelSet → Type 0
 HasLabels ns labels = (n : ℕ) → has_label labels n ≡ is_among n ns
 

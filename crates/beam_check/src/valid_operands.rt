@@ -66,7 +66,7 @@ pub fn are_operands_valid(alloc: Global, listing: &Listing) -> Result<bool, Allo
     }
 }
 
-/// Whether labels are lawful, which needs no look where all that is asked of operands is kept.
+/// Whether labels are lawful, which needs no look where the operands are valid.
 #[tactic(auto, using(crate::proofs::ValidOperands::labels_of_valid))]
 pub fn are_labels_lawful_where(
     alloc: Global,
@@ -82,7 +82,7 @@ pub fn are_labels_lawful_where(
     are_labels_lawful(alloc, listing)
 }
 
-/// Whether natives are known, which needs no look where all that is asked of operands is kept.
+/// Whether natives are known, which needs no look where the operands are valid.
 #[tactic(auto, using(crate::proofs::ValidOperands::natives_of_valid))]
 pub fn are_natives_known_where(listing: &Listing, valid: bool) -> bool
     requires { valid ≡ are_operands_valid listing.now }
@@ -91,7 +91,7 @@ pub fn are_natives_known_where(listing: &Listing, valid: bool) -> bool
     valid || are_natives_known(listing)
 }
 
-/// Whether limits are kept, which needs no look where all that is asked of operands is kept.
+/// Whether limits are kept, which needs no look where the operands are valid.
 #[tactic(auto, using(crate::proofs::ValidOperands::limits_of_valid))]
 pub fn are_limits_kept_where(listing: &Listing, valid: bool) -> bool
     requires { valid ≡ are_operands_valid listing.now }

@@ -5,11 +5,11 @@ use Rattle.beam_model.specs.Tables.{Tables}
 use Rattle.beam_code.specs.declared.instruction.ChunkLayout.{ChunkLayout}
 use Rattle.beam_code.specs.Bytes.{CodeBytes, instructions_in, AreStarts, AreLabels}
 
--- a chunk whose instructions begin at these places
+-- a chunk whose instructions begin at the starts of this layout
 abbrev pub chunk_with : Tables → List ℕ → ChunkLayout → CodeBytes
 chunk_with t code p = record { tables = t; code = code; starts = p.starts; end = p.end }
 
--- these are the instructions at the places, and the labels among them
+-- the layout is that of these instructions, and has the labels among them
 pub record HasLayout (t : Tables) (code : List ℕ) (is : List Instruction) (p : ChunkLayout) : Type 0 where
   pub starts : AreStarts (chunk_with t code p)
   pub instructions : instructions_in (chunk_with t code p) ≡ is

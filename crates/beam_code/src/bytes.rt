@@ -124,7 +124,7 @@ impl CodeBytes {
         ensures instructions { IfOk result (λ r. instructions_in r.0 ≡ r.1.instructions.items) }
     {
         let (chunk, mut places) = code_chunk(alloc, code, atoms, imports, literals)?;
-        // They were grown as they were found.
+        // These vectors grew as the starts and labels were found.
         places.starts.shrink_to_fit();
         places.labels.shrink_to_fit();
         let bytes = CodeBytes {
@@ -295,7 +295,7 @@ impl CodeBytes {
     }
 }
 
-/// OperandReader where they stand.
+/// Bytes and operands where they stand.
 impl CodeBytes {
     /// The byte at a position.
     #[inline(always)]

@@ -46,7 +46,7 @@ impl Drop for ChunkLayout {
 /// Where the first instruction of a chunk stands.
 const FIRST: usize = 20;
 
-/// Where the operands of an instruction stand in a vector that others share.
+/// The opcode of an instruction, and where its operands stand in a vector that it shares with others.
 #[derive(Clone, Copy)]
 struct InstructionSpan {
     opcode: Opcode,
@@ -204,7 +204,7 @@ fn is_end_of_code(opcode: Opcode) -> bool
     matches!(opcode, Opcode::IntCodeEnd)
 }
 
-/// The instructions of a chunk up to int_code_end, and their places. NoMemory too if a position may not fit in a u32.
+/// The instructions of a chunk up to int_code_end, and their layout. NoMemory too if a position may not fit in a u32.
 pub fn instructions(
     alloc: Global,
     atoms: &[Atom],

@@ -37,7 +37,7 @@ pairs_none front left text total r so_far =
     let one : before_list front (pairs_at left text) ≡ Err (length text) = rw r refl in
     sym so_far ∙ one
 
--- a list has room for a further element
+-- a list with a further element is still not too deep
 pub fits_more : (front : List TermValue) (x : TermValue) (left d depth_left : ℕ) → ((t : TermValue) → depth_of t ≤ left → depth_of (list_before front t) ≤ depth_left) → left ≡ suc d → depth_of x ≤ d
     → (u : TermValue) → depth_of u ≤ d → depth_of (list_before (front ++ x ∷ []) u) ≤ depth_left
 fits_more front x left d depth_left fits r h u k = rw (list_before-append front (x ∷ []) u) (fits (pair_term x u) (omega (arith, r, h, k)))

@@ -44,7 +44,7 @@ pub puts_stop : (depth_left : ℕ) (read : Reading TermValue) (rest : List ℕ) 
 puts_stop depth_left read rest place old new (Ok x) s h k = absurd h
 puts_stop depth_left read rest place old new (Err y) s h k = rw h k
 
--- the stop at a term that has room
+-- a stop at a term that isn't too deep
 pub puts_term_stop : (depth_left : ℕ) (read : Reading TermValue) (rest : List ℕ) (place : ℕ) (old new : List TermValue) (result : Result Unit ReadStop) (t : TermError)
     → IsErrAnd result (λ y. y ≡ stop_of t) → (t ≡ terms.TooDeep → ⊥) → Puts depth_left read rest place old new result
 puts_term_stop depth_left read rest place old new result terms.NoMemory h k = puts_stop depth_left read rest place old new result stops.NoMemory h tt

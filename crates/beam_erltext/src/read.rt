@@ -377,7 +377,7 @@ fn read(
     }
 }
 
-// The elements of a list, and its end, one level of room less with each element.
+// The elements of a list, and its end; each element leaves one level of depth less to those after it.
 #[cycle(read)]
 fn read_list(
     alloc: Global,
@@ -415,7 +415,7 @@ fn read_list(
     }
 }
 
-// The elements of a tuple, with one level of room less, and its end.
+// The elements of a tuple, each of one level of depth less, and its end.
 #[cycle(read)]
 fn read_tuple(
     alloc: Global,

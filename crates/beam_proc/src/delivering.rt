@@ -143,7 +143,7 @@ fn push(messages: &mut Vec<Signal>, message: Option<Term>) -> Result<(), AllocEr
     Ok(())
 }
 
-/// The messages that signals bring. A DOWN brings one if its monitor is kept; a second DOWN of that monitor brings none.
+/// The messages that signals bring. A DOWN brings one if its monitor is still there; a second DOWN of that monitor brings none.
 #[tactic(auto, using(crate::proofs::Arriving::but_none, crate::proofs::Arriving::carried, crate::proofs::Deliveries::append_none))]
 fn arriving(
     alloc: Global,

@@ -1,4 +1,4 @@
-//! Answers of natives, given without memory.
+//! Return values of natives, and the actions after natives, done without memory.
 ghost use Rattle.std.specs.Prelude.{◌≡◌, ◌<◌, true, length, is_some, None, Ok, IfOk};
 ghost use Rattle.std.specs.Option.{option_copied};
 ghost use Rattle.beam_machine.specs.Process.{put_x, dropped, then_of, with_y};

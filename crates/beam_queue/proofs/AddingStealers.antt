@@ -1,4 +1,4 @@
--- Lanes get their thieves, one after another.
+-- Run queues get their stealers, one after another.
 use Rattle.std.proofs.Common.{◌≡◌, ◌≢◌, ℕ, zero, suc, ◌+◌, ◌-◌, ◌<◌, ◌≤◌, ◌⊎◌, inl, inr, ⊎_elim, ◌==◌, if◌then◌else◌, Bool, true, false, List, [], ◌∷◌, ◌++◌, length, map, set, get_or, refl, sym, ap, ◌∙◌, subst, append_assoc, append-nil, arith}
 use Rattle.std.specs.List.{range_with_len}
 use Rattle.std.proofs.lemmas.Bool.{cases_eq, cases_lt}
@@ -11,7 +11,7 @@ use Rattle.beam_queue.specs.Making.{number_of, LentAtMost, AddsStealersOf, AddsS
 use Rattle.beam_queue.proofs.ReturningStealers.{keeps_both}
 use Rattle.beam_queue.proofs.Sums.{total_set, total_snoc, map_set}
 
--- a lane that is as before, as f sees it
+-- a run queue that is as before, as f sees it
 seen_same : {Y : Type 0} (f : RunQueue → Y) (ls : List RunQueue) (i j : ℕ) (u w d : RunQueue) → i < length ls → u ≡ get_or ls i u → f w ≡ f u → f (get_or (set ls i w) j d) ≡ f (get_or ls j d)
 seen_same f ls i j u w d few at is =
     ⊎_elim
@@ -27,7 +27,7 @@ one_more : (b : Bool) (n : ℕ) → (if b then n + 1 else 0) ≡ (if b then n el
 one_more true n = refl
 one_more false n = refl
 
--- the lane at a place got a thief of one queue
+-- the run queue at an index got a stealer of one queue
 abbrev pub AddsOneStealer : ℕ → ℕ → List RunQueue → List RunQueue → Type 0
 AddsOneStealer at of old new =
     (map number_of new ≡ map number_of old)

@@ -1,11 +1,11 @@
--- Thieves go back to their queues, one after another.
+-- Stealers go back to their queues, one after another.
 use Rattle.std.proofs.Common.{◌≡◌, ℕ, ◌+◌, ◌<◌, ◌==◌, if◌then◌else◌, List, [], ◌∷◌, ◌++◌, length, map, set, slice_index_or, refl, sym, ap, subst, arith}
 use Rattle.beam_queue.specs.Closing.{stealer_count, lent, HaveNoStealers, RemovesStealer}
 use Rattle.beam_queue.specs.Counting.{total, times, one_if}
 use Rattle.beam_queue.specs.RunQueues.{OwnQueue, Stealer, RunQueue, enqueued_by, taken_by, victims, stealers_of, lent_of, stolen_by}
 use Rattle.beam_queue.proofs.Sums.{total_snoc, total_set}
 
--- the last lane is closed
+-- the last run queue has no stealers and has lent none
 pub last_has_no_stealers : (run_queues rest : List RunQueue) (l : RunQueue) → run_queues ≡ rest ++ l ∷ [] → HaveNoStealers run_queues → (stealer_count l ≡ 0) × (lent l ≡ 0)
 last_has_no_stealers run_queues rest l is home =
     let h = total_snoc stealer_count rest l in let h' = ap (total stealer_count) is in let k = home.0 in
@@ -35,7 +35,7 @@ long : {X : Type 0} (xs : List X) (x : X) → length (xs ++ x ∷ []) ≡ length
 long [] x = omega arith
 long (y ∷ xs) x = let r = long xs x in omega (arith, r)
 
--- a lane gives its last thief
+-- a run queue gives its last stealer
 pub gives_at : (i : ℕ) (now old : List RunQueue) (t : Stealer) (u v : RunQueue) → i < length now → u ≡ slice_index_or now i u → (v.queue ≡ u.queue) × (u.stealers ≡ v.stealers ++ t ∷ []) → now ≡ old
     → RemovesStealer t old (set now i v)
 gives_at i now old t u v few at gave same =

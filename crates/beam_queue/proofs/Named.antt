@@ -15,7 +15,7 @@ named_at f xs ys vs x all n is names at =
     ap (λ l. slice_get l n) (sym names ∙ ap (map f) (sym is) ∙ map-append f xs (x ∷ ys))
     ∙ (ap (λ k. slice_get (map f xs ++ (f x ∷ map f ys)) k) (at ∙ sym (length-map xs f)) ∙ at_end (map f xs) (map f ys) (f x))
 
--- one lane more
+-- one run queue more
 pub one_run_queue : {X : Type 0} (run_queues new : List RunQueue) (before : List X) (x : X) (run_queue : RunQueue) (n : ℕ) → run_queues ≡ map new_run_queue (range_with_len 0 (length before)) → n ≡ length before
     → run_queue ≡ new_run_queue n → new ≡ run_queues ++ run_queue ∷ [] → new ≡ map new_run_queue (range_with_len 0 (length (before ++ x ∷ [])))
 one_run_queue run_queues new before x run_queue n old at is grown =

@@ -1,4 +1,4 @@
--- If each thief goes back to its queue, as many came of each queue as it had lent.
+-- If each stealer goes back to its queue, as many came of each queue as it had lent.
 use Rattle.std.proofs.Common.{◌≡◌, ℕ, ◌+◌, ◌-◌, ◌<◌, ◌≤◌, ◌==◌, Bool, true, false, if◌then◌else◌, List, [], ◌∷◌, set, get_or, refl, ap, subst, length, arith}
 use Rattle.std.proofs.lemmas.Bool.Decides.{nat_tests}
 use Rattle.beam_queue.specs.Closing.{stealer_count, lent, RemovesStealer, KeepsCounts}
@@ -21,14 +21,14 @@ few false n = omega arith
 itself : (n : ℕ) → (n == n) ≡ true
 itself n = grind arith
 
--- a lane whose queue has lent thieves of a number has the queue of that number
+-- a run queue for which `lent_of` isn't 0 has the queue of that number
 pub lends_own : (n : ℕ) (u : RunQueue) → 0 < lent_of n u → (u.queue.number ≡ n) × (0 < u.queue.lent)
 lends_own n u some =
     let own = own_lent (u.queue.number == n) u.queue.lent some in
     let same : (u.queue.number == n) ≡ true = own.0 in
     let number : u.queue.number ≡ n = grind (arith, nat_tests) in (number, own.1)
 
--- a thief that was taken out goes back to its queue
+-- a stealer that was removed from a run queue goes back to its queue
 pub gives_back : (i : ℕ) (old mid : List RunQueue) (t : Stealer) (u v : RunQueue) → i < length mid → u ≡ get_or mid i u → 0 < lent_of t.of u → v ≡ record u { queue = takes_back t u.queue }
     → RemovesStealer t old mid → KeepsCounts old (set mid i v) × (total stealer_count (set mid i v) + 1 ≡ total stealer_count old)
 gives_back i old mid t u v in' at some is gave =
@@ -77,16 +77,16 @@ none_at_all (l ∷ ls) none =
     let h = none l.queue.number in let o = own_of l in
     let r = none_at_all ls (λ n. let m = none n in omega (arith, m)) in omega (arith, h, o, r)
 
--- where no lane has a thief and no queue has lent one, all thieves came back
+-- where no run queue has a stealer and no queue has lent one, all stealers came back
 pub have_all_stealers : (old now : List RunQueue) → KeepsCounts old now → total stealer_count now ≡ 0 → total lent now ≡ 0 → HaveAllStealers old
 have_all_stealers old now kept held' lent' n = let k = kept.2 n in let v = no_victims n now held' in let l = none_of n now lent' in omega (arith, k, v, l)
 
--- where no lane has a thief and all came back, no queue has lent one
+-- where no run queue has a stealer and all came back, no queue has lent one
 pub none_lent_more : (old now : List RunQueue) → KeepsCounts old now → total stealer_count now ≡ 0 → HaveAllStealers old → total lent now ≡ 0
 none_lent_more old now kept held' back =
     none_at_all now (λ n. let k = kept.2 n in let v = no_victims n now held' in let b = back n in omega (arith, k, v, b))
 
--- where a lane has a thief whose queue has lent none, not all came back
+-- where a run queue has a stealer whose queue has lent none, not all came back
 pub not_all_stealers : (old now mid : List RunQueue) (t : Stealer) → KeepsCounts old now → RemovesStealer t now mid → total (lent_of t.of) mid ≡ 0 → HaveAllStealers old → ⊥
 not_all_stealers old now mid t kept gave none back =
     let k = kept.2 t.of in let v = gave.3 t.of in let l = gave.4 t.of in let b = back t.of in

@@ -1,4 +1,4 @@
--- A thief among others takes a pid.
+-- One of several stealers takes a pid.
 use Rattle.std.proofs.Common.{◌≡◌, ℕ, ◌<◌, List, [], ◌∷◌, length, set, get_or, slice_index_or, refl, ap, sym, ◌∙◌, subst, arith}
 use Rattle.beam_queue.specs.Counting.{times, one_if}
 use Rattle.beam_queue.specs.RunQueues.{Stealer, stealer_takes, OneStole}

@@ -1,4 +1,4 @@
--- Sums over lists that grow, shrink or change at a place.
+-- Sums over lists that grow, shrink or change at an index.
 use Rattle.std.proofs.Common.{◌≡◌, ℕ, zero, suc, ◌+◌, ◌<◌, ◌≤◌, List, [], ◌∷◌, ◌++◌, length, map, take, set, get_or, refl, ap, ◌∙◌, arith}
 use Rattle.beam_queue.specs.Counting.{total}
 
@@ -9,7 +9,7 @@ total-append f (x ∷ xs) ys = let r = total-append f xs ys in omega (arith, r)
 pub total_snoc : {X : Type 0} (f : X → ℕ) (xs : List X) (x : X) → total f (xs ++ x ∷ []) ≡ total f xs + f x
 total_snoc f xs x = let r = total-append f xs (x ∷ []) in omega (arith, r)
 
--- a place of a list is set
+-- an element of a list is set
 pub total_set : {X : Type 0} (f : X → ℕ) (xs : List X) (i : ℕ) (y d : X) → i < length xs → total f (set xs i y) + f (get_or xs i d) ≡ total f xs + f y
 total_set f [] i y d few = absurd (omega (arith, few))
 total_set f (x ∷ xs) zero y d few = omega arith
@@ -20,7 +20,7 @@ map_set f [] i y d few is = refl
 map_set f (x ∷ xs) zero y d few is = ap (λ z. z ∷ map f xs) is
 map_set f (x ∷ xs) (suc i) y d few is = ap (λ zs. f x ∷ zs) (map_set f xs i y d (omega (arith, few)) is)
 
--- the first places of a list, one more
+-- the first elements of a list, one more
 pub total_more : {X : Type 0} (f : X → ℕ) (xs : List X) (i : ℕ) (d : X) → i < length xs → total f (take (i + 1) xs) ≡ total f (take i xs) + f (get_or xs i d)
 total_more f [] i d few = absurd (omega (arith, few))
 total_more f (x ∷ xs) zero d few = omega arith
@@ -40,7 +40,7 @@ total_at f [] i d few = absurd (omega (arith, few))
 total_at f (x ∷ xs) zero d few = omega arith
 total_at f (x ∷ xs) (suc i) d few = let r = total_at f xs i d (omega (arith, few)) in omega (arith, r)
 
--- a sum of 0 so far, with 0 at the next place, is 0
+-- a sum of 0 so far, with 0 at the next index, is 0
 pub none_more : {X : Type 0} (f : X → ℕ) (xs : List X) (i : ℕ) (x : X) → i < length xs → x ≡ get_or xs i x → f x ≡ 0 → total f (take i xs) ≡ 0 → total f (take (i + 1) xs) ≡ 0
 none_more f xs i x few at none before = let m = total_more f xs i x few in let a = ap f at in omega (arith, m, a, none, before)
 

@@ -1,4 +1,4 @@
--- The invariant of a queue and of all hands on it. (This crate's own.)
+-- The invariant of a queue and of all contributions to it. (This crate's own.)
 use Rattle.std.specs.Prelude.{◌≡◌, ℕ, ◌+◌, List, [], ◌∷◌}
 use Rattle.std.specs.declared.alloc.Global.{Global}
 use mathlib.Core.Option.{some}
@@ -16,7 +16,7 @@ DequeId = RowsId × Global
 abbrev pub contribution : ℕ → List ℕ → List ℕ → Contribution
 contribution parts put taken = record { parts = parts; put = put; taken = taken }
 
--- a hand with no part has put and taken nothing
+-- a contribution without a part has put and taken nothing
 abbrev pub IdleIsEmpty : List Contribution → Type 0
 IdleIsEmpty hands = (port : ℕ) (v : Contribution) → get_elem? hands port ≡ some v → v.parts ≡ 0 → (v.put ≡ []) × (v.taken ≡ [])
 
@@ -27,7 +27,7 @@ Balanced items hands =
     × ((h : ℕ → ℕ) → total (λ v. total h v.put) hands ≡ total (λ v. total h v.taken) hands + total h items)
     × IdleIsEmpty hands
 
--- the hand that a pass holds
+-- the contribution that a pass holds
 abbrev pub contribution_of : {A : Type 0} → Pass ℕ Contribution A → Contribution
 contribution_of p = view p
 

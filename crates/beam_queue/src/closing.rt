@@ -1,4 +1,4 @@
-//! The queues are closed.
+//! Closing the queues.
 ghost use Rattle.std.specs.Prelude.{◌≡◌, ◌+◌, ◌<◌, ◌↔◌, ℕ, true, length, get_or, IfOk, IfSome, IfNone, IsErrOf};
 ghost use Rattle.beam_queue.specs.Closing.{stealer_count, lent, HaveNoStealers, RemovesStealer, KeepsCounts};
 ghost use Rattle.beam_queue.specs.Counting.{total, times};
@@ -11,7 +11,7 @@ use crate::stealer::Stealer;
 use std::alloc::{AllocError, Global};
 use thiserror::Error;
 
-/// Why queues aren't closed. They are then gone, with the pids that were left in them.
+/// Why the queues aren't closed. They are then gone, with the pids that were left in them.
 #[derive(Clone, Copy, Debug, PartialEq, Eq, Error)]
 pub enum NotClosed {
     /// Memory was refused.
@@ -33,7 +33,7 @@ impl From<AllocError> for NotClosed {
     }
 }
 
-/// Closes the queues: gives each stealer back to its queue, for any order of the run queues, and answers the pids that are left in them.
+/// Closes the queues: gives each stealer back to its queue, for any order of the run queues, and returns the pids that are left in them.
 pub fn close<Q: QueueBrand>(
     alloc: Global,
     run_queues: Vec<RunQueue<Q>>,
@@ -64,7 +64,7 @@ fn return_stealers<Q: QueueBrand>(run_queues: &mut Vec<RunQueue<Q>>) -> bool
     none_lent(run_queues)
 }
 
-/// A stealer of some run queue.
+/// Removes a stealer from some run queue; none if no run queue has one.
 fn take_stealer<Q: QueueBrand>(run_queues: &mut Vec<RunQueue<Q>>) -> Option<Stealer<Q>>
     ensures some { IfSome result (λ t. RemovesStealer t run_queues.old.items run_queues.new.items) }
     ensures none { IfNone result ((run_queues.new.items ≡ run_queues.old.items) × (total stealer_count run_queues.new.items ≡ 0)) }
@@ -77,7 +77,7 @@ fn take_stealer<Q: QueueBrand>(run_queues: &mut Vec<RunQueue<Q>>) -> Option<Stea
     None
 }
 
-/// Where the run queue stands whose queue has a number, if it has stealers lent.
+/// The index of the run queue whose queue has this number, if that queue has lent stealers.
 fn lender<Q: QueueBrand>(run_queues: &[RunQueue<Q>], number: usize) -> Option<usize>
     ensures some { IfSome result (λ i. (i < length run_queues.now) × ((d : _) → 0 < lent_of number (get_or run_queues.now i d))) }
     ensures none { IfNone result (total (lent_of number) run_queues.now ≡ 0) }

@@ -55,7 +55,7 @@ pub fn steal(deque_stealer: &DequeStealer, pass: &mut DequePass) -> Steal<u32>
     deque_stealer.steal_as::<Takes>(pass)
 }
 
-/// A part for a stealer.
+/// Cuts off a part for a stealer.
 pub fn split_pass(deque: &mut Deque) -> DequePass
     requires { 1 < (worker_view deque.old).parts }
     ensures same { IsSame deque.old deque.new × IsPassOf (worker_deque deque.old) result }
@@ -65,7 +65,7 @@ pub fn split_pass(deque: &mut Deque) -> DequePass
     deque.another::<StealerPart>()
 }
 
-/// A thief's part comes back.
+/// Takes a stealer's part back.
 pub fn join_pass(deque: &mut Deque, pass: DequePass)
     requires { IsPassOf (worker_deque deque.old) pass × (0 < (worker_view deque.old).parts) }
     ensures same { IsSame deque.old deque.new }

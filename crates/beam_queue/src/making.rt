@@ -1,4 +1,4 @@
-//! Queues that are made, and branded.
+//! Making queues, and branding them.
 ghost use Rattle.std.specs.Prelude.{◌≡◌, ◌<◌, ◌≤◌, ◌⊎◌, ℕ, Some, [], map, length, slice_get, get_or, if◌then◌else◌, nat_lt, IfOk, OnOk, IsErrOf};
 ghost use Rattle.std.specs.List.{range_with_len};
 ghost use Rattle.crossbeam_deque.specs.Handles.{worker_deque};
@@ -16,7 +16,7 @@ use std::alloc::{AllocError, AllocFailed, Global};
 use std::marker::Model;
 use thiserror::Error;
 
-/// Why run queues aren't made. The queues are then gone.
+/// Why no run queues are made. The queues are then gone.
 #[derive(Clone, Copy, Debug, PartialEq, Eq, Error)]
 pub enum NotMade {
     /// Memory was refused.
@@ -61,7 +61,7 @@ fn make_deque(alloc: Global) -> Result<FreshDeque, AllocError> {
     Ok(FreshDeque { deque })
 }
 
-/// Empty queues that have no name yet. Contracts see which they are.
+/// Empty queues without a brand yet. Contracts see which they are.
 pub struct UnbrandedQueues {
     queues: Vec<FreshDeque>,
 }
@@ -94,9 +94,9 @@ impl UnbrandedQueues {
         Ok(UnbrandedQueues { queues })
     }
 
-    /// A run queue for each of the queues, in their order, in which nothing was enqueued. The first `schedulers` run queues have a stealer of each
-    /// other queue, and ask the next queue first; the others only enqueue. `NoMemory` where memory is refused, `TooMany` where a queue
-    /// would have more than 999 stealers; the queues are then gone, and nothing was enqueued in them.
+    /// A run queue for each of the queues, in their order, in which nothing was enqueued. The first `schedulers` run queues have a stealer
+    /// of each other queue, and ask the next queue first; the others only enqueue. `NoMemory` where memory is refused, `TooMany` where a
+    /// queue would have more than 999 stealers; the queues are then gone, and nothing was enqueued in them.
     pub fn branded<Q: QueueBrand>(
         self,
         alloc: Global,
@@ -120,7 +120,7 @@ impl UnbrandedQueues {
     }
 }
 
-/// A run queue of the queue of a number, without stealers.
+/// The run queue of a fresh deque, with its number, without stealers.
 fn run_queue_of<Q: QueueBrand>(alloc: Global, number: usize, fresh: FreshDeque) -> RunQueue<Q>
     requires { slice_get Q.deques number ≡ Some (worker_deque fresh.deque) }
     ensures { result ≡ new_run_queue number }
@@ -129,7 +129,7 @@ fn run_queue_of<Q: QueueBrand>(alloc: Global, number: usize, fresh: FreshDeque) 
     RunQueue::new(OwnQueue::new(number, deque), Vec::new(alloc))
 }
 
-/// A run queue of each queue, without stealers.
+/// A run queue for each queue, without stealers.
 fn without_stealers<Q: QueueBrand>(
     alloc: Global,
     queues: Vec<FreshDeque>,

@@ -11,7 +11,7 @@ use crate::stealer::Stealer;
 use std::alloc::AllocError;
 use std::marker::{Model, PhantomData};
 
-/// The queue of a number, with the count of its lent stealers.
+/// A thread's own queue, with its number and the count of the stealers that it has lent.
 pub(crate) struct OwnQueue<Q: QueueBrand> {
     number: usize,
     lent: u32,
@@ -58,7 +58,7 @@ impl<Q: QueueBrand> OwnQueue<Q> {
         }
     }
 
-    /// Its number.
+    /// The queue's number.
     pub(crate) fn number(&self) -> usize
         ensures { result ≡ self.now.number }
     {
@@ -80,14 +80,14 @@ impl<Q: QueueBrand> OwnQueue<Q> {
         put(&mut self.deque, pid)
     }
 
-    /// Takes the oldest pid of it. It takes no memory.
+    /// Takes the oldest pid of the queue. It takes no memory.
     pub(crate) fn pop(&mut self) -> Option<u32>
         ensures { MatchOption result (self.new ≡ self.old) (λ pid. self.new ≡ takes pid self.old) }
     {
         take(&mut self.deque)
     }
 
-    /// A stealer of this queue.
+    /// Lends a stealer of this queue.
     pub(crate) fn lend_stealer(&mut self) -> Result<Stealer<Q>, AllocError>
         requires few { self.old.lent < 999 }
         ensures lent { IfOk result (λ t. (t ≡ new_stealer self.old.number) × (self.new ≡ lends self.old)) }
@@ -109,7 +109,7 @@ impl<Q: QueueBrand> OwnQueue<Q> {
         self.lent -= 1;
     }
 
-    /// Appends the pids that are left in it to `left`.
+    /// Appends the pids that are left in the queue to `left`.
     pub(crate) fn drain(self, left: Vec<u32>) -> Result<Vec<u32>, AllocError>
         requires back { self.lent ≡ 0 }
         ensures { IfOk result (λ all. (pid : ℕ) → times pid self.taken + times pid all.items ≡ times pid self.enqueued + times pid left.items) }

@@ -20,7 +20,7 @@ impl Protocol<u32, Contribution> for BalanceProtocol {
     ghost guest = { contribution 0 [] [] };
 }
 
-/// One part is cut off for a stealer, and put to the rest again.
+/// One part is cut off for a stealer, and later joined to the rest again.
 pub struct StealerPart;
 
 impl Split<Contribution> for StealerPart {
@@ -35,21 +35,21 @@ impl Join<Contribution> for StealerPart {
     ghost spent = { contribution 0 [] [] };
 }
 
-/// A hand puts.
+/// A holder puts.
 pub struct Puts;
 
 impl Outcome<u32, Contribution> for Puts {
     ghost then = { λ v xs w. w ≡ contribution v.parts (v.put ++ xs) v.taken };
 }
 
-/// A hand takes.
+/// A holder takes.
 pub struct Takes;
 
 impl Outcome<u32, Contribution> for Takes {
     ghost then = { λ v xs w. w ≡ contribution v.parts v.put (v.taken ++ xs) };
 }
 
-/// The hand with every part takes: if the queue is empty, all pids that were put were taken.
+/// The holder with every part takes: if the queue is empty, all pids that were put were taken.
 pub struct Drains;
 
 impl Outcome<u32, Contribution> for Drains {

@@ -14,12 +14,12 @@ use crossbeam_deque::Steal;
 use std::alloc::AllocError;
 use std::marker::Model;
 
-/// A thread's own queue, and its stealers of the others; the run queue of a thread that only enqueues has no stealers. Contracts see the pids
-/// that it enqueued, and those that it took from each queue.
+/// A thread's own queue, and its stealers of the others; the run queue of a thread that only enqueues has no stealers. Contracts see the
+/// pids that it enqueued, and those that it took from each queue.
 pub struct RunQueue<Q: QueueBrand> {
     pub(crate) queue: OwnQueue<Q>,
     pub(crate) stealers: Vec<Stealer<Q>>,
-    // the place of the stealer that is asked first
+    // the index of the stealer that is asked first
     next: usize,
 }
 
@@ -53,8 +53,8 @@ impl<Q: QueueBrand> RunQueue<Q> {
         }
     }
 
-    /// Enqueues a process: puts its pid into the run queue's queue. If the queue can't grow, or has had 2^62 pids, the pid comes back and isn't
-    /// enqueued.
+    /// Enqueues a process: puts its pid into the run queue's queue. If the queue can't grow, or has had 2^62 pids, the pid comes back and
+    /// isn't enqueued.
     pub fn push(&mut self, pid: u32) -> Result<(), u32>
         ensures enqueued { IfOk result (λ _. self.new ≡ record self.old { queue = enqueues pid self.old.queue }) }
         ensures refused { IfErr result (λ p. (p ≡ pid) × (self.new ≡ self.old)) }
@@ -91,7 +91,7 @@ impl<Q: QueueBrand> RunQueue<Q> {
         self.queue.lent()
     }
 
-    /// How many stealers the queue of a number has lent, if it is this run queue's.
+    /// How many stealers the queue with this number has lent, if it is this run queue's; else 0.
     pub(crate) fn lent_by(&self, number: usize) -> u32
         ensures { result ≡ lent_of number self.now }
     {
@@ -102,7 +102,7 @@ impl<Q: QueueBrand> RunQueue<Q> {
         }
     }
 
-    /// A stealer of its queue, of which at most 999 are lent.
+    /// Lends a stealer of its queue; at most 999 are lent.
     pub(crate) fn lend_stealer(&mut self) -> Result<Stealer<Q>, NotMade>
         ensures lent { IfOk result (λ t. (t ≡ new_stealer self.old.queue.number) × (self.new ≡ record self.old { queue = lends self.old.queue })) }
         ensures many { IsErrOf result TooMany → 999 ≤ self.old.queue.lent }
@@ -113,7 +113,7 @@ impl<Q: QueueBrand> RunQueue<Q> {
         Ok(self.queue.lend_stealer()?)
     }
 
-    /// Takes a stealer of another queue.
+    /// Adds a stealer of another queue.
     pub(crate) fn add_stealer(&mut self, stealer: Stealer<Q>) -> Result<(), AllocError>
         ensures { OnOk result (self.new ≡ record self.old { stealers = self.old.stealers ++ stealer ∷ [] }) }
     {
@@ -122,7 +122,7 @@ impl<Q: QueueBrand> RunQueue<Q> {
         Ok(())
     }
 
-    /// One of its stealers, which goes.
+    /// Removes one of its stealers.
     pub(crate) fn remove_stealer(&mut self) -> Option<Stealer<Q>>
         ensures some { IfSome result (λ t. (self.new.queue ≡ self.old.queue) × (self.old.stealers ≡ self.new.stealers ++ t ∷ [])) }
         ensures none { IfNone result ((self.new ≡ self.old) × (stealer_count self.old ≡ 0)) }
@@ -152,7 +152,7 @@ impl<Q: QueueBrand> RunQueue<Q> {
     }
 }
 
-/// A place, or the first after the last.
+/// The index, or 0 if it is past the last one.
 fn wrapped(next: usize, len: usize) -> usize
     requires { 0 < len }
     ensures { result < len }
@@ -160,7 +160,7 @@ fn wrapped(next: usize, len: usize) -> usize
     if next < len { next } else { 0 }
 }
 
-/// Asks the stealers in turn, beginning at a place, until one has a pid. `Retry` if none has one, and another thread was faster at one.
+/// Asks the stealers in turn, beginning at an index, until one has a pid. `Retry` if none has one, and another thread was faster at one.
 fn steal_from_any<Q: QueueBrand>(stealers: &mut Vec<Stealer<Q>>, next: &mut usize) -> Steal<u32>
     ensures { MatchSteal result (stealers.new.items ≡ stealers.old.items) (stealers.new.items ≡ stealers.old.items)
         (λ pid. OneStole pid stealers.old.items stealers.new.items) }

@@ -10,7 +10,7 @@ use crate::deque::{DequePass, DequeStealer, steal};
 use crossbeam_deque::Steal;
 use std::marker::{Model, PhantomData};
 
-/// A stealer of the queue of a number.
+/// A stealer of the queue with a number, and the pids that it took.
 pub(crate) struct Stealer<Q: QueueBrand> {
     of: usize,
     deque_stealer: DequeStealer,
@@ -72,7 +72,7 @@ impl<Q: QueueBrand> Stealer<Q> {
         steal(&self.deque_stealer, &mut self.pass)
     }
 
-    /// Its part, with the pids that it took.
+    /// Its pass, with the pids that it took.
     pub(crate) fn into_pass(self) -> DequePass
         ensures here { (deque : _) → slice_get Q.deques self.of ≡ Some deque → IsPassOf deque result }
         ensures view { view result ≡ contribution 1 [] self.taken }

@@ -37,7 +37,7 @@ if_some : {A : Type 0} (o : Option A) (P Q : A → Type 0) → ((a : A) → P a 
 if_some None P Q f h = h
 if_some (Some a) P Q f h = f a h
 
--- ---- which pass has the share of a seat
+-- ---- which pass has a seat's history
 
 abbrev placed : (ℕ → ℕ) → Option SeatHistory → ℕ → ℕ → ℕ
 placed owner None at m = owner m
@@ -49,7 +49,7 @@ placed_here owner s at = ap (λ b. cond b at (owner s.number)) (eq-eqb s.number 
 placed_else : (owner : ℕ → ℕ) (s : SeatHistory) (at m : ℕ) → m ≢ s.number → placed owner (Some s) at m ≡ owner m
 placed_else owner s at m apart = ap (λ b. cond b at (owner m)) (ne_eqb m s.number apart)
 
--- a seat's share is where it was, if this pass didn't have it
+-- a seat's history is in the pass where it was, if this pass didn't have it
 elsewhere : (owner : ℕ → ℕ) (o : Option SeatHistory) (by at j m : ℕ) → IfSome o (λ s. by ≡ owner s.number) → j ≢ by → j ≡ owner m → j ≡ placed owner o at m
 elsewhere owner None by at j m had apart e = e
 elsewhere owner (Some s) by at j m had apart e = e ∙ sym (placed_else owner s at m (λ same. apart (e ∙ ap owner same ∙ sym had)))
@@ -82,7 +82,7 @@ unused given (e ∷ rest) below =
 given_later : (given : ℕ) (entries : List Entry) → AreOfGiven given entries → AreOfGiven (given + 1) entries
 given_later given entries below = λ k d lt. if_some (slice_index_or entries k d).seat (λ n. n < given) (λ n. n < given + 1) (λ n less. omega arith) (below k d lt)
 
--- an entry of the seat whose share a pass had, or of no seat, isn't one of another pass's share
+-- an entry of the seat whose history a pass had, or of no seat, isn't of a seat whose history another pass has
 not_theirs : (owner : ℕ → ℕ) (o : Option SeatHistory) (seat : Option ℕ) (by j n : ℕ) → option_map (λ s. s.number) o ≡ seat → IfSome o (λ s. by ≡ owner s.number) → j ≢ by → j ≡ owner n → is_number n seat ≡ false
 not_theirs owner None seat by j n is had apart e = ap (is_number n) (sym is)
 not_theirs owner (Some s) seat by j n is had apart e = is_other n s.number seat (sym is) (λ same. apart (e ∙ ap owner same ∙ sym had))
@@ -122,11 +122,11 @@ fits_cut now knower next claims by left right rest mine new j c e =
 
 -- ---- steps
 
--- a pass's claim is cut in two, and a new pass has the second
+-- a pass's claim is split in two, and a new pass has the second part
 abbrev pub Cuts : ℕ → Claim → Claim → Claim → Type 0
 Cuts by v left right = (claims : List Claim) → ClaimsAgree claims → get_elem? claims by ≡ some v → ClaimsAgree (set claims by left ++ right ∷ [])
 
--- a pass takes in another's claim, and the other is spent
+-- a pass takes in another's claim, and the other's is spent
 abbrev pub Glues : ℕ → Claim → ℕ → Claim → Claim → Claim → Type 0
 Glues by v other w both spent =
     (claims : List Claim) → ClaimsAgree claims → get_elem? claims by ≡ some v → ¬ (other ≡ by) → get_elem? (set claims by both) other ≡ some w → ClaimsAgree (set (set claims by both) other spent)
@@ -138,7 +138,7 @@ begins = (empty_history, 0, (λ _. 0), All-nil (λ (e : Entry). IfSome e.seat (�
     one zero c e = subst (Fits empty_history 0 (λ _. 0) 0) (some-injective _ _ e) ((refl, refl), tt, tt)
     one (suc by) c e = absurd (some-ne-none c (sym e))
 
--- the keeper's pass, with the share or the checkout that it has taken in
+-- the claim of the keeper's pass, with the seat history or the checkout that it has taken in
 abbrev pub full : History → Option SeatHistory → Option Checkout → Claim
 full k seat_history checkout = record { history = Some k; seat_history = seat_history; checkout = checkout }
 
@@ -183,11 +183,11 @@ checks_out by k o claims h at =
           (tt, tt, subst (λ (x : History). slice_get (x.checkouts ++ o ∷ []) (length k.checkouts) ≡ Some o) mine.1 (slice_get_end k.checkouts o)),
     )
 
--- the claim of a full pass about a share, without the share's place
+-- a pass that had a seat's history owned it
 had : (all : History) (owner : ℕ → ℕ) (by : ℕ) (o : Option SeatHistory) → IfSome o (λ s. (by ≡ owner s.number) × IsSeatHistory all s) → IfSome o (λ s. by ≡ owner s.number)
 had all owner by o f = if_some o (λ s. (by ≡ owner s.number) × IsSeatHistory all s) (λ s. by ≡ owner s.number) (λ s h. h.0) f
 
--- the pass that now has the share
+-- the pass that now has the seat's history
 has : (all : History) (owner : ℕ → ℕ) (by at : ℕ) (o : Option SeatHistory) → IfSome o (λ s. (by ≡ owner s.number) × IsSeatHistory all s) → IfSome o (λ s. (at ≡ placed owner o at s.number) × IsSeatHistory all s)
 has all owner by at None f = tt
 has all owner by at (Some s) f = (sym (placed_here owner s at), f.1)
@@ -232,13 +232,13 @@ gives_back by k seat_history checkout claims h at =
           (tt, has all owner by (length claims) seat_history was.1, was.2),
     )
 
--- the pass that has the share with the entry
+-- the pass that has the seat's history with the entry
 has_more : (all : History) (owner : ℕ → ℕ) (by at : ℕ) (e : Entry) (o : Option SeatHistory) → option_map (λ s. s.number) o ≡ e.seat → IfSome o (λ s. (by ≡ owner s.number) × IsSeatHistory all s)
     → IfSome (option_map (with_seat_entry e) o) (λ s. (at ≡ placed owner o at s.number) × IsSeatHistory (with_entry e all) s)
 has_more all owner by at e None is f = tt
 has_more all owner by at e (Some s) is f = (sym (placed_here owner s at), (f.1.0, ap (λ l. l ++ e ∷ []) f.1.1 ∙ sym (of_seat_more s.number all.journal e (is_this s.number e.seat (sym is)))))
 
--- an entry of the seat whose share a pass had is of one that was given
+-- an entry of the seat whose history a pass had is of a seat that was given
 given_more : (all : History) (owner : ℕ → ℕ) (by : ℕ) (e : Entry) (o : Option SeatHistory) → option_map (λ s. s.number) o ≡ e.seat → IfSome o (λ s. (by ≡ owner s.number) × IsSeatHistory all s)
     → AreOfGiven all.given all.journal → AreOfGiven all.given (all.journal ++ e ∷ [])
 given_more all owner by e o is f was = All-append (λ (x : Entry). IfSome x.seat (λ n. n < all.given)) all.journal (e ∷ []) was only
@@ -299,7 +299,7 @@ gives_back_as by v k seat_history checkout is = subst (λ (u : Claim). Cuts by u
 pub enters_as : (by : ℕ) (v : Claim) (k : History) (seat_history : Option SeatHistory) (e : Entry) → v ≡ full k seat_history None → option_map (λ s. s.number) seat_history ≡ e.seat → Cuts by v (alone_with e v) (given_back_with e v)
 enters_as by v k seat_history e is own = subst (λ (u : Claim). Cuts by u (alone_with e u) (given_back_with e u)) (sym is) (enters by k seat_history e own)
 
--- a look leaves the claim as it is, and compares it
+-- a load leaves the claim as it is, and compares it
 pub compares_as : (claims : List Claim) (by : ℕ) (v : Claim) (k : History) (seat_history : Option SeatHistory) (checkout : Option Checkout) → v ≡ full k seat_history checkout → ClaimsAgree claims → get_elem? claims by ≡ some v → ClaimsAgree (set claims by v) × Compares v
 compares_as claims by v k seat_history checkout is h at = (
   subst ClaimsAgree (sym (set_again claims by v at)) h,

@@ -1,4 +1,4 @@
--- A node's knowledge of its journal, its seats and its checkouts, and a seat's and a ticket's parts of it. (This node's own.)
+-- What a node knows of its journal, its seats and its checkouts, and what a seat and a ticket know of it. (This node's own.)
 use Rattle.std.specs.Prelude.{ℕ, zero, suc, ◌+◌, ◌<◌, ◌==◌, Bool, false, List, [], filter, All, Option, Some, None, IfSome}
 use Rattle.atomic_table.specs.Seated.{TableId}
 use Rattle.beam_machine.specs.declared.debug.DebugEvent.TheVariants.{Resume}

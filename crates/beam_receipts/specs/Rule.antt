@@ -6,7 +6,7 @@ use Rattle.beam_machine.specs.Journal.{Entry}
 use Rattle.beam_laws.specs.Origin.{Origin}
 use Rattle.beam_receipts.specs.Receipts.{History, empty_history, SeatHistory, Checkout, no_checkout, of_seat, AreOfGiven}
 
--- the claim of a pass: the keeper's knows all, a seat's its share, a ticket's its checkout
+-- the claim of a pass: the keeper's has the whole history, a seat's the history of that seat, a ticket's its checkout
 pub record Claim : Type 0 where
   pub history : Option History
   pub seat_history : Option SeatHistory
@@ -26,14 +26,14 @@ no_claim = record { history = None; seat_history = None; checkout = None }
 
 -- ---- the rule
 
--- the share is of a seat that was given, and has all entries of that seat
+-- the history is of a seat that was given, and has all entries of that seat
 abbrev pub IsSeatHistory : History → SeatHistory → Type 0
 IsSeatHistory all s = (s.number < all.given) × (s.kept ≡ of_seat s.number all.journal)
 
 abbrev pub IsCheckout : History → Checkout → Type 0
 IsCheckout all t = slice_get all.checkouts t.serial ≡ Some t.origin
 
--- the claim of the pass of this number holds; one pass alone knows all, and one alone has each seat's share
+-- the claim of the pass of this number holds; just one pass knows the whole history, and just one has each seat's
 abbrev pub Fits : History → ℕ → (ℕ → ℕ) → ℕ → Claim → Type 0
 Fits all knower owner by c =
     IfSome c.history (λ k. (by ≡ knower) × (k ≡ all))
@@ -60,22 +60,22 @@ with_entry e k = record k { journal = k.journal ++ e ∷ [] }
 abbrev pub with_origin : Origin → History → History
 with_origin o k = record k { checkouts = k.checkouts ++ o ∷ [] }
 
--- a seat's pass, from the keeper's
+-- the claim of a new seat's pass, from the keeper's
 abbrev pub new_seat_claim : Claim → Claim
 new_seat_claim c = seat_claim (record { number = (history_of c).given; kept = [] })
 
--- a ticket's pass, from the keeper's
+-- the claim of a new ticket's pass, from the keeper's
 abbrev pub new_ticket_claim : Origin → Claim → Claim
 new_ticket_claim o c = ticket_claim (record { serial = length (history_of c).checkouts; origin = o })
 
 abbrev pub with_seat_entry : Entry → SeatHistory → SeatHistory
 with_seat_entry e s = record s { kept = s.kept ++ e ∷ [] }
 
--- the keeper's pass with a seat's or a ticket's claim taken in
+-- the claim of the keeper's pass, with a seat's or a ticket's claim taken in
 abbrev pub taken_in : Claim → Claim → Claim
 taken_in k c = record c { history = k.history }
 
--- the keeper's pass without the claim that it had taken in
+-- the claim of the keeper's pass, without the one that it had taken in
 abbrev pub alone : Claim → Claim
 alone c = record { history = c.history; seat_history = None; checkout = None }
 
@@ -83,14 +83,14 @@ alone c = record { history = c.history; seat_history = None; checkout = None }
 abbrev pub given_back : Claim → Claim
 given_back c = record c { history = None }
 
--- the keeper's pass without the share that it had taken in, after an entry of that seat
+-- the claim of the keeper's pass without the seat history that it had taken in, after an entry of that seat
 abbrev pub alone_with : Entry → Claim → Claim
 alone_with e c = record { history = option_map (with_entry e) c.history; seat_history = None; checkout = None }
 
 abbrev pub given_back_with : Entry → Claim → Claim
 given_back_with e c = record { history = None; seat_history = option_map (with_seat_entry e) c.seat_history; checkout = None }
 
--- the keeper's knowledge is lawful, and the claim that its pass took in agrees with it
+-- each entry of a seat in the keeper's history is of one that was given, and the claim that its pass took in agrees with the history
 abbrev pub Compares : Claim → Type 0
 Compares c = IfSome c.history (λ k. AreOfGiven k.given k.journal × IfSome c.seat_history (IsSeatHistory k) × IfSome c.checkout (IsCheckout k))
 

@@ -1,4 +1,4 @@
-//! The keeper of a node: its knowledge of the journal, the seats and the checkouts.
+//! The keeper of a node: what it knows of the journal, the seats and the checkouts.
 ghost use Rattle.std.specs.Prelude.{◌≡◌, ◌+◌, ◌-◌, ◌<◌, ◌^◌, [], ◌∷◌, ◌++◌, length, min, slice_get, Some, None};
 ghost use Rattle.beam_receipts.specs.Receipts.{empty_history, of_seat, AreOfGiven};
 
@@ -11,7 +11,7 @@ use std::alloc::{AllocError, Global};
 use std::marker::{Model, PhantomData};
 use std::mem;
 
-/// A keeper that has no name yet. Contracts see which table it has.
+/// A keeper without a brand yet. Contracts see which table it has.
 pub struct UnbrandedKeeper {
     passes: Passes,
     pass: Pass,
@@ -122,7 +122,7 @@ impl<B: NodeBrand> Keeper<B> {
         self.checkouts
     }
 
-    /// Gives a seat, of the next number. At most 2^32 - 1 are given.
+    /// Gives a seat's receipt, with the next number. At most 2^32 - 1 are given.
     pub fn seat(&mut self) -> SeatReceipt<B>
         requires few { self.old.given < 2 ^ 32 - 1 }
         ensures seat { result ≡ record { number = self.old.given; kept = [] } }
@@ -163,7 +163,7 @@ impl<B: NodeBrand> Keeper<B> {
         passes.shared.split_seat::<Enters<E>>(&mut self.pass);
     }
 
-    /// Gives the ticket of a checkout, of the next number.
+    /// Gives the ticket of a checkout, with the next number.
     pub fn check_out<O: GhostOrigin>(&mut self) -> TicketReceipt<B>
         ensures ticket { result ≡ record { serial = length self.old.checkouts; origin = O.origin } }
         ensures keeper { self.new ≡ record self.old { checkouts = self.old.checkouts ++ O.origin ∷ [] } }
@@ -179,7 +179,7 @@ impl<B: NodeBrand> Keeper<B> {
         }
     }
 
-    /// Makes it known that each entry of a seat is of one that was given. Nothing changes.
+    /// Shows that each entry of a seat is of one that was given. Nothing changes.
     pub fn check_seats(&mut self)
         ensures keeper { self.new ≡ self.old }
         ensures seats { AreOfGiven self.old.given self.old.journal }
@@ -188,7 +188,7 @@ impl<B: NodeBrand> Keeper<B> {
         passes.shared.load::<Compared>(&mut self.pass, 0);
     }
 
-    /// Makes it known that a seat was given, and has exactly the journal's entries of its number. Nothing changes.
+    /// Shows that a seat was given, and has exactly the journal's entries of its number. Nothing changes.
     pub fn check_seat(&mut self, seat: &mut SeatReceipt<B>)
         ensures keeper { self.new ≡ self.old }
         ensures seat { seat.new ≡ seat.old }
@@ -205,7 +205,7 @@ impl<B: NodeBrand> Keeper<B> {
         seat.pass = pass.into_badge();
     }
 
-    /// Makes it known that the checkout of a ticket's number had its origin. The ticket is used up, and the keeper stays as it was.
+    /// Shows that the checkout of a ticket's number had its origin. The ticket is used up, and the keeper stays as it was.
     pub fn redeem(&mut self, ticket: TicketReceipt<B>)
         ensures keeper { self.new ≡ self.old }
         ensures redeem { slice_get self.old.checkouts ticket.serial ≡ Some ticket.origin }

@@ -1,4 +1,4 @@
-//! Receipts of seats and tickets: tokens outside of the node's lock, each tied to the knowledge of the node that gave it.
+//! Receipts of seats and tickets: tokens outside of the node's lock, each tied to what the node that gave it knows.
 #![tactic(auto)]
 
 pub mod brand;

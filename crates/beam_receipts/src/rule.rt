@@ -1,4 +1,4 @@
-//! The node's table. It has one word, which is never changed, and passes, each with a claim about the node.
+//! The rule of the node's table. The table has one word, which is never changed, and passes, each with a claim about the node.
 
 use crate::brand::{GhostEntry, GhostOrigin};
 use atomic_table::{Join, Play, Seat, Split, Table, TableRule};
@@ -62,7 +62,7 @@ impl<O: GhostOrigin> Split<Claim> for ChecksOut<O> {
     ghost right = { new_ticket_claim O.origin };
 }
 
-/// The keeper's pass enters an entry, and gives back the seat's share with it, if it had taken one in.
+/// The keeper's pass enters an entry, and gives back the seat's history with it, if it had taken one in.
 pub(crate) struct Enters<E> {
     entry: PhantomData<E>,
 }

@@ -49,13 +49,13 @@ absent_interned {X} z x old new n ne keeps absent =
     (λ (e : (new ≡ old ++ x ∷ []) × IsAbsent x old). subst (λ (xs : List X). IsAbsent z xs) (sym e.0) (absent_more z x old ne absent))
     keeps.3
 
--- a kept part has its number
+-- an interned part has its number
 pub interned_part : {X : Type 0} (x : X) (old new : List X) (n : ℕ) → IsInterned x old new n → part_of new n ≡ Some x
 interned_part x old new n keeps =
     let some : (n == 0) ≡ false = ne_eqb n 0 (λ (e : n ≡ 0). let a = keeps.0 in omega (arith, a, e)) in
     ap (λ (b : Bool). if b then None else slice_get new (n - 1)) some ∙ keeps.1
 
--- keeping a part only adds to the list
+-- interning a part only adds to the list
 pub interned_grows : {X : Type 0} (x : X) (old new : List X) (n : ℕ) → IsInterned x old new n → (more : List X) × (new ≡ old ++ more)
 interned_grows x old new n keeps =
     ⊎_elim (λ (e : new ≡ old). ([], e ∙ sym (append-nil old))) (λ (e : (new ≡ old ++ x ∷ []) × IsAbsent x old). (x ∷ [], e.0)) keeps.3

@@ -73,7 +73,7 @@ fn mismatched_in_turn(
     Ok(None)
 }
 
-/// What the row at a position lacks. A row that finds all that it needs leads to a row with another frame.
+/// The mismatch of the row at a position. A row that finds all that it needs leads to a row with another frame.
 fn mismatch_at(
     alloc: Global,
     code: &LabelledCode,
@@ -109,7 +109,7 @@ fn find(
     mismatched_in_turn(alloc, code, known)
 }
 
-/// The row at which the search for shapes fails, with what it lacks; None where no row does, or where a function doesn't begin without y
+/// The row at which the search for shapes fails, with its mismatch; None where no row does, or where a function doesn't begin without y
 /// registers. In time and memory linear in the listing. It fails only for memory.
 pub fn find_mismatch(alloc: Global, listing: &Listing) -> Result<Option<FirstMismatch>, AllocError>
     requires limits { IsTrue (are_limits_met listing.now) }

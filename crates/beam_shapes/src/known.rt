@@ -154,7 +154,7 @@ impl KnownShapes {
         Ok(())
     }
 
-    /// What a row lacks in a frame of this shape. None where it finds its registers and the frame that it needs.
+    /// The mismatch of a row with a frame of this shape. None where it finds its registers and the frame that it needs.
     pub fn mismatch(
         &self,
         alloc: Global,

@@ -1,4 +1,4 @@
-//! Registers and frames that a row lacks.
+//! Mismatches: what a row needs of the newest frame, and what the frame has instead.
 ghost use Rattle.beam_shapes.specs.Shown.{IsShape};
 
 use crate::named::{OperandRole, named};
@@ -98,7 +98,7 @@ fn trim_expected(count: u32, shape: Shape) -> Option<Expected> {
     }
 }
 
-/// What a row lacks in a frame of this shape. None where it finds its registers and the frame that it needs.
+/// The mismatch of a row with a frame of this shape. None where it finds its registers and the frame that it needs.
 pub(crate) fn mismatch_of(
     alloc: Global,
     trees: &Trees,

@@ -9,7 +9,7 @@ use beam_model::instruction::{Argument, Instruction, Operand};
 use beam_model::opcode::{Kind, Opcode};
 use std::alloc::{AllocError, Global};
 
-/// Which operands are looked for.
+/// The role of the operands that are looked for.
 #[derive(Clone, Copy)]
 pub enum OperandRole {
     /// y registers that the row reads.

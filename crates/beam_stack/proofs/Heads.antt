@@ -36,7 +36,7 @@ pub record IsMarked (words : List Word) (newest : ℕ) (frames : List Frame) : T
   pub stack : IsStack words newest
   pub frames_are : frames_of words ≡ frames
 
--- a frame whose head is marked, and which gets n y registers of one value
+-- a frame whose head has its flag set, and which gets n y registers of one value
 nils_top : (before : List Word) (back : Option Place) (below n : ℕ) (t : TermValue) → words_of (frames_of before) ≡ length before → are_linked [] before ≡ true → (below == y_count (frames_of before)) ≡ true
     → IsMarked ((before ++ word.Head back true below ∷ []) ++ replicate n (word.Value t)) (length before) (frame_with back true (replicate n (slot.Value t)) ∷ frames_of before)
 nils_top before back below n t whole linked links =

@@ -13,7 +13,7 @@ pub data Word : Type 0 where
   Value : TermValue → Word
   Tag : CatchTag → Word
 
--- the word that is kept in fewer bytes
+-- the word that is packed into fewer bytes
 abbrev pub word_in : PackedWord → Word
 word_in (inside.First has_y) = Head None has_y 0
 word_in (inside.Head has_y instance at below) = Head (Some (record { instance = instance; at = at })) has_y below

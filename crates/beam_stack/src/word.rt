@@ -17,7 +17,7 @@ use std::alloc::{AllocError, Global};
 use std::marker::Model;
 use std::mem;
 
-/// The content of a word. Places are spelled out in it, so that it has 24 bytes.
+/// The content of a word, packed: places are spelled out in it, so that it has 24 bytes.
 #[derive(Drop)]
 enum PackedWord {
     First {

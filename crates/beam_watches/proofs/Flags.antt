@@ -1,4 +1,4 @@
--- Which entries are kept, and where the one of a reference stands.
+-- Which entries are flagged as kept, and where the one of a reference stands.
 use Rattle.std.proofs.Common.{◌≡◌, ℕ, zero, suc, ◌+◌, ◌-◌, ◌==◌, ◌<◌, ◌≤◌, Bool, true, false, cond, not, List, [], ◌∷◌, ◌++◌, length, get_or, set, replicate, Result, Ok, Err, IfOk, IfErr, refl, sym, ap, ◌∙◌, arith}
 use mathlib.Core.Bool.{false≢true}
 use Rattle.std.specs.List.Sorted.{IsSearchInRange, IsBinarySearchResult, IsNonDecreasingBy}

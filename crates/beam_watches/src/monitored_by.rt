@@ -13,7 +13,7 @@ pub struct MonitorOrigin {
     pub reference: u32,
 }
 
-/// The watches of one pid.
+/// The origins of the monitors on one pid.
 #[derive(Debug, Drop)]
 pub(crate) struct OriginList {
     items: Vec<MonitorOrigin>,
@@ -28,7 +28,8 @@ impl Model for OriginList {
     ghost view = { λ l. l.items.items };
 }
 
-/// For each pid its watches, in the order in which they were added. Some of them may be of monitors that were taken away.
+/// For each monitored pid the origins of the monitors on it, in the order in which they were added. Some of these monitors may have been
+/// taken away since.
 #[derive(Debug)]
 pub struct MonitoredBy {
     alloc: Global,
@@ -53,7 +54,7 @@ impl Model for MonitoredBy {
     ghost view = { λ w. w.lists.entries };
 }
 
-/// Adds a watch of a pid that has some, and answers true; false for a pid that has none, and then nothing changes.
+/// Adds an origin for a pid that has some, and answers true; false for a pid that has none, and then nothing changes.
 fn push_in(
     lists: &mut IndexMap<u32, OriginList>,
     pid: u32,
@@ -73,7 +74,7 @@ fn push_in(
 }
 
 impl MonitoredBy {
-    /// An index without watches.
+    /// An index without origins.
     pub fn new(alloc: Global) -> MonitoredBy
         ensures { (n : ℕ) → origins_of result n ≡ [] }
     {
@@ -83,7 +84,7 @@ impl MonitoredBy {
         }
     }
 
-    /// The watches of a pid.
+    /// The origins of the monitors on a pid.
     pub fn of(&self, pid: u32) -> &[MonitorOrigin]
         ensures { result.now ≡ origins_of self.now pid }
     {
@@ -93,7 +94,7 @@ impl MonitoredBy {
         }
     }
 
-    /// Adds a watch of a pid, after the others. Where memory is refused nothing changes.
+    /// Adds an origin for a pid, after the others. Where memory is refused nothing changes.
     pub fn push(&mut self, pid: u32, origin: MonitorOrigin) -> Result<(), AllocError>
         ensures ok { OnOk result ((n : ℕ) → origins_of self.new n ≡ (if n == pid then origins_of self.old n ++ origin ∷ [] else origins_of self.old n)) }
         ensures err { OnErr result ((n : ℕ) → origins_of self.new n ≡ origins_of self.old n) }
@@ -107,14 +108,14 @@ impl MonitoredBy {
         Ok(())
     }
 
-    /// How many pids have watches, or had some.
+    /// How many pids have origins in the index.
     pub fn len(&self) -> usize
         ensures { result ≡ length self.now }
     {
         self.lists.len()
     }
 
-    /// A pid by its place, with its watches.
+    /// The pid at a place of the index, with its origins.
     pub fn at(&self, place: usize) -> Option<(u32, &[MonitorOrigin])>
         ensures { option_map (λ p. (p.0, p.1.now)) result ≡ slice_get self.now place }
     {
@@ -124,7 +125,7 @@ impl MonitoredBy {
         }
     }
 
-    /// Drops the watches of a pid.
+    /// Drops the origins of a pid.
     pub fn forget(&mut self, pid: u32)
         ensures { (n : ℕ) → origins_of self.new n ≡ (if n == pid then [] else origins_of self.old n) }
     {

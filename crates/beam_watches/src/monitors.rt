@@ -185,7 +185,7 @@ impl Monitors {
         }
     }
 
-    /// Whether a monitor watches the process of a number. It takes no memory.
+    /// Whether the process of a number is monitored. It takes no memory.
     pub fn monitors_process(&self, number: u32) -> bool
         ensures { result ≡ list_any (monitors_process number) self.now }
     {

@@ -1,4 +1,4 @@
-//! The kept ones among monitors that copies share.
+//! Monitors that copies share, each copy with its own flags of those that it keeps.
 ghost use Rattle.std.specs.Prelude.{◌≡◌, ◌∷◌, ◌++◌, [], IsTrue, IfOk, IfErr, OnOk, OnErr, option_map, length};
 ghost use Rattle.std.specs.Option.{option_copied};
 ghost use Rattle.std.specs.Iterator.{at_most};

@@ -3,6 +3,6 @@ use Rattle.beam_queue.specs.Closing.{stealer_count}
 use Rattle.beam_queue.specs.Counting.{total}
 use Rattle.beam_queue.proofs.closing.take_stealer.Given as goal
 
--- no lane so far has a thief
+-- no run queue so far has a stealer
 abbrev pub invariant-loop-at : goal.invariant-loop-at
 invariant-loop-at g l = (l.run_queues.items ≡ l.fn.run_queues.items) × (total stealer_count (take l.at l.run_queues.items) ≡ 0)
