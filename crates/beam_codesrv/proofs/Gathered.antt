@@ -1,4 +1,4 @@
--- The watches of those that linger, as a walk gathers them, and the DOWNs that another walk makes of them.
+-- The origins of the monitors on those that linger, as a walk gathers them, and the DOWNs that another walk makes of them.
 use Rattle.std.proofs.Common.{◌≡◌, ℕ, suc, ◌+◌, ◌-◌, Bool, true, false, cond, nat_lt, List, [], ◌∷◌, ◌++◌, append_assoc, map, slice_get, refl, sym, ap, ◌∙◌, arith}
 use Rattle.std.proofs.lemmas.Bool.Decides.{nat_tests}
 use Rattle.std.specs.Prelude.{Some, None, filter, flat_map}
@@ -10,7 +10,7 @@ use Rattle.beam_laws.proofs.Orderly.{Numbered}
 use Rattle.beam_watches.specs.declared.monitored_by.MonitorOrigin.{MonitorOrigin}
 use Rattle.beam_codesrv.specs.Ends.{there_passes, monitor_origins, down_by, end_downs, notices}
 
--- ---- the DOWNs of these watches
+-- ---- the DOWNs to these origins
 
 pids_more : (test : Process → Bool) (f : ℕ → List MonitorOrigin) (p : Process) (ps : List Process)
     → flat_map (λ pid. map down_by (f pid)) (pids_of test (p ∷ ps)) ≡ end_downs test f p ++ flat_map (λ pid. map down_by (f pid)) (pids_of test ps)
@@ -46,7 +46,7 @@ at_pid ps i n e =
     let place : n - 1 ≡ i = omega (arith, e) in
     ap (λ b. cond b (slice_get ps (n - 1)) None) there ∙ ap (slice_get ps) place
 
--- the watches that a walk gathered are the watches of all processes that pass the test
+-- the origins that a walk gathered are those of the monitors on all processes that pass the test
 pub are_notices : (test : Process → Bool) (ps : List Process) (f : ℕ → List MonitorOrigin) → Numbered ps → ((n : ℕ) → there_passes test (process_of ps n) ≡ true → f n ≡ monitor_origins n ps)
     → flat_map (λ pid. map down_by (f pid)) (pids_of test ps) ≡ notices test ps
 are_notices test ps f numbered gathered =

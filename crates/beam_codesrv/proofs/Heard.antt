@@ -35,7 +35,7 @@ same_lists (x ∷ xs) (y ∷ ys) same =
     let is : x ≡ y = cc in
     ap (λ z. z ∷ xs) is ∙ ap (λ zs. y ∷ zs) (same_lists xs ys (λ i. same (suc i)))
 
--- ---- the watches of a process that ends, as the signals to each process
+-- ---- the origins of the monitors on a process that ends, as the signals to each process
 
 -- the DOWNs that a process is sent at the end of the process of a pid
 abbrev downs_to : ℕ → Process → List Signal

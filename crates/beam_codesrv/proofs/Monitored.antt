@@ -1,4 +1,4 @@
--- Whether a process that ends is watched.
+-- Whether a process that ends is monitored.
 use Rattle.std.proofs.Common.{◌≡◌, ℕ, zero, suc, ◌+◌, ◌-◌, ◌<◌, ◌==◌, ◌&&◌, ◌||◌, Bool, true, false, cond, nat_lt, List, [], ◌∷◌, ◌++◌, map, slice_get, refl, sym, ap, ◌∙◌, arith}
 use Rattle.std.proofs.lemmas.Bool.Decides.{nat_tests}
 use Rattle.std.specs.Prelude.{Option, Some, None, filter, flat_map}
@@ -112,7 +112,7 @@ some_monitor test all numbered at (p ∷ ps) over =
     ∙ (ap (λ b. b || list_any (monitors_one_passing test all) ps) (sym (by_monitors test all p.monitors numbered))
     ∙ ap (λ b. monitors_one test all p.monitors || b) (some_monitor test all numbered at ps (λ i q e. over (suc i) q e)))
 
--- a passing process is watched: asked of each passing process, or of the monitors of each process
+-- a passing process is monitored: asked of each passing process, or of the monitors of each process
 asked_of : (test : Process → Bool) (ps qs : List Process) → list_any (λ p. test p && list_any (λ q. list_any (monitors_process p.pid) q.monitors) qs) ps ≡ list_any (λ q. monitors_one test ps q.monitors) qs
 asked_of test ps qs =
     alike (λ p. test p && list_any (λ q. list_any (monitors_process p.pid) q.monitors) qs) (λ p. list_any (λ q. test p && list_any (monitors_process p.pid) q.monitors) qs) ps
@@ -123,7 +123,7 @@ pub one_is_monitored : (test : Process → Bool) (ps : List Process) → Orderly
 one_is_monitored test ps o =
     some_monitor test ps o.0 0 ps (λ i p e reason value over. ap (λ q. q.monitors) ((o.0 i p e).1 reason value over)) ∙ sym (asked_of test ps ps)
 
--- ---- where no passing process is watched, no process hears anything
+-- ---- where no passing process is monitored, no process hears anything
 
 no_downs : (pid : ℕ) (ms : List Monitor) → list_any (monitors_process pid) ms ≡ false → downs pid killed ms ≡ []
 no_downs pid [] none = refl

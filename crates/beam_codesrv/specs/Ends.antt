@@ -35,7 +35,7 @@ heard_of pids p = flat_map (λ pid. downs pid killed p.monitors) pids
 abbrev pub told : (Process → Bool) → List Process → List Process
 told test ps = map (λ p. with_signals (heard_of (pids_of test ps) p) p) ps
 
--- ---- which processes watch them
+-- ---- which processes monitor them
 
 abbrev pub there_passes : (Process → Bool) → Option Process → Bool
 there_passes test (Some p) = test p
@@ -54,23 +54,23 @@ live_monitors p = if is_ended p.status then [] else p.monitors
 abbrev pub monitors_one_passing : (Process → Bool) → List Process → Process → Bool
 monitors_one_passing test ps p = list_any (λ m. number_passes test ps (own_number m.pid)) (live_monitors p)
 
--- a process that passes a test is watched
+-- a process that passes a test is monitored
 abbrev pub one_monitored : (Process → Bool) → List Process → Bool
 one_monitored test ps = list_any (λ p. test p && is_monitored ps p.pid) ps
 
--- of these monitors of a process, the watches of a pid
+-- of these monitors of a process, the origins of those on a pid
 abbrev pub origins_by : ℕ → ℕ → List Monitor → List MonitorOrigin
 origins_by receiver pid ms = map (λ m. record { receiver = receiver; reference = m.reference }) (filter (monitors_process pid) ms)
 
--- the watches of a pid, by the receivers' pids and then the references
+-- the origins of the monitors on a pid, by the receivers' pids and then the references
 abbrev pub monitor_origins : ℕ → List Process → List MonitorOrigin
 monitor_origins pid ps = flat_map (λ p. origins_by p.pid pid (live_monitors p)) ps
 
--- a watch's DOWN
+-- the DOWN to a monitor's origin
 abbrev pub down_by : MonitorOrigin → Sent
 down_by w = record { to = w.receiver; signal = Down w.reference killed }
 
--- the DOWNs of the end of a process, by the watches of its pid, if it passes a test
+-- the DOWNs of the end of a process, by the origins of the monitors on its pid, if it passes a test
 abbrev pub end_downs : (Process → Bool) → (ℕ → List MonitorOrigin) → Process → List Sent
 end_downs test watches_of p = if test p then map down_by (watches_of p.pid) else []
 

@@ -39,7 +39,7 @@ pub(crate) fn lingers(old: OldInstances<'_>, process: &ProcessEntry) -> bool
     }
 }
 
-/// Whether a process lingers in one of the old instances. Each process is looked at once, and none if there is no instance.
+/// Whether a process lingers in one of the old instances. Each process is examined at most once, and none if there is no instance.
 pub(crate) fn one_lingers(old: OldInstances<'_>, processes: &[ProcessEntry]) -> bool
     ensures { result ≡ list_any (lingers_in old.entry) processes.now }
 {
@@ -77,7 +77,7 @@ pub(crate) fn end_all(old: OldInstances<'_>, processes: &mut [ProcessEntry])
 }
 
 /// Ends all processes that linger in one of the old instances, once each process that monitors them was sent its DOWNs, and tells whether
-/// one ended. Memory is refused only where one of them is watched, and then nothing changes.
+/// one ended. Memory is refused only where one of them is monitored, and then nothing changes.
 pub(crate) fn end_and_tell(
     alloc: Global,
     old: OldInstances<'_>,

@@ -155,7 +155,7 @@ impl CodeTable {
     }
 
     /// Ends the processes that linger in a module's old code, removes that code, and tells whether one was ended. Those that monitor them
-    /// hear of it. Memory is refused only where one that lingers is watched, and then nothing changes.
+    /// hear of it. Memory is refused only where one that lingers is monitored, and then nothing changes.
     pub fn purge(
         &mut self,
         alloc: Global,

@@ -1,4 +1,4 @@
-//! What processes hear of those that end by a change of code.
+//! The DOWNs of processes that end by a change of code.
 ghost use Rattle.std.specs.Prelude.{◌≡◌, ◌++◌, ◌∷◌, [], ℕ, true, map, flat_map, OnOk, OnErr, IfOk};
 ghost use Rattle.std.specs.List.{list_any};
 ghost use Rattle.std.specs.Option.{option_copied};
@@ -75,7 +75,7 @@ fn monitors_lingering(
     }
 }
 
-/// Whether a process that lingers is watched. It takes no memory.
+/// Whether a process that lingers is monitored. It takes no memory.
 fn one_is_monitored(old: OldInstances<'_>, processes: &[ProcessEntry]) -> bool
     ensures { result ≡ list_any (monitors_one_passing (lingers_in old.entry) processes.now) processes.now }
 {
@@ -89,7 +89,7 @@ fn one_is_monitored(old: OldInstances<'_>, processes: &[ProcessEntry]) -> bool
     false
 }
 
-/// Adds a monitor to the watches of the process that it monitors, if that process lingers.
+/// Adds the origin of a monitor to those of the process that it monitors, if that process lingers.
 fn add_monitor(
     old: OldInstances<'_>,
     processes: &[ProcessEntry],
@@ -109,7 +109,7 @@ fn add_monitor(
     origins.push(number, origin)
 }
 
-/// Adds monitors of a process to the watches of those that linger.
+/// Adds the origins of a process's monitors to those of the monitored processes, as far as these linger.
 fn add_monitors(
     old: OldInstances<'_>,
     processes: &[ProcessEntry],
@@ -130,7 +130,7 @@ fn add_monitors(
     Ok(())
 }
 
-/// Adds what a process monitors to the watches of those that linger.
+/// Adds the origins of a process's monitors, unless it has ended, to those of the monitored processes, as far as these linger.
 fn add_origins(
     old: OldInstances<'_>,
     processes: &[ProcessEntry],
@@ -146,7 +146,7 @@ fn add_origins(
     }
 }
 
-/// The watches of all processes that linger.
+/// For each process that lingers the origins of the monitors on it.
 fn origins_of_lingering(
     alloc: Global,
     old: OldInstances<'_>,
@@ -174,7 +174,7 @@ fn killed(alloc: Global) -> Result<Term, AllocError>
     }
 }
 
-/// Adds the DOWNs of these watches.
+/// Adds the DOWNs to these origins.
 fn add_downs(
     reason: &Term,
     origins: &[MonitorOrigin],
@@ -250,7 +250,7 @@ fn notices(
 }
 
 /// Posts the DOWNs of the ends of all processes that linger, before these end, and gives back the DOWNs. Memory is refused only where one
-/// of these processes is watched, and then nothing changes.
+/// of these processes is monitored, and then nothing changes.
 pub(crate) fn tell(
     alloc: Global,
     old: OldInstances<'_>,

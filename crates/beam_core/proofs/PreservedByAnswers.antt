@@ -1,4 +1,4 @@
--- What holds of the node after an answer, if each step of the book keeps it.
+-- What holds of the node after an answer, if each step of the definition preserves it.
 use Rattle.std.proofs.Common.{◌≡◌, ℕ, zero, suc, ◌+◌, Bool, true, false, not, cond, List, refl, sym, ap, subst, ◌∙◌, arith}
 use Rattle.std.specs.Prelude.{◌&&◌, Option, Some, None, Result, Ok, Err}
 use Rattle.beam_machine.specs.declared.event.Event.TheVariants.{Steps}

@@ -170,7 +170,7 @@ impl Core {
     /// Applies one event, as the definition of `next` says. Where memory is refused in the middle of `Steps`, the reply says how many rows
     /// were executed; otherwise the answer is `NoMemory`. A refusal changes nothing. Memory stops no `Steps` before a quiet row. It is
     /// refused only to events that may take some and aren't refused otherwise: not to deletions, questions and time, nor to purges that end
-    /// no watched process.
+    /// no monitored process.
     pub fn apply(&mut self, event: &Event<Image>) -> Result<Reply, Refused>
         ensures next { Answers self.old event.now result self.new }
         ensures loud { StopsLoudly self.old event.now result self.new }
@@ -213,7 +213,7 @@ impl Core {
         install(&self.code, &mut self.state, pid, rows)
     }
 
-    /// Applies the events one after another, with one answer an event. Where there is no room for the answers, `NoMemory`, and no event is
+    /// Applies the events one after another, with one answer an event. Where memory for the answers is refused, `NoMemory`, and no event is
     /// applied.
     pub fn run(&mut self, events: &[Event<Image>]) -> Result<Vec<Result<Reply, Refused>>, Refused>
         ensures run { IfOk result (λ answers. run self.old (effective_events events.now answers.items) ≡ record { answers = effective_answers answers.items; state = self.new }) }

@@ -129,7 +129,7 @@ fresh_loud code o p there fresh =
 number_is : (n : ℕ) → 0 < n → (n - 1) + 1 ≡ n
 number_is n more = omega (arith, more)
 
--- a process for which there is no room hasn't begun
+-- a process for which the capacity isn't enough hasn't begun
 pub first_row_loud : (d : Debugged) (capacity pid : ℕ) (p : Process) → HasCapacity d capacity → live_process d.node.processes pid ≡ Some p → capacity ≤ pid
     → IsLoud d.node.code (process_of d.node.processes pid)
 first_row_loud d capacity pid p h live none =
@@ -176,7 +176,7 @@ module _ (capacity : ℕ) where
   node_capacious : (d : Debugged) (e : Event Listing) → steps_in e ≡ None → Capacious d → Capacious (of_node d (next d.node e)).state
   node_capacious d e other h = answered_capacious d (next d.node e).state (next d.node e).answer (next_below capacity d.node e other h.begun) h
 
-  -- the index of a process's entry is below the room, if its number is
+  -- the index of a process's entry is below the capacity, if its number is
   own_below : (ps : List Process) (pid : ℕ) (p : Process) → live_process ps pid ≡ Some p → pid < capacity → (pid - 1) + 1 < capacity
   own_below ps pid p live less =
       let a = alive_is (process_of ps pid) p live in
@@ -204,7 +204,7 @@ module _ (capacity : ℕ) where
       let r = runs (replies_ok (record x { held = with_pid pid d.held }) x held ran h.stopped) in
       held_or_ran x pid held ran h.stopped r.0 (record { held = k.held; begun = r.1 })
 
-  -- rows of a process leave enough room, if there is room for the process
+  -- after rows of a process the capacity is enough, if it is enough for that process
   rows_capacious : (d : Debugged) (pid n : ℕ) (p : Process) (o : Option Process) → live_process d.node.processes pid ≡ Some p
       → (is_ok (halted d pid (halting d.spots (is_among pid d.passing) d.node pid n) o).answer ≡ true → CapacityFor capacity (NodeEvent (event.Steps pid n))) → Capacious d
       → Capacious (halted d pid (halting d.spots (is_among pid d.passing) d.node pid n) o).state
@@ -239,7 +239,7 @@ module _ (capacity : ℕ) where
   step_by d one true false more k = k
   step_by d one false c more k = k
 
-  -- one row of a held process leaves enough room
+  -- after one row of a held process the capacity is enough
   step_one_capacious : (d : Debugged) (pid : ℕ) (o : Option Process) → live_process d.node.processes pid ≡ o → Capacious d → Capacious (debug_step_one d pid o).state
   step_one_capacious d pid None live k = k
   step_one_capacious d pid (Some p) live k =
@@ -308,7 +308,7 @@ module _ (capacity : ℕ) where
 
 -- ---- an answer, and rows that take effect
 
--- an event that runs no rows needs no room
+-- an event that runs no rows needs no capacity
 pub other_capacity : (capacity : ℕ) (e : Event Listing) → steps_in e ≡ None → CapacityFor capacity (NodeEvent e)
 other_capacity capacity (event.Steps pid n) other = cc
 other_capacity capacity e other = tt
@@ -321,7 +321,7 @@ pub answered_capacity : (d new : Debugged) (capacity more : ℕ) (e : DebugEvent
     → OnOk result (CapacityFor more e) → HasCapacity d capacity → HasCapacity new more
 answered_capacity d new capacity more e result answers less runs h = answers_capacious more d new e (answer_of result) answers (on_ok result runs) (more_capacity d capacity more less h)
 
--- there is still room after an event for which there was room
+-- the capacity is enough after an event for which it was enough
 pub still_capacity : (d new : Debugged) (capacity more : ℕ) (e : DebugEvent Listing) (a : DebugAnswer) → DebugAnswers d e a new → capacity ≤ more → CapacityFor more e → HasCapacity d capacity → HasCapacity new more
 still_capacity d new capacity more e a answers less runs h = answers_capacious more d new e a answers (λ ok. runs) (more_capacity d capacity more less h)
 
@@ -332,7 +332,7 @@ installed_capacity d new capacity more pid n (Ok outcome) next err less runs h =
     next_is more d new (NodeEvent (event.Steps pid n)) (Ok (reply_of outcome)) next (λ ok some. runs) (more_capacity d capacity more less h)
 installed_capacity d new capacity more pid n (Err refused) next err less runs h = subst (λ x. HasCapacity x more) (sym err) (more_capacity d capacity more less h)
 
--- more room is made, and nothing else changes
+-- more capacity is reserved, and nothing else changes
 pub reserved : (d : Debugged) (ns : List ℕ) (capacity more : ℕ) → ns ≡ d.held → capacity ≤ more → Settled d → HasCapacity d capacity
     → Settled (record d { held = ns }) × HasCapacity (record d { held = ns }) more
 reserved d ns capacity more same less live h =

@@ -101,12 +101,12 @@ step_free d pid p e free = step_refused d pid p e (ap (λ b. b && not (is_waitin
 pub with_state : (d x y : Debugged) (e : DebugEvent Listing) (reply : DebugReply View) → x ≡ y → DebugAnswers d e (Ok reply) y → DebugAnswers d e (Ok reply) x
 with_state d x y e reply same h = subst (λ (z : Debugged). DebugAnswers d e (Ok reply) z) (sym same) h
 
--- settled marks, where the processes that may pass a break spot are given by an equal list
+-- the settled state, where the processes that may pass a break spot are given by an equal list
 pub passed_on : (t : State) (spots : List Place) (held passing left : List ℕ) → left ≡ passing
     → pruned (record { node = t; spots = spots; held = held; passing = left }) ≡ pruned (record { node = t; spots = spots; held = held; passing = passing })
 passed_on t spots held passing left same = ap (λ (ps : List ℕ). pruned (record { node = t; spots = spots; held = held; passing = ps })) same
 
--- ---- a process that is looked at
+-- ---- a process that is inspected
 
 seen_as : (d : Debugged) (pid : ℕ) (o : Option Process) (view : View) → option_map (view_of d.node.code (is_among pid d.held)) o ≡ Some view
     → debug_inspect d pid o ≡ replies d (Viewed view)

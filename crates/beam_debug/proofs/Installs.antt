@@ -117,7 +117,7 @@ slices_stop d pid count rows after t h does is e =
     (subst (λ pid. Installed d.node pid rows after t → Stops d pid rows (rows.count + node_rows rows.end) t) h.own
     (λ does. rows_stop d h.origin h.limit h.now rows h.done h.can h.runs after t does e) does)
 
--- ---- why the rows end, and the marks after them
+-- ---- why the rows end, and the debugger's state after them
 
 pub ends_at_spot : (end : TheEnd) → end_of end ≡ at_spot → end ≡ AtSpot
 ends_at_spot AtLimit e = cc
@@ -125,7 +125,7 @@ ends_at_spot AfterRow e = cc
 ends_at_spot BeforeNodeRow e = cc
 ends_at_spot AtSpot e = refl
 
--- an answer, and the state after it with settled marks
+-- an answer, and the settled state after it
 pub replies_with : (x : DebugNext) (reply : DebugReply View) (t : State) (spots : List Place) (held passing holds passes : List ℕ) (new : Debugged)
     → x ≡ replies (record { node = t; spots = spots; held = held; passing = passing }) reply → holds ≡ held → passes ≡ passing
     → new ≡ pruned (record { node = t; spots = spots; held = holds; passing = passes }) → x ≡ record { answer = Ok reply; state = new }

@@ -1,4 +1,4 @@
--- After each event the debugger's marks are of code and processes that are there.
+-- After each event the debugger's state is of code and processes that are there.
 use Rattle.std.proofs.Common.{◌≡◌, ℕ, Bool, true, false, cond, not, sym, ap, subst, Ok, Err}
 use Rattle.std.specs.Prelude.{◌&&◌, Option, Some, None, Result, IfOk, OnErr}
 use Rattle.beam_machine.specs.declared.debug.DebugEvent.{DebugEvent}

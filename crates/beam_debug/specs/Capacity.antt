@@ -23,16 +23,16 @@ abbrev pub AreRising : ℕ → ℕ → List ℕ → Type 0
 AreRising low high [] = Unit {0}
 AreRising low high (n ∷ rest) = (low ≤ n) × ((n < high) × AreRising (n + 1) high rest)
 
--- no process has begun whose number is `room` or more; process n is the n-th of the list
+-- no process has begun whose number is `capacity` or more; process n is the n-th of the list
 abbrev pub BeginBelow : ℕ → List Process → Type 0
 BeginBelow capacity ps = (i : ℕ) (p : Process) → slice_get ps i ≡ Some p → capacity ≤ i + 1 → has_begun p ≡ false
 
--- the processes with numbers below `room` can be held without memory: all that are held or have begun have such numbers
+-- the processes with numbers below `capacity` can be held without memory: all that are held or have begun have such numbers
 pub record HasCapacity (d : Debugged) (capacity : ℕ) : Type 0 where
   pub held : AreRising 0 capacity d.held
   pub begun : BeginBelow capacity d.node.processes
 
--- an event that runs rows has room for their process
+-- the capacity is enough for the process of an event that runs rows
 abbrev pub CapacityFor : ℕ → DebugEvent Listing → Type 0
 CapacityFor capacity (NodeEvent (Steps pid n)) = 0 < n → pid < capacity
 CapacityFor capacity event = Unit {0}

@@ -1,4 +1,4 @@
--- A node, and the marks that its debugger keeps.
+-- A node, and the state that its debugger keeps.
 use Rattle.beam_machine.specs.Debug.{Debugged}
 use Rattle.beam_machine.specs.State.{State}
 use Rattle.beam_debug.specs.declared.debug_state.DebugState.{DebugState}

@@ -17,6 +17,6 @@ pub record AreSlices (d : Debugged) (pid : ℕ) (rows : Private) : Type 0 where
   pub now : Process
   pub can : CanCommit d origin now
 
--- rows that take effect without memory, where the processes with numbers below `room` can be held without memory
+-- rows that take effect without memory, where the processes with numbers below `capacity` can be held without memory
 abbrev pub IsQuietSlice : ℕ → Private → ℕ → Type 0
 IsQuietSlice pid rows capacity = AreQuiet rows × (pid < capacity)

@@ -1,4 +1,4 @@
--- The debugger's marks are of code and processes that are there.
+-- The debugger's state is of code and processes that are there.
 use Rattle.std.specs.Prelude.{◌≡◌, ℕ, true}
 use Rattle.std.specs.List.{AllByRecursion}
 use Rattle.beam_model.specs.Place.{Place}

@@ -1,4 +1,4 @@
-//! What a debugger keeps beside its node.
+//! The debugger's state, beside its node.
 ghost use Rattle.std.specs.Prelude.{◌≡◌, ◌<◌, ◌≤◌, filter, OnOk, OnErr, vec_capacity};
 ghost use Rattle.std.specs.Option.{option_copied};
 ghost use Rattle.beam_machine.specs.Change.{is_live};
@@ -16,7 +16,7 @@ use std::alloc::AllocError;
 /// Break spots, and the processes that are held or may pass a break spot.
 pub(crate) struct DebugState {
     pub spots: Vec<Place>,
-    /// It has room for as many as there are processes that have begun.
+    /// Its capacity is enough for all processes that have begun.
     pub held: Vec<u32>,
     pub passing: Vec<u32>,
 }
@@ -71,7 +71,7 @@ pub(crate) fn settle(core: &Core, debug: &mut DebugState)
     settle_pids(core, &mut debug.passing);
 }
 
-/// Makes room to hold the process of that number, and those below it. Where memory is refused nothing changes.
+/// Reserves capacity to hold the process of that number, and those below it. Where memory is refused nothing changes.
 pub(crate) fn make_room(pid: u32, held: &mut Vec<u32>) -> Result<(), AllocError>
     ensures items { held.new.items ≡ held.old.items }
     ensures capacity { OnOk result (pid < vec_capacity held.new) }

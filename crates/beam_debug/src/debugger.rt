@@ -196,8 +196,8 @@ impl Debugger {
         let _debug = &self.debug;
     }
 
-    /// Makes room to hold the process of that number, and those below it, so that holding one takes no memory then. If memory is refused
-    /// nothing changes.
+    /// Reserves capacity to hold the process of that number, and those below it, so that holding one takes no memory then. If memory is
+    /// refused nothing changes.
     pub fn reserve(&mut self, pid: u32) -> Result<(), AllocError>
         ensures state { self.new.state ≡ self.old.state }
         ensures capacity { OnOk result (pid < self.new.capacity) }
@@ -316,7 +316,7 @@ impl Debugger {
     /// of the process as it was handed out, and node and process such that they can be committed now. State and answer are those of an
     /// event with as many rows, and one more where they end before a row of the node, which is executed now, or before a break spot, at
     /// which the process is then held. Where memory is refused, `NoMemory`, and nothing changes. It isn't refused if the rows sent nothing,
-    /// didn't end the process, and don't end before a row of the node, if there is room for the process to be held (`reserve`).
+    /// didn't end the process, and don't end before a row of the node, if the process can be held without memory (`reserve`).
     pub fn install(&mut self, pid: u32, rows: Private) -> Result<Outcome, Refused>
         requires rows { AreSlices self.old.state pid rows }
         requires few { rows.count + 1 < 2 ^ 32 }
@@ -337,7 +337,7 @@ impl Debugger {
         inspect(self.alloc, &self.core, &self.debug, pid)
     }
 
-    /// Applies the events one after another, with one answer an event. Where there is no room for the answers, `NoMemory`, and no event is
+    /// Applies the events one after another, with one answer an event. Where memory for the answers is refused, `NoMemory`, and no event is
     /// applied. The node itself comes to the state to which the events without the debugger's lead it. Memory is refused to each as `apply`
     /// says.
     pub fn run(

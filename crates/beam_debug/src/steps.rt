@@ -19,7 +19,7 @@ use beam_machine::debug::DebugEvent;
 use beam_machine::event::{Event, Refused, Reply, Then};
 use std::alloc::AllocError;
 
-/// Makes room to hold a process of which `rows` rows are to be executed. Where memory is refused nothing changes.
+/// Reserves capacity to hold a process of which `rows` rows are to be executed. Where memory is refused nothing changes.
 fn make_room_for(pid: u32, rows: u32, held: &mut Vec<u32>) -> Result<(), AllocError>
     ensures items { held.new.items ≡ held.old.items }
     ensures capacity { OnOk result (0 < rows → pid < vec_capacity held.new) }

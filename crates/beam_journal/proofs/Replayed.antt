@@ -59,7 +59,7 @@ answered_more d [] s = refl
 answered_more d (x ∷ ss) s =
     ap (λ (l : List Entry). record { event = x.event; seat = x.seat; reply = reply_in (debug_next d x.event).answer } ∷ l) (answered_more (debug_next d x.event).state ss s)
 
--- the entries after one more sending
+-- the entries after one more event was sent
 pub entries_more : (ss : List SentEvent) (event : DebugEvent Listing) (seat : Option ℕ) (reply : DebugReply View) → Accepts (replay (entries_of ss)) event reply
     → entries_of (ss ++ record { event = debug_cut_event event (Ok reply); seat = seat } ∷ []) ≡ entries_of ss ++ entry_of event seat reply ∷ []
 entries_more ss event seat reply accepts =
@@ -80,14 +80,14 @@ length_from d (s ∷ ss) = ap suc (length_from (debug_next d s.event).state ss)
 pub length_entries : (ss : List SentEvent) → length (entries_of ss) ≡ length ss
 length_entries = length_from (undisturbed empty)
 
--- there are no entries exactly if nothing was sent
+-- there are no entries exactly if no event was sent
 pub none_entered : (ss : List SentEvent) → (entries_of ss ≡ []) ↔ (length ss ≡ 0)
 none_entered [] = ((λ e. refl), (λ e. refl))
 none_entered (s ∷ ss) = ((λ e. cc), (λ e. absurd (omega (arith, e))))
 
 -- ---- entries that are run again
 
--- from the state d on the sendings are lawful, and lead to the state t
+-- from the state d on the sent events are lawful, and lead to the state t
 pub record SentLeads (d : Debugged) (ss : List SentEvent) (t : Debugged) : Type 0 where
   pub replies : (debug_run d (events_of (answered_from d ss))).answers ≡ replies_of (answered_from d ss)
   pub state : (debug_run d (events_of (answered_from d ss))).state ≡ t
@@ -115,7 +115,7 @@ sent_events ss = map (λ s. s.event) ss
 abbrev pub TakesMemory : Debugged → List SentEvent → Type 0
 TakesMemory d ss = takes_memory d (sent_events ss) ≡ true
 
--- from the state d on these last sendings lead to the state after all; if they may take memory, so may all
+-- from the state d on these last sent events lead to the state after all; if they may take memory, so may all
 pub record SentOn (d : Debugged) (ss : List SentEvent) (all : List SentEvent) : Type 0 where
   pub leads : SentLeads d ss (replay (entries_of all))
   pub loud : TakesMemory d ss → TakesMemory (undisturbed empty) all

@@ -1,4 +1,4 @@
--- A journal with its room, and its entries. (This node's own.)
+-- A journal with its capacity, and its entries. (This node's own.)
 use Rattle.std.specs.Prelude.{◌≡◌, ℕ, List, [], ◌∷◌, Bool, true, false, not, ◌||◌, Option, Ok, Err, is_ok}
 use Rattle.beam_machine.specs.declared.debug.DebugEvent.{DebugEvent}
 use Rattle.beam_machine.specs.declared.debug.DebugReply.{DebugReply}
@@ -52,7 +52,7 @@ abbrev pub reply_in : DebugAnswer → DebugReply View
 reply_in (Ok reply) = reply
 reply_in (Err refusal) = Node Done
 
--- the entries of the sendings from a state on, with the replies that they get
+-- the entries of the events that were sent from a state on, with the replies that they get
 abbrev pub answered_from : Debugged → List SentEvent → List Entry
 answered_from d [] = []
 answered_from d (s ∷ rest) =

@@ -6,7 +6,7 @@ use thiserror::Error;
 /// Why an event isn't entered. The journal then stays as it was.
 #[derive(Clone, Copy, Debug, PartialEq, Eq, Error)]
 pub enum JournalError {
-    /// Memory was refused. Never where there is room.
+    /// Memory was refused. Never where capacity is left.
     #[error("NoMemory")]
     NoMemory,
     /// The journal has as many entries as it can have.

@@ -120,8 +120,8 @@ impl Journal {
         &self.entries
     }
 
-    /// Makes room for `count` more entries, which can then be entered without memory. If memory is refused nothing changes; it isn't
-    /// refused if that room is there.
+    /// Reserves memory for `count` more entries, which can then be entered without any. If memory is refused nothing changes; it isn't
+    /// refused if the capacity is there.
     pub fn reserve(&mut self, count: u32) -> Result<(), AllocError>
         ensures capacity { OnOk result (count ≤ self.new.capacity) }
         ensures kept { self.old.capacity ≤ self.new.capacity }
@@ -135,7 +135,7 @@ impl Journal {
 
     /// Enters an event after the others, with the number of the seat that sent it, or none, and with the reply: the node accepts the event
     /// with this reply in the state to which the journal leads. A `Steps` that was cut is entered with the rows that were executed.
-    /// `JournalFull` where the journal has as many entries as it can have; `NoMemory` only where there is no room. A refusal changes
+    /// `JournalFull` where the journal has as many entries as it can have; `NoMemory` only where no capacity is left. A refusal changes
     /// nothing, and the event is dropped.
     #[tactic(auto, using(crate::proofs::Replayed::lawful_more, crate::proofs::Replayed::replay_more, crate::proofs::Replayed::entries_more, crate::proofs::Replayed::length_entries))]
     pub fn push(
@@ -147,7 +147,7 @@ impl Journal {
         requires accepted { Accepts (replay self.old.entries) event (reply_of reply.now) }
         ensures entered { OnOk result (self.new.entries ≡ self.old.entries ++ entry_of event seat (reply_of reply.now) ∷ []) }
         ensures leads { OnOk result (replay self.new.entries ≡ debug_after (replay self.old.entries) event (Ok (reply_of reply.now))) }
-        // One place of the room is taken, if there was any.
+        // One place of the capacity is taken, if there was any.
         ensures capacity { OnOk result (self.old.capacity ≤ self.new.capacity + 1) }
         ensures limit { self.new.limit ≡ self.old.limit }
         ensures full { IsErrOf result JournalError.JournalFull ↔ (length self.old.entries ≡ self.old.limit) }

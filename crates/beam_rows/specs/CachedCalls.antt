@@ -1,4 +1,4 @@
--- Calls of functions of other modules, and where they entered them.
+-- Cached calls of functions of other modules, and where they entered them.
 use Rattle.std.specs.Prelude.{◌≡◌, ℕ, List, Option, Some, IfSome}
 use Rattle.std.specs.List.{All}
 use Rattle.beam_machine.specs.declared.callee.Callee.TheVariants.{Function}
@@ -12,6 +12,6 @@ abbrev pub Enters : Code → Place → Place → Type 0
 Enters code from to =
     (name function : List ℕ) (arity : ℕ) → called_in (step_of code from) ≡ Some (Function name function arity) → entry_of code name function arity ≡ Some to
 
--- each call that is kept enters its function
+-- each cached call enters its function
 abbrev pub AreCached : Code → List (Option CachedCall) → Type 0
 AreCached code calls = All (λ call. IfSome call (λ e. Enters code e.from e.to)) calls

@@ -1,4 +1,4 @@
-//! What natives give in a process.
+//! What natives return in a process.
 ghost use Rattle.std.specs.Prelude.{◌≡◌, Result, IfOk};
 ghost use Rattle.beam_term.specs.TermValue.{TermValue};
 ghost use Rattle.beam_model.specs.declared.exception.Exception.{Exception as TheException};
@@ -15,7 +15,7 @@ use beam_proc::process::Process;
 use beam_term::Term;
 use std::alloc::AllocError;
 
-/// What a native gave, a value or an exception. `Err` where memory was refused.
+/// What a native returned, a value or an exception. `Err` where memory was refused.
 pub fn native_result(
     computed: Result<Term, NativeError>,
 ) -> Result<Result<Term, Exception>, AllocError>

@@ -399,6 +399,6 @@ LockedNode_send B g = declared_send (LockedNode.the_type B g) (Node_send B g, (Q
 pub Shared_sync : (B : RattleType) (g : NodeBrand.Ghosts B.Denot) → IsSync (Shared.the_row B g)
 Shared_sync B g = let m = LockedNode_send B g in declared_sync (Shared.the_type B g) (search crosses, (ScanHint_crossing.the_sync, (IdleWorkers_crossing.the_sync, (ShortSliceToken_crossing.the_sync, (NodeClock_crossing.the_sync, (JournalUsage_crossing.the_sync, tt))))))
 
--- the stations of workers, and of senders of commands
+-- the thread contexts of workers, and of senders of commands
 pub ThreadContexts_sync : (B : RattleType) (g : NodeBrand.Ghosts B.Denot) (q : QueueBrand.Ghosts B.Denot) → IsSync (Pool.the_row (ThreadContext.the_row B g q))
 ThreadContexts_sync B g q = Pool_crossing.the_sync _ (ThreadContext_crossing.the_send B g q)

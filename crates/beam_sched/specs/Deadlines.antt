@@ -3,7 +3,7 @@ use Rattle.std.specs.Prelude.{ℕ, min, Option, Some, None, option_map}
 use Rattle.beam_machine.specs.Process.{Process}
 use Rattle.beam_machine.specs.Ready.{due_of}
 
--- the lesser of two moments
+-- the earlier of two moments
 abbrev pub earlier : Option ℕ → Option ℕ → Option ℕ
 earlier (Some a) (Some b) = Some (min a b)
 earlier (Some a) None = Some a

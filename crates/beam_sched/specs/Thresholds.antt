@@ -14,7 +14,7 @@ percent_of Full = 100
 abbrev pub is_below : ℕ → ℕ → ℕ → Bool
 is_below percent entered limit = nat_lt (100 * entered) (percent * limit)
 
--- the greatest share of the limit that `entered` entries reach
+-- the greatest threshold that `entered` entries reach
 abbrev pub threshold_of : ℕ → ℕ → Option JournalThreshold
 threshold_of entered limit =
     if is_below 50 entered limit then None
@@ -24,7 +24,7 @@ threshold_of entered limit =
     else if is_below 100 entered limit then Some NinetyNine
     else Some Full
 
--- ---- shares by their place, from the least one on
+-- ---- thresholds by their rank, from the least one on
 
 abbrev pub rank_of : JournalThreshold → ℕ
 rank_of Half = 1

@@ -12,14 +12,14 @@ pub trait Gate {
     /// The rows of a process were run. They are committed after the call returns.
     fn back(&self, pid: u32);
 
-    /// The rows of a process took effect, and the node gave this answer.
+    /// The rows of a process took effect, and the node gave this outcome.
     fn ran(&self, pid: u32, outcome: &Outcome);
 
-    /// A process ended with that reason by a signal that arrived before rows of it were to be run.
+    /// A process was ended, with that reason, by a signal that arrived before rows of it were to be run.
     fn ended(&self, pid: u32, reason: &Term);
 
-    /// The journal has reached this threshold of the entries that it can have. Each threshold is reported at most once, and none after a greater
-    /// one: by a worker, unless `Shared::crossed` has given it to another thread.
+    /// The journal has reached this threshold of the entries that it can have. Each threshold is reported at most once, and none after a
+    /// greater one: by a worker, unless `Shared::crossed` has given it to another thread.
     fn filled(&self, threshold: JournalThreshold);
 }
 

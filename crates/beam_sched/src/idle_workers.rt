@@ -15,7 +15,7 @@ pub struct IdleWorkers {
 }
 
 impl IdleWorkers {
-    /// No worker waits, and none is to end.
+    /// The state in which no worker waits, and none is to end.
     pub fn new() -> IdleWorkers {
         IdleWorkers {
             is_closed: Mutex::new(false),
@@ -25,8 +25,8 @@ impl IdleWorkers {
         }
     }
 
-    /// Wakes a worker, if one waits or is about to. A thread that enqueues a process calls it afterwards. A worker that is about to wait
-    /// is counted before it looks into the queues for the last time, so either it finds the process or it is woken.
+    /// Wakes a worker, if one waits or is about to. A thread that enqueues a process calls it afterwards. A worker that is about to wait is
+    /// counted before it tries the queues for the last time, so either it finds the process or it is woken.
     pub fn wake<R: Wait>(&self, rt: &R) {
         if self.sleepers.load(Ordering::SeqCst) > 0 {
             let guard = self.is_closed.lock(rt);
@@ -35,14 +35,14 @@ impl IdleWorkers {
         }
     }
 
-    /// Lets workers end once they find no work and nothing is put off.
+    /// Lets workers end once they find no work and no scan is to be retried.
     pub fn close<R: Wait>(&self, rt: &R) {
         let mut is_closed = self.is_closed.lock(rt);
         *is_closed = true;
         self.changed.notify_all();
     }
 
-    /// Lets workers end after their current turn.
+    /// Lets workers end after their current action.
     pub fn stop<R: Wait>(&self, rt: &R) {
         self.is_stopped.store(true, Ordering::SeqCst);
         let guard = self.is_closed.lock(rt);
@@ -62,7 +62,7 @@ impl IdleWorkers {
         guard
     }
 
-    /// Waits until it is woken, and at most `most` milliseconds if that is given.
+    /// Waits until the worker is woken, and at most `most` milliseconds if that is given.
     pub fn wait<R: Wait + Clock>(&self, rt: &R, guard: MutexGuard<'_, bool>, most: Option<u64>) {
         match most {
             None => {

@@ -2,7 +2,7 @@
 ghost use Rattle.std.specs.Prelude.{◌≡◌};
 ghost use Rattle.beam_sched.specs.Thresholds.{percent_of, rank_of, threshold_at, threshold_of};
 
-/// The threshold of its limit that a journal has reached.
+/// A threshold that a journal has reached, as a part of its limit.
 #[derive(Clone, Copy, Debug, PartialEq, Eq)]
 pub enum JournalThreshold {
     /// 50 percent or more.
@@ -13,7 +13,7 @@ pub enum JournalThreshold {
     NineTenths,
     /// 99 percent or more.
     NinetyNine,
-    /// All: no event is accepted any more.
+    /// 100 percent: no event is accepted any more.
     Full,
 }
 
@@ -31,7 +31,7 @@ impl JournalThreshold {
         }
     }
 
-    /// Its place among the thresholds, from the least one on: 1 to 5.
+    /// Its rank among the thresholds, from the least one on: 1 to 5.
     pub(crate) fn rank(&self) -> u32
         ensures { result ≡ rank_of self.now }
     {
@@ -45,7 +45,7 @@ impl JournalThreshold {
     }
 }
 
-/// The threshold at that place, if there is one.
+/// The threshold of that rank, if there is one.
 pub(crate) fn threshold_at(rank: u32) -> Option<JournalThreshold>
     ensures { result ≡ threshold_at rank }
 {
@@ -59,7 +59,7 @@ pub(crate) fn threshold_at(rank: u32) -> Option<JournalThreshold>
     }
 }
 
-/// The greatest threshold of the limit that `entered` entries reach; none below 50 percent. Of a limit of 0 it is all.
+/// The greatest threshold of the limit that `entered` entries reach; none below 50 percent. With a limit of 0 it is `Full`.
 pub fn threshold_of(entered: u32, limit: u32) -> Option<JournalThreshold>
     ensures { result ≡ threshold_of entered limit }
 {

@@ -1,4 +1,4 @@
-//! Which thresholds of its limit the journal has reached, and which of them were reported.
+//! Which thresholds the journal has reached, and which of them were reported.
 
 use crate::journal_threshold::{JournalThreshold, threshold_at, threshold_of};
 use beam_receipts::brand::NodeBrand;
@@ -30,7 +30,7 @@ impl JournalUsage {
         self.reached.fetch_max(rank, Ordering::SeqCst) < rank
     }
 
-    /// The threshold that was reached, if neither it nor a greater one was reported. It counts as reported from then on.
+    /// The greatest threshold that was reached, if neither it nor a greater one was reported. It counts as reported from then on.
     pub fn take_reached(&self) -> Option<JournalThreshold> {
         let reached = self.reached.load(Ordering::SeqCst);
         if reached <= self.reported.load(Ordering::SeqCst) {

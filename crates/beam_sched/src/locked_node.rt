@@ -16,7 +16,7 @@ use beam_shared::node::Node;
 use beam_shared::refusal::Refusal;
 use std::alloc::Global;
 
-/// A node, queue states of its processes, and when it is to be looked at.
+/// A node, the queue states of its processes, and when it is to be scanned.
 pub struct LockedNode<B: NodeBrand> {
     pub(crate) node: Node<B>,
     pub(crate) queue_states: QueueStates,
@@ -34,7 +34,7 @@ impl<B: NodeBrand> Drop for LockedNode<B> {
 }
 
 impl<B: NodeBrand> LockedNode<B> {
-    /// A node of which no process is out.
+    /// A node of which no process is checked out.
     pub(crate) fn new(alloc: Global, node: Node<B>) -> LockedNode<B> {
         LockedNode {
             node,
@@ -57,7 +57,7 @@ impl<B: NodeBrand> LockedNode<B> {
         node
     }
 
-    /// Hands out a process, which is in no queue any longer.
+    /// Checks out a process, which is in no queue any longer.
     pub(crate) fn check_out(&mut self, pid: u32) -> Result<Checkout<B>, Refusal> {
         self.queue_states.put(pid, QueueState::Free);
         let checkout = self.node.checkout(pid)?;
@@ -67,7 +67,7 @@ impl<B: NodeBrand> LockedNode<B> {
 }
 
 impl<B: NodeBrand + QueueBrand> LockedNode<B> {
-    /// Enqueues a process if it can go. If memory is refused, a scan will find it.
+    /// Enqueues a process if it is runnable. If memory is refused, a scan will find it.
     fn enqueue(&mut self, context: &mut ThreadContext<B>, pid: u32)
         ensures { context.new.seat ≡ context.old.seat }
     {
@@ -79,8 +79,8 @@ impl<B: NodeBrand + QueueBrand> LockedNode<B> {
         }
     }
 
-    /// Enqueues a process to which a slice sent that is about to be committed, if the process can go then. If memory is refused, a scan
-    /// will find it.
+    /// Enqueues a process to which a slice sent that is about to be committed, if the process will be runnable then. If memory is refused,
+    /// a scan will find it.
     fn enqueue_receiver(&mut self, context: &mut ThreadContext<B>, pid: u32) {
         if self.queue_states.of(pid) == QueueState::Free
             && is_wakeable(&self.node, pid)
@@ -105,7 +105,7 @@ impl<B: NodeBrand + QueueBrand> LockedNode<B> {
         }
     }
 
-    /// Enqueues the process that can go after an accepted event. If that has ended, or may be any process, a scan is wanted instead.
+    /// Enqueues the process that an accepted event made runnable. If that has ended, or may be any process, a scan is wanted instead.
     pub(crate) fn enqueue_made_runnable(
         &mut self,
         context: &mut ThreadContext<B>,
@@ -122,8 +122,8 @@ impl<B: NodeBrand + QueueBrand> LockedNode<B> {
         }
     }
 
-    /// Commits the rows of a process, and enqueues those that can go on then: the receivers of its signals, and the process itself. A row
-    /// of the node or an end may make others ready; a scan finds these.
+    /// Commits the rows of a process, and enqueues those that are runnable then: the receivers of its signals, and the process itself. A
+    /// row of the node or an end may make others runnable; a scan finds these.
     pub(crate) fn commit(
         &mut self,
         context: &mut ThreadContext<B>,
@@ -131,7 +131,7 @@ impl<B: NodeBrand + QueueBrand> LockedNode<B> {
     ) -> Result<Option<Outcome>, DropReason> {
         let pid = finished.pid();
         let is_self_contained = finished.is_self_contained();
-        // No other thread can check them out before the rows take effect, since the lock is held.
+        // No other thread can check the receivers out before the rows take effect, since the lock is held.
         for sent in finished.sent() {
             self.enqueue_receiver(context, sent.to);
         }

@@ -1,4 +1,4 @@
-//! Which processes can go by an event that is accepted.
+//! Which processes an accepted event makes runnable.
 
 use beam_debug::outcome::Outcome;
 use beam_image::Image;
@@ -6,7 +6,7 @@ use beam_machine::debug::DebugEvent;
 use beam_machine::event::{Event, Reply};
 use beam_term::Term;
 
-/// Which processes can go after an event that couldn't before.
+/// Which processes may be runnable after an event that weren't before.
 #[derive(Clone, Copy, Debug, PartialEq, Eq)]
 pub enum MadeRunnable {
     /// Only this process, and if it has ended, those that monitor it.
@@ -28,7 +28,7 @@ fn receiver(to: &Term) -> MadeRunnable {
 }
 
 impl MadeRunnable {
-    /// Which processes can go after an event.
+    /// Which processes an event may make runnable.
     pub fn of(event: &DebugEvent<Image>) -> MadeRunnable {
         match event {
             DebugEvent::Node(Event::Spawn { .. }) => MadeRunnable::Started,
@@ -41,7 +41,7 @@ impl MadeRunnable {
         }
     }
 
-    /// The process that can go, by the node's answer to the event. `None` where it may be any, or where there is none.
+    /// The process that may be runnable, by the node's answer to the event. `None` where it may be any, or where there is none.
     pub fn pid(self, outcome: &Outcome) -> Option<u32> {
         match (self, outcome) {
             (MadeRunnable::One(pid), _) => Some(pid),

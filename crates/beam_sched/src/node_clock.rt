@@ -4,7 +4,7 @@ ghost use Rattle.beam_sched.specs.NodeClock.{moment_at};
 
 use std::sync::atomic::{AtomicU64, Ordering};
 
-/// The moments that are handed to a node: the time of a clock, advanced where a command moved the node's clock ahead of it.
+/// The moments that are given to a node: the time of a clock, advanced where a command moved the node's clock ahead of it.
 #[derive(Drop)]
 pub struct NodeClock {
     /// The node's clock.
@@ -22,7 +22,7 @@ fn moment_at(time: u64, ahead: u64, clock: u64) -> u64
 }
 
 impl NodeClock {
-    /// The moments of a node whose clock is at this time.
+    /// The moments of a node whose clock has this time.
     pub fn new(clock: u64) -> NodeClock {
         NodeClock {
             clock: AtomicU64::new(clock),

@@ -17,7 +17,7 @@ impl<T: Drop> Pool<T> {
         }
     }
 
-    /// How many values there are, with those that threads have.
+    /// How many values there are, including those that threads have.
     pub fn count(&self) -> usize {
         self.count
     }

@@ -1,4 +1,4 @@
-//! States of processes: which are queued, and which are out.
+//! Queue states of processes: which are queued, and which are checked out.
 ghost use Rattle.std.specs.Prelude.{◌≡◌, ◌<◌, ◌-◌, ◌^◌, ℕ, ◌==◌, [], length, if◌then◌else◌, OnOk};
 ghost use Rattle.beam_sched.specs.QueueStates.{queue_state_of};
 ghost use Rattle.beam_sched.specs.declared.queue_states.QueueState.TheVariants.{Free};
@@ -6,14 +6,14 @@ ghost use Rattle.beam_sched.specs.declared.queue_states.QueueState.TheVariants.{
 use std::alloc::{AllocError, Global};
 use std::marker::Model;
 
-/// Where a process is.
+/// Whether a process is in a queue or checked out.
 #[derive(Clone, Copy, Debug, PartialEq, Eq)]
 pub enum QueueState {
-    /// Neither in a queue nor out.
+    /// Neither in a queue nor checked out.
     Free,
-    /// It waits in the queue of some run queue.
+    /// In the queue of some run queue.
     Queued,
-    /// A worker has it.
+    /// Checked out by a worker.
     CheckedOut,
 }
 
@@ -52,7 +52,7 @@ impl QueueStates {
         }
     }
 
-    /// The greatest number for whose queue state there is room: above it all are free. 0 where there is none.
+    /// The greatest process number for whose queue state there is room: above it all are free. 0 where there is none.
     pub fn last(&self) -> u32
         ensures { (pid : ℕ) → result < pid → pid < 2 ^ 32 → queue_state_of self.now pid ≡ Free }
     {
@@ -71,7 +71,7 @@ impl QueueStates {
         Ok(())
     }
 
-    /// States a process for whose queue state there is room.
+    /// Sets the queue state of a process for which there is room.
     pub fn put(&mut self, pid: u32, state: QueueState)
         ensures { pid < length self.old
             → (other : ℕ) → queue_state_of self.new other ≡ (if other == pid then state else queue_state_of self.old other) }

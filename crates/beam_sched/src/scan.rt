@@ -1,4 +1,4 @@
-//! Scans of a node for processes that can go.
+//! Scans of a node for processes that are runnable.
 ghost use Rattle.std.specs.Prelude.{◌≡◌, ◌⊎◌, true, None};
 ghost use Rattle.beam_machine.specs.Ready.{next_deadline};
 ghost use Rattle.beam_machine.specs.State.{process_of};
@@ -21,7 +21,7 @@ use beam_term::Term;
 /// The most processes that one scan finds, and the most waits that it ends.
 const MOST_FOUND: usize = 128;
 
-/// A scan at the node.
+/// Where a scan of the node begins, and at which moment.
 #[derive(Clone, Copy, Debug)]
 pub struct ScanRequest {
     /// The number above which the scan begins.
@@ -31,14 +31,14 @@ pub struct ScanRequest {
     pub sets_clock: bool,
 }
 
-/// What a scan at the node found.
+/// What a scan of the node found.
 #[derive(Clone, Copy, Debug)]
 pub struct ScanResult {
     /// The number above which the next scan goes on, or 0 where this one came to the last process.
     pub after: u32,
     /// The least deadline of a waiting process that is left.
     pub due: Option<u64>,
-    /// Whether a process goes on whose number the scan had already passed.
+    /// Whether the wait of a process was ended whose number the scan had already passed.
     pub has_skipped: bool,
     /// Whether memory was refused.
     pub lacks_memory: bool,
@@ -63,7 +63,7 @@ pub fn is_runnable<B: NodeBrand>(node: &Node<B>, pid: u32) -> bool {
     node.ready(pid.saturating_sub(1)) == Some(pid) && !node.debugger().is_held(pid)
 }
 
-/// Whether a process hasn't ended and isn't held: it can go once something is sent to it.
+/// Whether a process hasn't ended and isn't held: it is runnable once something is sent to it.
 pub fn is_wakeable<B: NodeBrand>(node: &Node<B>, pid: u32) -> bool {
     match node.debugger().process(pid) {
         Some(process) => !process.is_ended() && !node.debugger().is_held(pid),
@@ -127,8 +127,8 @@ fn is_due<B: NodeBrand>(node: &Node<B>, moment: u64) -> bool {
     }
 }
 
-/// Ends waits whose deadlines have come, at most `MOST_FOUND`. The scan finds those above `after`; of the others `found` notes that the
-/// scan has passed them.
+/// Ends waits whose deadlines have come, at most `MOST_FOUND`. The scan finds the processes above `after`; where one isn't above it,
+/// `found` notes that the scan has skipped it.
 fn fire_timeouts<B: NodeBrand>(
     node: &mut Node<B>,
     seat: &mut SeatReceipt<B>,
@@ -161,8 +161,7 @@ fn tick<B: NodeBrand>(
     fire_timeouts(node, seat, scan.after, found)
 }
 
-/// The least deadline of a waiting process. It is left out if it has come and memory was refused, since it is tried again with all that was
-/// put off.
+/// The least deadline of a waiting process. It is left out if it has come and memory was refused, since the scan is retried then.
 fn next_due<B: NodeBrand>(node: &Node<B>, moment: u64, lacks_memory: bool) -> Option<u64>
     ensures { result ≡ None → (next_deadline node.now.state.node.processes ≡ None) ⊎ (lacks_memory ≡ true) }
 {
@@ -174,7 +173,7 @@ fn next_due<B: NodeBrand>(node: &Node<B>, moment: u64, lacks_memory: bool) -> Op
     }
 }
 
-/// How a search for processes ended.
+/// How the search for runnable processes ended.
 #[derive(Clone, Copy, Debug)]
 struct ScanEnd {
     /// The number above which the next scan goes on, or 0 where this one came to the last process.
@@ -183,7 +182,7 @@ struct ScanEnd {
     lacks_memory: bool,
 }
 
-/// Enqueues the processes above a number that can go, unless they are queued already or out.
+/// Enqueues the runnable processes above a number, unless they are queued or checked out already.
 fn enqueue_runnable<B: NodeBrand + QueueBrand>(
     node: &Node<B>,
     queue_states: &mut QueueStates,
@@ -206,8 +205,8 @@ fn enqueue_runnable<B: NodeBrand + QueueBrand>(
     end
 }
 
-/// Enters the moment, if it is to be entered or a deadline has come, ends the waits whose deadlines have come, and enqueues the processes
-/// above a number that can go. Answers the deadline that is left, unless memory was refused.
+/// Enters the moment, if it is to be entered or a deadline has come, ends the waits whose deadlines have come, and enqueues the runnable
+/// processes above a number. The result has the deadline that is left, unless memory was refused.
 pub fn scan<B: NodeBrand + QueueBrand>(
     locked: &mut LockedNode<B>,
     context: &mut ThreadContext<B>,

@@ -6,7 +6,7 @@ use std::sync::atomic::{AtomicBool, AtomicU64, Ordering};
 /// The word that stands for no moment.
 const NEVER: u64 = u64::MAX;
 
-/// A copy of `ScanState`, written under the node's lock and read without it.
+/// A copy of when to scan, as `ScanState` has it, written under the node's lock and read without it.
 #[derive(Drop)]
 pub struct ScanHint {
     is_wanted: AtomicBool,

@@ -1,4 +1,4 @@
-//! When the node is to be scanned for processes that can go.
+//! When the node is to be scanned for processes that are runnable.
 ghost use Rattle.std.specs.Prelude.{◌≡◌, ◌≢◌, ◌↔◌, ◌⊎◌, ◌+◌, ◌-◌, ◌^◌, ◌||◌, true, false, min, None, Some, IsTrue};
 ghost use Rattle.beam_sched.specs.Deadlines.{earlier};
 
@@ -49,7 +49,7 @@ impl ScanState {
         self.is_changed || self.after != 0
     }
 
-    /// Notes that a process may have become ready.
+    /// Notes that a process may have become runnable.
     pub fn note_change(&mut self)
         ensures { self.new ≡ record self.old { is_changed = true } }
     {
@@ -70,7 +70,7 @@ impl ScanState {
         self.retry = Some(moment.saturating_add(RETRY));
     }
 
-    /// Begins a scan where the last one ended. Only a scan that begins at the first process finds all that changed or was put off.
+    /// Begins a scan where the last one ended. Only a scan that begins at the first process finds all that changed or is to be retried.
     pub fn begin(&mut self)
         ensures after { self.new.after ≡ self.old.after }
         ensures changed { self.old.after ≢ 0 → self.new.is_changed ≡ self.old.is_changed }
@@ -83,7 +83,7 @@ impl ScanState {
         }
     }
 
-    /// Ends a scan: it left deadlines to come, it may have passed a process that goes on, and memory may have been refused.
+    /// Ends a scan: it left deadlines to come, it may have skipped a process that is runnable now, and memory may have been refused.
     pub fn end(&mut self, found: ScanResult, moment: u64)
         ensures after { self.new.after ≡ found.after }
         ensures due { self.new.due ≡ earlier self.old.due found.due }

@@ -16,7 +16,7 @@ use std::{thread, time};
 /// How many bytes of stack a thread has: enough for terms of all depths.
 const STACK: usize = 512 * 1024;
 
-/// How many threads run, fewer than wanted if threads could not be made.
+/// How many threads run: fewer than wanted if some could not be made.
 #[derive(Clone, Copy, Debug)]
 pub struct StartedThreads {
     /// The threads that run processes.
@@ -45,7 +45,7 @@ impl Helper for NoHelper {
     fn help(&mut self) {}
 }
 
-/// Takes a thread context and works at it. There is one for each thread that could be made.
+/// Takes a thread context from the pool and works with it. The pool has one for each thread that could be made.
 fn run_worker<B: NodeBrand + QueueBrand, G: Gate, C: Clock, R: Wait + time::Clock>(
     rt: &R,
     shared: &Shared<B>,
@@ -59,7 +59,7 @@ fn run_worker<B: NodeBrand + QueueBrand, G: Gate, C: Clock, R: Wait + time::Cloc
     }
 }
 
-/// Takes a helper and lets it help. There is one for each thread that could be made.
+/// Takes a helper from the pool and lets it help. The pool has one for each thread that could be made.
 fn help<H: Helper + Drop, R: Wait>(rt: &R, helpers: &Pool<H>) {
     if let Some(mut helper) = helpers.take(rt) {
         helper.help();
@@ -101,7 +101,7 @@ fn start_helper<'s, E, H: Helper + Drop + Send + 's, R: Wait + Sync + 's>(
         .is_ok()
 }
 
-/// Starts a thread for each of the thread contexts, and answers how many could be made.
+/// Starts a thread for each of the thread contexts, and returns how many could be made.
 fn start_workers<
     's,
     E,
@@ -126,7 +126,7 @@ fn start_workers<
     started
 }
 
-/// Starts a thread for each of the helpers, and answers how many could be made.
+/// Starts a thread for each of the helpers, and returns how many could be made.
 fn start_helpers<'s, E, H: Helper + Drop + Send + 's, R: Wait + Sync + 's>(
     scope: &Scope<'s, E>,
     rt: &'s R,
@@ -182,10 +182,10 @@ fn run_in_scope<
     })
 }
 
-/// Runs a worker on a thread of its own for each of the thread contexts, and each of the helpers on one, while the task runs on this thread. Where
-/// no worker can be made no helper runs. When the task and the helpers have ended the queues are closed; the workers end once they find no
-/// work, and all thread contexts and helpers come back. A thread that can't be made is left out, and its thread context or helper comes back too; the
-/// task gets the counts of those that run. Processes that no worker took are left in the queues.
+/// Runs a worker on a thread of its own for each of the thread contexts, and each of the helpers on one, while the task runs on this
+/// thread. Where no worker can be made no helper runs. When the task and the helpers have ended the queues are closed; the workers end once
+/// they find no work, and all thread contexts and helpers come back. A thread that can't be made is left out, and its thread context or
+/// helper comes back too; the task gets the counts of those that run. Processes that no worker took are left in the queues.
 pub fn run_with_helpers<
     B: NodeBrand + QueueBrand + Send + Sync,
     G: Gate + Sync,
@@ -208,8 +208,8 @@ pub fn run_with_helpers<
     (contexts.into_left(), helpers.into_left())
 }
 
-/// Runs a worker on a thread of its own for each of the thread contexts, while the task runs on this thread, as `run_with_helpers` does without
-/// helpers.
+/// Runs a worker on a thread of its own for each of the thread contexts, while the task runs on this thread, as `run_with_helpers` does
+/// without helpers.
 pub fn run_schedulers<
     B: NodeBrand + QueueBrand + Send + Sync,
     G: Gate + Sync,

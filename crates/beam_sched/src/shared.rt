@@ -88,8 +88,8 @@ impl<B: NodeBrand> Shared<B> {
         exit_reason(locked.node(), pid)
     }
 
-    /// The share of its limit that the journal has reached, if neither it nor a greater one was reported. Only the first call after that
-    /// gets it. It takes no lock.
+    /// The threshold that the journal has reached, if neither it nor a greater one was reported. Only the first call after that gets it. It
+    /// takes no lock.
     pub fn crossed(&self) -> Option<JournalThreshold> {
         self.usage.take_reached()
     }
@@ -106,9 +106,9 @@ impl<B: NodeBrand> Shared<B> {
 }
 
 impl<B: NodeBrand + QueueBrand> Shared<B> {
-    /// Follows a command, under the node's lock: notes the share that the journal has reached and, if the command was accepted, the clock
-    /// that it set, and enqueues the process that can go by it. Tells whether a worker is to be woken: a process may go, or the journal
-    /// has reached a share.
+    /// Notes a command, under the node's lock: the threshold that the journal has reached and, if the command was accepted, the clock that
+    /// it set; and enqueues the process that it made runnable. Tells whether a worker is to be woken: a process may be runnable, or the
+    /// journal has reached a threshold.
     fn note_command(
         &self,
         locked: &mut LockedNode<B>,
@@ -134,10 +134,10 @@ impl<B: NodeBrand + QueueBrand> Shared<B> {
         has_reached || made_runnable != MadeRunnable::Nobody
     }
 
-    /// Gives the node an event under its lock, as a command of a thread context's seat. The process that can go by it is enqueued in the
-    /// thread context's run queue, and a worker is woken, unless the event only reads something and the journal reaches no share by it. The answer is
-    /// that of `Node::command`; a refusal changes nothing. The lock is held only for the command and its announcements. Moments are
-    /// advanced to the clock that it sets.
+    /// Gives the node an event under its lock, as a command of a thread context's seat. The process that it makes runnable is enqueued in
+    /// the thread context's run queue, and a worker is woken, unless the event only reads something and the journal reaches no threshold by
+    /// it. The answer is that of `Node::command`; a refusal changes nothing. The lock is held only for the command and for enqueueing.
+    /// Moments are advanced to the clock that it sets.
     pub fn command<R: Wait>(
         &self,
         rt: &R,

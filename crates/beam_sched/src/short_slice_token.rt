@@ -1,4 +1,4 @@
-//! Which worker keeps running short slices.
+//! Which worker goes on running short slices.
 
 use std::mem;
 use std::sync::atomic::{AtomicBool, Ordering};
@@ -21,7 +21,7 @@ impl ShortSliceToken {
         }
     }
 
-    /// Takes the token, unless it is taken. Tells whether it was free.
+    /// Takes the token, unless a worker has it. Tells whether it was free.
     fn take(&self) -> bool {
         !self.is_taken.swap(true, Ordering::SeqCst)
     }
@@ -31,7 +31,7 @@ impl ShortSliceToken {
     }
 }
 
-/// Which slices a worker had lately, and whether it has the token.
+/// What slices a worker had lately, and whether it has the token.
 #[derive(Clone, Copy, Debug)]
 pub struct RecentSlices {
     /// How many short slices the worker had since its last longer one.
@@ -53,7 +53,7 @@ impl RecentSlices {
         self.has_token
     }
 
-    /// Counts a short slice. Tells whether the worker goes on: it had fewer than `MANY` of them, or has the token now.
+    /// Counts a short slice. Tells whether the worker goes on: it had fewer than `MANY_SHORT` of them, or has the token now.
     pub fn had_short(&mut self, token: &ShortSliceToken) -> bool {
         self.short = self.short.saturating_add(1);
         self.short < MANY_SHORT || self.takes(token)

@@ -10,7 +10,7 @@ use beam_queue::{QueueBrand, RunQueue};
 use beam_receipts::brand::NodeBrand;
 use beam_receipts::seat::SeatReceipt;
 
-/// A seat of a node, from which commands come, and a run queue of the queues of its workers.
+/// What a thread has at a node: a seat, for its commands, and a run queue.
 pub struct ThreadContext<B: NodeBrand + QueueBrand> {
     pub seat: SeatReceipt<B>,
     pub run_queue: RunQueue<B>,
@@ -33,7 +33,7 @@ impl<B: NodeBrand + QueueBrand> Drop for ThreadContext<B> {
 pub struct NotEnqueued;
 
 impl<B: NodeBrand + QueueBrand> ThreadContext<B> {
-    /// A thread context of a seat and of a run queue whose own queue is empty.
+    /// A thread context with a seat and with a run queue whose own queue is empty.
     pub fn new(seat: SeatReceipt<B>, run_queue: RunQueue<B>) -> ThreadContext<B>
         ensures seat { result.seat ≡ seat }
         ensures run_queue { result.run_queue ≡ run_queue }
@@ -63,8 +63,8 @@ impl<B: NodeBrand + QueueBrand> ThreadContext<B> {
         self.queued
     }
 
-    /// Enqueues a process, unless it is in some queue already or out: puts it into the thread context's own queue, and marks it. If memory is
-    /// refused it isn't enqueued.
+    /// Enqueues a process, unless it is in some queue or checked out already: puts it into the thread context's own queue, and sets its
+    /// queue state. If memory is refused it isn't enqueued.
     pub fn enqueue(&mut self, queue_states: &mut QueueStates, pid: u32) -> Result<(), NotEnqueued>
         ensures seat { self.new.seat ≡ self.old.seat }
         ensures not_free { queue_state_of queue_states.old pid ≢ Free → (self.new.run_queue ≡ self.old.run_queue) × (queue_states.new ≡ queue_states.old) }
@@ -84,7 +84,7 @@ impl<B: NodeBrand + QueueBrand> ThreadContext<B> {
         Ok(())
     }
 
-    /// The oldest process of its own queue.
+    /// Takes the oldest process of its own queue.
     fn pop(&mut self) -> Option<u32>
         ensures seat { self.new.seat ≡ self.old.seat }
         ensures taken { MatchOption result (self.new.run_queue ≡ self.old.run_queue)

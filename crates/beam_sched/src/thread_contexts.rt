@@ -8,9 +8,9 @@ use beam_receipts::seat::SeatReceipt;
 use beam_shared::node::Node;
 use std::alloc::{AllocError, Global};
 
-/// Makes a thread context of a node for each of the queues: one for each of the workers, whose run queues steal from all others, and one for each
-/// sender of commands. `NoMemory` where memory is refused, `TooMany` where the node has no more seats, or would have more than 999 workers;
-/// the queues are then gone.
+/// Makes a thread context of a node for each of the queues: one for each of the workers, whose run queues steal from all others, and one
+/// for each sender of commands. `NoMemory` where memory is refused, `TooMany` where the node has no more seats, or would have more than 999
+/// workers; the queues are then gone.
 pub fn contexts<B: NodeBrand + QueueBrand>(
     alloc: Global,
     node: &mut Node<B>,
@@ -35,7 +35,7 @@ pub fn contexts<B: NodeBrand + QueueBrand>(
     Ok((working, sending))
 }
 
-/// The seats and the run queues of thread contexts: the seats close the node, the run queues the queues.
+/// The seats and the run queues of thread contexts. The node is closed with the seats, and the queues with the run queues.
 pub struct SeatsAndQueues<B: NodeBrand + QueueBrand> {
     seats: Vec<SeatReceipt<B>>,
     run_queues: Vec<RunQueue<B>>,
@@ -59,14 +59,14 @@ impl<B: NodeBrand + QueueBrand> SeatsAndQueues<B> {
         })
     }
 
-    /// Takes a thread context apart for which there is room.
+    /// Takes a thread context apart, for whose parts there is room.
     pub fn put(&mut self, context: ThreadContext<B>) {
         let (seat, run_queue) = context.into_parts();
         let _ = self.seats.push(seat);
         let _ = self.run_queues.push(run_queue);
     }
 
-    /// Takes thread contexts apart for which there is room.
+    /// Takes thread contexts apart, for whose parts there is room.
     pub fn put_all(&mut self, contexts: Vec<ThreadContext<B>>) {
         for context in contexts {
             self.put(context);

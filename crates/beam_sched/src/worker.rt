@@ -26,10 +26,10 @@ const ROWS: u32 = 4_000;
 /// A slice of fewer rows is short: it takes about as long as the locks of its checkout and commit.
 const SHORT_SLICE: u32 = 256;
 
-/// One turn of this many begins with a steal.
+/// One of this many takes begins with a steal.
 const STEAL_EVERY: u32 = 16;
 
-/// A worker: its node and thread context, its observer and clock, and how far its round has come.
+/// A worker: its node and thread context, its observer and clock, and how long until it scans and steals.
 #[derive(Drop)]
 struct Worker<'a, B: NodeBrand + QueueBrand, G, C, R> {
     rt: &'a R,
@@ -37,11 +37,11 @@ struct Worker<'a, B: NodeBrand + QueueBrand, G, C, R> {
     gate: &'a G,
     clock: &'a C,
     context: ThreadContext<B>,
-    /// How many processes it takes before it looks at the node again.
+    /// How many processes it takes before it scans the node again.
     until_scan: usize,
-    /// How many turns passed since one began with a steal.
+    /// How many takes passed since one began with a steal.
     since_steal: u32,
-    /// Which slices it had lately, and whether it has the token.
+    /// What slices it had lately, and whether it has the token.
     recent_slices: RecentSlices,
 }
 
@@ -59,7 +59,7 @@ impl<B: NodeBrand + QueueBrand, G: Gate, C: Clock, R: Wait + time::Clock> Worker
     }
 
     /// Whether it is time to scan: the processes that were in its queue at the last scan were taken, and either a process may have become
-    /// ready, or the moment has come at which the node is to be scanned.
+    /// runnable, or the moment has come at which the node is to be scanned.
     fn must_scan(&self) -> bool {
         let scan_hint = &self.shared.scan_hint;
         self.until_scan == 0
@@ -92,7 +92,7 @@ impl<B: NodeBrand + QueueBrand, G: Gate, C: Clock, R: Wait + time::Clock> Worker
         }
     }
 
-    /// Its next turn after it found nothing in the queues and was counted among the workers that can be woken.
+    /// Its next action after it found nothing in the queues and was counted among the workers that can be woken.
     fn idle_action(&mut self, is_closed: bool) -> WorkerAction {
         let Shared {
             idle,
@@ -116,8 +116,8 @@ impl<B: NodeBrand + QueueBrand, G: Gate, C: Clock, R: Wait + time::Clock> Worker
         Some(next_time.saturating_sub(self.moment()).max(1))
     }
 
-    /// Waits until it is woken or the node is to be scanned, unless there is work after all. It gives the token back before it looks into
-    /// the queues for the last time, so that this scan finds all processes that were enqueued by workers that had found the token taken.
+    /// Waits until it is woken or the node is to be scanned, unless there is work after all. It gives the token back before it tries the
+    /// queues for the last time, so that it finds all processes that were enqueued by workers that had found the token taken.
     fn rest(&mut self) -> WorkerAction {
         let Shared { idle, token, .. } = self.shared;
         self.recent_slices.gives_back(token);
@@ -132,9 +132,8 @@ impl<B: NodeBrand + QueueBrand, G: Gate, C: Clock, R: Wait + time::Clock> Worker
         next_action
     }
 
-    /// Waits as a worker without work does, though processes may be in its queue: the worker that has the token takes those. The baton's
-    /// owner gives it back before it waits; so this worker, already counted among those that can be woken, first tries once more to take
-    /// it.
+    /// Waits as a worker without work does, though processes may be in its queue: the worker that has the token takes those. That worker
+    /// gives the token back before it waits; so this one, already counted among those that can be woken, first tries once more to take it.
     fn wait_without_token(&mut self) {
         let Shared { idle, token, .. } = self.shared;
         let guard = idle.begin_wait(self.rt);
@@ -153,7 +152,7 @@ impl<B: NodeBrand + QueueBrand, G: Gate, C: Clock, R: Wait + time::Clock> Worker
         self.shared.scan_hint.publish(&locked.scan_state);
     }
 
-    /// Checks a process out, and answers the reason too if it ended by a signal that arrived just then.
+    /// Checks a process out, and also returns the reason if it was ended by a signal that arrived just then.
     fn check_out(&self, pid: u32) -> Result<(Checkout<B>, Option<Term>), Refusal> {
         let mut locked = self.shared.node.lock(self.rt);
         let checkout = locked.check_out(pid)?;
@@ -161,7 +160,7 @@ impl<B: NodeBrand + QueueBrand, G: Gate, C: Clock, R: Wait + time::Clock> Worker
         Ok((checkout, end))
     }
 
-    /// Passes over a process that can't be checked out. A full journal stops the workers.
+    /// Handles the refusal of a checkout. A full journal stops the workers, and where memory was refused a scan is retried later.
     fn handle_refusal(&self, refusal: Refusal) {
         match refusal {
             Refusal::JournalFull => self.shared.stop(self.rt),
@@ -222,7 +221,7 @@ impl<B: NodeBrand + QueueBrand, G: Gate, C: Clock, R: Wait + time::Clock> Worker
     }
 
     /// After a short slice: it spent its time under the lock, where another worker would only be in the way, so none is woken. A worker
-    /// that has had only short slices for some time stands back, unless it has or gets the token.
+    /// that has had only short slices for some time waits, unless it has or gets the token.
     fn after_short(&mut self) {
         if !self.recent_slices.had_short(&self.shared.token) {
             self.report_threshold();
@@ -230,7 +229,8 @@ impl<B: NodeBrand + QueueBrand, G: Gate, C: Clock, R: Wait + time::Clock> Worker
         }
     }
 
-    /// After a longer slice: wakes another worker if more is left to do, in its own queue, or in those of workers that stood back.
+    /// After a longer slice: wakes another worker if more is left to do, in its own queue, or in those of workers that wait without the
+    /// token.
     fn after_long(&mut self) {
         let had_token = self.recent_slices.had_long(&self.shared.token);
         if had_token || self.has_more() {
@@ -243,7 +243,7 @@ impl<B: NodeBrand + QueueBrand, G: Gate, C: Clock, R: Wait + time::Clock> Worker
         self.context.queued() > 1
     }
 
-    /// Enters the timeouts that are due, and enqueues what can go.
+    /// Enters the timeouts that are due, and enqueues what is runnable.
     fn scan(&mut self) {
         let shared = self.shared;
         let mut guard = shared.node.lock(self.rt);
@@ -276,7 +276,7 @@ impl<B: NodeBrand + QueueBrand, G: Gate, C: Clock, R: Wait + time::Clock> Worker
         }
     }
 
-    /// Takes a turn. Tells whether more are to come.
+    /// Takes its next action. Tells whether more are to come.
     fn act(&mut self) -> bool {
         let next_action = self.next_action();
         match next_action {
@@ -290,12 +290,12 @@ impl<B: NodeBrand + QueueBrand, G: Gate, C: Clock, R: Wait + time::Clock> Worker
 }
 
 /// Runs processes that are enqueued, at most 4,000 rows of one at a time: those of its own queue and, where that is empty and at each 16th
-/// turn, those of the others' queues, so that none waits for ever because others keep running. Of workers that have had only short slices
-/// for some time one goes on, and takes what is in the others' queues. It ends once the queues are closed, it finds no work and nothing is
-/// put off for want of memory, or once workers are stopped; a worker stops them if it finds the journal full. Then it gives its thread context
-/// back, by whose seat it entered moments and timeouts. Processes that can't be checked out and rows that are dropped are passed over; what
-/// can go on is enqueued again. The gate is called under no lock. The clock gives the time, and moments are advanced where a command moved
-/// the node's clock ahead of it; the clock of the runtime tells how long to wait.
+/// take, those of the others' queues, so that none waits for ever because others keep running. Of workers that have had only short slices
+/// for some time one goes on, and takes what is in the others' queues. It ends once the queues are closed, it finds no work and no scan is
+/// to be retried for want of memory, or once workers are stopped; a worker stops them if it finds the journal full. Then it gives its
+/// thread context back, by whose seat it entered moments and timeouts. Processes that can't be checked out are passed over, and rows that
+/// are dropped too; what is runnable is enqueued again. The gate is called under no lock. The clock gives the time, and moments are
+/// advanced where a command moved the node's clock ahead of it; the clock of the runtime tells how long to wait.
 pub fn work<B: NodeBrand + QueueBrand, G: Gate, C: Clock, R: Wait + time::Clock>(
     rt: &R,
     shared: &Shared<B>,

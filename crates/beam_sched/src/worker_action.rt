@@ -1,4 +1,4 @@
-//! The turns of workers.
+//! The actions of workers.
 ghost use Rattle.std.specs.Prelude.{◌≡◌};
 ghost use Rattle.beam_sched.specs.WorkerActions.{idle_action};
 
@@ -7,7 +7,7 @@ ghost use Rattle.beam_sched.specs.WorkerActions.{idle_action};
 pub enum WorkerAction {
     /// It runs a process.
     Run(u32),
-    /// It looks which processes of the node can go.
+    /// It scans the node for processes that are runnable.
     Scan,
     /// It has waited, or is to wait.
     Rest,
@@ -15,8 +15,8 @@ pub enum WorkerAction {
     End,
 }
 
-/// The turn of a worker that finds nothing in the queues. A worker that is stopped ends, whatever work is left; otherwise it goes on while
-/// a scan is wanted or something is put off for want of memory.
+/// The next action of a worker that finds nothing in the queues. A worker that is stopped ends, whatever work is left; otherwise it goes on
+/// while a scan is wanted or is to be retried for want of memory.
 pub fn idle_action(
     is_stopped: bool,
     is_closed: bool,

@@ -1,4 +1,4 @@
--- What a desk that has a seat of a shared node answers. (This node's own.)
+-- What a desk with a seat of a shared node answers. (This node's own.)
 use Rattle.std.specs.Prelude.{◌≡◌, Result, Ok, Err}
 use Rattle.beam_machine.specs.declared.command.Response.{Response}
 use Rattle.beam_machine.specs.declared.command.Response.TheVariants as response

@@ -1,4 +1,4 @@
-//! Connections that are accepted.
+//! Accepting connections.
 
 use crate::open_sockets::OpenSockets;
 use beam_tools::os_error::OsError;
@@ -13,7 +13,7 @@ use std::time::{Clock, Duration};
 pub enum NotAccepted {
     /// The sockets are shut.
     Shut,
-    /// The listener is gone: the operating system's error.
+    /// The listener failed: the operating system's error.
     ListenerFailed(OsError),
 }
 
@@ -22,11 +22,11 @@ pub enum NotAccepted {
 enum AcceptFailure {
     /// The next call may succeed: no descriptors, no memory, a connection or a network that broke off.
     Transient,
-    /// The listener is gone.
+    /// The listener failed for good.
     Permanent,
 }
 
-/// How long to wait after a failure that may pass, in milliseconds.
+/// How long to wait after a transient failure, in milliseconds.
 const RETRY_AFTER: u64 = 100;
 
 /// The system has no descriptors left, the process has none, the protocol failed, or there are no buffers.
@@ -51,8 +51,8 @@ fn failure_of(error: &Error) -> AcceptFailure {
     }
 }
 
-/// Waits for the next connection, and answers it with its peer's address. Where accepting fails for a moment, it is tried again after a
-/// pause, and the first failure of several is logged as a warning.
+/// Waits for the next connection, and returns it with its peer's address. After a transient failure it tries again, after a pause, and the
+/// first failure of several is logged as a warning.
 pub fn accept<R: Wait + Clock + Log>(
     rt: &R,
     listener: &TcpListener,

@@ -8,12 +8,12 @@ use std::net::{SocketAddr, TcpStream};
 use std::sync::{Mutex, Wait};
 use std::time::Clock;
 
-/// Why no more connections are taken.
+/// Why no more connections are accepted.
 #[derive(Clone, Copy)]
 pub enum Ended {
-    /// As many were taken as were asked for.
+    /// As many were accepted as were asked for.
     Served,
-    /// The listener is gone: the operating system's error.
+    /// The listener failed: the operating system's error.
     NetFailed(OsError),
     /// The sockets are shut.
     Shut,
@@ -21,16 +21,16 @@ pub enum Ended {
     NoWorker,
 }
 
-/// Whether more connections are taken.
+/// Whether more connections are accepted.
 #[derive(Clone, Copy)]
 enum Accepting {
-    /// This many more are taken; 0 for no end.
+    /// This many more are accepted; 0 for no end.
     Open(u32),
     Ended(Ended),
 }
 
 impl Accepting {
-    /// The state after one more connection was taken.
+    /// The state after one more connection was accepted.
     fn after_one(self) -> Accepting {
         match self {
             Accepting::Open(0) => Accepting::Open(0),
@@ -41,8 +41,8 @@ impl Accepting {
     }
 }
 
-/// Hands out the connections to a listening endpoint. One thread at a time waits for the next connection, and the others for their turn, so that none is
-/// left waiting once no more are taken.
+/// Hands out the connections to a listening endpoint. One thread at a time waits for the next connection, and the others for their turn, so
+/// that none is left waiting once no more are accepted.
 #[derive(Drop)]
 pub struct Acceptor<'a> {
     endpoint: Endpoint<'a>,
@@ -50,7 +50,7 @@ pub struct Acceptor<'a> {
 }
 
 impl<'a> Acceptor<'a> {
-    /// An acceptor to a listening endpoint, for `count` connections; 0 for no end.
+    /// An acceptor for a listening endpoint, for `count` connections; 0 for no end.
     pub fn new(endpoint: Endpoint<'a>, count: u32) -> Acceptor<'a> {
         Acceptor {
             endpoint,
@@ -63,7 +63,7 @@ impl<'a> Acceptor<'a> {
         self.endpoint
     }
 
-    /// Waits for the next connection, and answers it with its peer's address. `None` where no more are taken.
+    /// Waits for the next connection, and returns it with its peer's address. `None` where no more are accepted.
     pub fn next<R: Wait + Clock + Log>(&self, rt: &R) -> Option<(TcpStream, SocketAddr)> {
         let mut accepting = self.accepting.lock(rt);
         if let Accepting::Ended(_) = *accepting {
@@ -81,12 +81,12 @@ impl<'a> Acceptor<'a> {
         None
     }
 
-    /// Takes no more connections, for this reason.
+    /// Accepts no more connections, for this reason.
     pub fn close<R: Wait>(&self, rt: &R, ended: Ended) {
         *self.accepting.lock(rt) = Accepting::Ended(ended);
     }
 
-    /// Why no more connections are taken; `None` if they still are. It blocks while a thread waits for the next connection.
+    /// Why no more connections are accepted; `None` if they still are. It blocks while a thread waits for the next connection.
     pub fn ended<R: Wait>(&self, rt: &R) -> Option<Ended> {
         match *self.accepting.lock(rt) {
             Accepting::Open(_) => None,

@@ -31,13 +31,13 @@ pub enum CommandLog {
         modules: Vec<Atom>,
         lingering: Vec<u32>,
     },
-    /// How a process stands after its rows.
+    /// The state of a process after its rows: whether it is held or has ended.
     Rows(u32),
     /// Whether a process ended by the signals that arrived.
     Arrival(u32),
 }
 
-/// The record of a change of code; none where memory is refused for the module's name.
+/// What to log of a change of code; nothing where memory is refused for the module's name.
 fn change(word: &'static str, module: &Atom, lingering: Vec<u32>) -> CommandLog {
     match module.try_share() {
         Ok(module) => CommandLog::Change {
@@ -49,7 +49,7 @@ fn change(word: &'static str, module: &Atom, lingering: Vec<u32>) -> CommandLog 
     }
 }
 
-/// The record of an upgrade to these images; none where memory is refused for the modules' names.
+/// What to log of an upgrade to these images; nothing where memory is refused for the modules' names.
 fn upgrade<B: NodeBrand, L: Log + AllocGlobal + Wait>(
     log: &L,
     shared: &Shared<B>,
@@ -72,7 +72,7 @@ fn upgrade<B: NodeBrand, L: Log + AllocGlobal + Wait>(
     CommandLog::Upgrade { modules, lingering }
 }
 
-/// The record of an event of the node.
+/// What to log of an event of the node.
 fn of_node<B: NodeBrand, L: Log + AllocGlobal + Wait>(
     log: &L,
     shared: &Shared<B>,
@@ -97,7 +97,7 @@ fn of_node<B: NodeBrand, L: Log + AllocGlobal + Wait>(
 }
 
 impl CommandLog {
-    /// The record of an event, made before the node gets the event; none where the log leaves out level info.
+    /// What to log of an event, found out before the node gets the event; nothing where the log leaves out level info.
     pub fn of<B: NodeBrand, L: Log + AllocGlobal + Wait>(
         log: &L,
         shared: &Shared<B>,
@@ -113,7 +113,7 @@ impl CommandLog {
         }
     }
 
-    /// Writes the record, with the answer.
+    /// Writes the log records, with the answer.
     pub fn write<B: NodeBrand, L: Log + AllocGlobal + Wait>(
         self,
         log: &L,

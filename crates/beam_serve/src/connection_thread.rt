@@ -17,7 +17,7 @@ use std::time::{Clock, Duration};
 /// The settings of the threads that serve a port.
 #[derive(Clone, Copy)]
 pub struct ServeOptions {
-    /// How long a peer may give or take nothing.
+    /// For how long a peer may give nothing and take nothing.
     pub idle: Option<Duration>,
     /// How many threads are wanted that serve connections.
     pub clients: usize,
@@ -25,7 +25,7 @@ pub struct ServeOptions {
     pub workers: usize,
 }
 
-/// Serves connections, one after another, and answers their commands as one thread context's.
+/// A thread that serves connections, one after another, and answers their commands by the desk of its thread context.
 #[derive(Drop)]
 pub struct ConnectionThread<'a, B: NodeBrand + QueueBrand, R> {
     rt: &'a R,
@@ -39,7 +39,7 @@ pub struct ConnectionThread<'a, B: NodeBrand + QueueBrand, R> {
 }
 
 impl<'a, B: NodeBrand + QueueBrand, R> ConnectionThread<'a, B, R> {
-    /// The thread of this number: it takes connections at an acceptor, and answers commands by a desk of the node.
+    /// The thread of this number: it gets connections from an acceptor, and answers commands by a desk of the node.
     pub fn new(
         rt: &'a R,
         alloc: Global,
@@ -68,8 +68,8 @@ impl<'a, B: NodeBrand + QueueBrand, R> ConnectionThread<'a, B, R> {
 }
 
 impl<B: NodeBrand + QueueBrand, R: Wait + Clock + Log + AllocGlobal> ConnectionThread<'_, B, R> {
-    /// Serves connections until no more are taken. Unless that is because enough were taken, the workers end after their slices, and the
-    /// connections of other threads are shut.
+    /// Serves connections until no more are accepted. Unless that is because enough were accepted, the workers end after their slices, and
+    /// the connections of other threads are shut.
     fn serve(&mut self) {
         let rt = self.rt;
         let mut connections = IncomingConnections::new(
@@ -88,7 +88,7 @@ impl<B: NodeBrand + QueueBrand, R: Wait + Clock + Log + AllocGlobal> ConnectionT
 
 impl<B: NodeBrand + QueueBrand, R: Wait + Clock + Log + AllocGlobal> ForegroundTask
     for ConnectionThread<'_, B, R> {
-    // Warns if fewer threads run than were wanted; without workers no connection is taken.
+    // Warns if fewer threads run than were wanted; without workers no connection is accepted.
     fn run(&mut self, started: StartedThreads) {
         let rt = self.rt;
         if started.workers == 0 {

@@ -1,9 +1,9 @@
-//! Where a port is served.
+//! The listening endpoint of a port.
 
 use crate::open_sockets::OpenSockets;
 use std::net::{SocketAddr, TcpListener};
 
-/// A listener, what shuts it, and its address.
+/// A listener, the sockets by which it is shut, and its address.
 #[derive(Clone, Copy)]
 pub struct Endpoint<'a> {
     pub listener: &'a TcpListener,

@@ -14,21 +14,21 @@ use std::time::{Clock, Duration};
 /// Both ways of a connection.
 type Link<'a, R> = Streams<TimedStream<'a, TcpStream, R>, TimedStream<'a, TcpStream, R>>;
 
-/// The connections that one thread takes.
+/// The connections that one thread serves.
 #[derive(Drop)]
 pub struct IncomingConnections<'a, R> {
     rt: &'a R,
     acceptor: &'a Acceptor<'a>,
-    /// The number of this thread among those that take connections, from 0 on.
+    /// The number of this thread among those that serve connections, from 0 on.
     number: usize,
-    /// How long a peer may give or take nothing.
+    /// For how long a peer may give nothing and take nothing.
     idle: Option<Duration>,
     /// The peer of the session.
     peer: Option<SocketAddr>,
 }
 
 impl<'a, R> IncomingConnections<'a, R> {
-    /// The connections that the thread of this number takes at an acceptor.
+    /// The connections that the thread of this number gets from an acceptor.
     pub fn new(
         rt: &'a R,
         acceptor: &'a Acceptor<'a>,
@@ -95,7 +95,7 @@ impl<'a, R: Wait + Clock + Log> Incoming<Link<'a, R>> for IncomingConnections<'a
         unreachable!()
     }
 
-    // A session that ends since the sockets are shut isn't a failure.
+    // A session that ends because the sockets are shut isn't a failure.
     fn ended(&mut self, link: Link<'a, R>, end: Result<Served, ServeError>) {
         let os_error = link.os_error();
         drop(link);

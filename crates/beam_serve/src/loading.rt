@@ -25,7 +25,7 @@ enum EventRefusal {
     JournalFull,
 }
 
-/// Gives the desk an event. The answer is never `Busy`: no process is out before schedulers run.
+/// Gives the desk an event. The answer is never `Busy`: no process is checked out before schedulers run.
 fn apply_event<B: NodeBrand + QueueBrand, R: Wait + Log + AllocGlobal>(
     desk: &mut SeatDesk<'_, B, R>,
     event: Event<Image>,

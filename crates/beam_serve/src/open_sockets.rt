@@ -14,7 +14,7 @@ pub struct ServedConnections {
 }
 
 impl ServedConnections {
-    /// `count` threads, none of which serves a connection.
+    /// The connections of `count` threads, none of which serves one.
     pub fn none(alloc: Global, count: u8) -> Result<ServedConnections, AllocError> {
         let mut streams = Vec::with_capacity(alloc, usize::from(count))?;
         for _ in 0..count {

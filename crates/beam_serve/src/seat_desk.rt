@@ -19,8 +19,8 @@ use log::Log;
 use std::marker::Model;
 use std::sync::Wait;
 
-/// A desk that has a thread context of a node that threads share, and a way to the node. Each event is a command of the thread context's seat; the lock
-/// is held only for that command. Contracts see the seat.
+/// A desk with a thread context of a node that threads share, and with a reference to the node. Each event is a command of the thread
+/// context's seat; the lock is held only for that command. Contracts see the seat.
 pub struct SeatDesk<'a, B: NodeBrand + QueueBrand, R> {
     rt: &'a R,
     shared: &'a Shared<B>,

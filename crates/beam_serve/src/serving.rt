@@ -36,11 +36,11 @@ use std::sync::Wait;
 use std::thread::Threads;
 use std::time::{Clock, Duration};
 
-/// The thread contexts of a node that serves a port, beside that of the calling thread.
+/// The thread contexts of a node that serves a port.
 #[derive(Drop)]
 struct ThreadContexts<B: NodeBrand + QueueBrand> {
     schedulers: Vec<ThreadContext<B>>,
-    /// The thread contexts of the other threads that serve connections.
+    /// The thread contexts of the threads that serve connections; the calling thread takes one of them.
     clients: Vec<ThreadContext<B>>,
 }
 
@@ -126,8 +126,8 @@ fn outcome<'l>(line: &Serve<'l>, address: SocketAddr, ended: Ended) -> Result<()
     }
 }
 
-/// The threads that serve connections beside the calling one, each at one of these thread contexts, as far as there is memory. ThreadContexts that none
-/// of them has stay in the list.
+/// The threads that serve connections beside the calling one, each with one of these thread contexts, as far as there is memory. Thread
+/// contexts that none of them has stay in the list.
 fn helpers_of<'a, B: NodeBrand + QueueBrand, R>(
     rt: &'a R,
     alloc: Global,
@@ -265,7 +265,8 @@ fn queues_of(line: &Serve) -> usize {
     usize::from(line.schedulers) + usize::from(line.clients)
 }
 
-/// Serves the connections to a listener with a new node, and closes the node. `Mismatch` where the thread contexts aren't all of the node's.
+/// Serves the connections to a listener with a new node, and closes the node. `Mismatch` where the thread contexts aren't all of the
+/// node's.
 fn serve_node<
     'l,
     F: Files,
@@ -309,12 +310,12 @@ fn net_failed<'l>(line: &Serve<'l>, error: &Error) -> JobFault<'l>
 }
 
 /// Listens on the port of 127.0.0.1, loads the files and starts the process of the line, prints the address, and serves the connections. As
-/// many connections are served at once as the line says, each by a thread with a thread context of its own; the next one waits to be taken. A
-/// session that fails is logged as a warning, and the next connection is taken. Where the listener is gone, and with a full journal where
-/// the line asks for that, the connections that are served are shut, the workers end after the slice that they have, and the node is closed
-/// with all its thread contexts. A thread that can't be made is logged as a warning, and the others serve.
+/// many connections are served at once as the line says, each by a thread with a thread context of its own; the next one waits to be
+/// accepted. A session that fails is logged as a warning, and the next connection is accepted. Where the listener fails, and with a full
+/// journal where the line asks for that, the connections that are served are shut, the workers end after the slice that they have, and the
+/// node is closed with all its thread contexts. A thread that can't be made is logged as a warning, and the others serve.
 ///
-/// - `File` where a file isn't loaded, `Start` and `LongName` where the process isn't started: no connection is taken then;
+/// - `File` where a file isn't loaded, `Start` and `LongName` where the process isn't started: no connection is accepted then;
 /// - `Net` where listening or accepting fails;
 /// - `JournalFull` where the journal is full and the line asks to end then, or has no room for what the node begins with;
 /// - `Unwritten` where the address can't be printed, and `NoMemory`.

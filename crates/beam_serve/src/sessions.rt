@@ -41,8 +41,8 @@ pub trait Incoming<P: Port> {
     fn ended(&mut self, port: P, end: Result<Served, ServeError>);
 }
 
-/// Runs a session over each device that a incoming gives, one after another, until no more come. After a session that fails its commands stand,
-/// and the next session goes on with the desk as it was left.
+/// Runs a session over each device that `incoming` gives, one after another, until no more come. After a session that fails its commands
+/// stand, and the next session goes on with the desk as it was left.
 pub fn serve_sessions<
     P: Port + Drop,
     D: Incoming<P>,

@@ -1,4 +1,4 @@
--- The processes that are out can be held without memory.
+-- The processes that are checked out can be held without memory.
 use Rattle.std.proofs.Common.{◌≡◌, ℕ, ◌==◌, ◌<◌, ◌≤◌, not, Bool, true, false, cond, List, [], ◌∷◌, ◌++◌, map, Some, refl, arith}
 use Rattle.std.proofs.lemmas.Bool.Decides.{nat_tests}
 use Rattle.std.specs.Prelude.{is_some}
@@ -26,7 +26,7 @@ pub capacity_without : (d : Debugger) (pid : ℕ) (checked_out : List CheckoutEn
 capacity_without d pid [] h = tt
 capacity_without d pid (entry ∷ rest) h = kept_capacity d entry (without_entry pid rest) (not (entry.pid == pid)) h.0 (capacity_without d pid rest h.1)
 
--- a process that is out can be held without memory
+-- a process that is checked out can be held without memory
 pub capacity_for : (d : Debugger) (pid : ℕ) (checked_out : List CheckoutEntry) → HasCapacityFor d checked_out → is_some (serial_of pid (map checked_out_of checked_out)) ≡ true → pid < d.capacity
 capacity_for d pid [] h there = absurd (cc there)
 capacity_for d pid (entry ∷ rest) h there = by (entry.pid == pid) refl there (λ e. capacity_for d pid rest h.1 e)

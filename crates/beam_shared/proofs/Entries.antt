@@ -1,4 +1,4 @@
--- The list of the processes that are out.
+-- The list of the processes that are checked out.
 use Rattle.std.proofs.Common.{◌≡◌, ℕ, ◌==◌, ◌||◌, Bool, true, false, cond, List, [], ◌∷◌, map, Option, Some, None, refl, ap, ◌∙◌, arith}
 use Rattle.std.specs.Prelude.{is_some}
 use Rattle.std.proofs.lemmas.Bool.Decides.{nat_tests}
@@ -11,7 +11,7 @@ abbrev pub serial_in : Option CheckoutEntry → Option ℕ
 serial_in None = None
 serial_in (Some entry) = Some entry.serial
 
--- ---- the entry of a process that is out
+-- ---- the entry of a process that is checked out
 
 found_by : (pid : ℕ) (entry : CheckoutEntry) (rest : List CheckoutEntry) (b : Bool) → serial_of pid (map checked_out_of rest) ≡ serial_in (entry_of pid rest)
     → cond b (Some entry.serial) (serial_of pid (map checked_out_of rest)) ≡ serial_in (cond b (Some entry) (entry_of pid rest))
@@ -29,7 +29,7 @@ some_serial (Some entry) = refl
 pub is_found : (pid : ℕ) (entries : List CheckoutEntry) → is_some (serial_of pid (map checked_out_of entries)) ≡ is_some (entry_of pid entries)
 is_found pid entries = ap is_some (serial_found pid entries) ∙ some_serial (entry_of pid entries)
 
--- ---- events of a process that isn't out
+-- ---- events of a process that isn't checked out
 
 same_test : (m n : ℕ) → (m == n) ≡ (n == m)
 same_test m n = grind (arith, nat_tests)

@@ -1,4 +1,4 @@
--- Processes that are out stay as they were handed out, whatever others do.
+-- Processes that are checked out stay as they were at their checkout, whatever others do.
 use Rattle.std.proofs.Common.{◌≡◌, ℕ, zero, suc, ◌≤◌, ◌||◌, Bool, true, false, List, [], ◌∷◌, ◌++◌, length, map, Some, refl, ap, ◌∙◌, arith}
 use Rattle.std.specs.Prelude.{slice_get}
 use Rattle.beam_machine.specs.declared.debug.DebugEvent.{DebugEvent}
@@ -45,7 +45,7 @@ still_all d x changes later handed (entry ∷ rest) e a answers more same free h
       still_all d x changes later handed rest e a answers more same both.1 h.1,
     )
 
--- ---- one more process is handed out
+-- ---- one more process is checked out
 
 pub got_more : {X : Type 0} (xs ys : List X) (k : ℕ) (x : X) → slice_get xs k ≡ Some x → slice_get (xs ++ ys) k ≡ Some x
 got_more [] ys k x e = absurd (cc e)

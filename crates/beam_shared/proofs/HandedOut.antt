@@ -1,4 +1,4 @@
--- A process that is handed out, with all signals in transit to it delivered.
+-- The checkout of a process, with all signals in transit to it delivered.
 use Rattle.std.proofs.Common.{◌≡◌, ℕ, ◌==◌, ◌||◌, Bool, true, false, cond, List, [], ◌∷◌, Option, Some, None, Ok, refl, sym, ap, subst, ◌∙◌, ◌⊎◌, inl, inr, arith, true≢false}
 use Rattle.std.proofs.lemmas.Bool.Decides.{nat_tests}
 use Rattle.std.specs.Prelude.{filter, is_some}
@@ -62,7 +62,7 @@ module _ (d : Debugged) (pid : ℕ) (p : Process) (there : live_process d.node.p
   pub is_done : has_any p.transit ≡ true → (debug_next d (NodeEvent (Deliver pid))).answer ≡ Ok (NodeReply Done)
   is_done some = ap (λ (n : DebugNext). n.answer) (next_is some)
 
-  -- ---- the process is out
+  -- ---- the process is checked out
 
   it_is : (o : Origin) (q : Process) (b : Bool) → is_ended q.status ≡ b → o.pid ≡ pid → o.process ≡ q → o.passes ≡ is_among pid d.passing → is_among pid d.held ≡ false
       → process_of (pruned (record d { node = made_process d.node pid q })).node.processes pid ≡ Some q
@@ -127,7 +127,7 @@ said_done d x pid reply some e = by (live_process d.node.processes pid) refl som
     by None there some = absurd (cc some)
     by (Some p) there some = ok_is reply (NodeReply Done) (debug_next d (NodeEvent (Deliver pid))).answer (ap (λ (n : DebugNext). n.answer) e) (is_done d pid p there some)
 
--- ---- a process that may go
+-- ---- a process that may be checked out
 
 may_by : (d : Debugged) (checked_out : List CheckedOut) (pid : ℕ) (p : Process) (busy held : Bool) → is_some (serial_of pid checked_out) ≡ busy → is_among pid d.held ≡ held
     → by_tests busy held (is_running p.status || has_any p.transit) ≡ None → (is_some (serial_of pid checked_out) ≡ false) × (is_among pid d.held ≡ false)
@@ -158,7 +158,7 @@ pub handed_out : (d x : Debugged) (checked_out : List CheckedOut) (pid : ℕ) (o
 handed_out d x checked_out pid o b is may incoming e =
     subst (λ y. IsOut y o) (sym (e ∙ ap (delivered_if d pid) (sym incoming))) (out_in d checked_out pid o (live_process d.node.processes pid) refl is may)
 
--- ---- each row of what is handed out finds what it names
+-- ---- each row of a process that is checked out finds what it names
 
 finds_in : (d : Debugged) (pid : ℕ) (o : Origin) (q : Option Process) → live_process d.node.processes pid ≡ q → origin_in d pid q ≡ Some o
     → IsFramedNode d.node → AlwaysFinds o.code o.process

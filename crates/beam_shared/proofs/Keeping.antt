@@ -115,9 +115,9 @@ same_node d x j k known later checked_out same entries limit is =
     ∙ (ap (λ es. record (node_of d k known checked_out) { journal = es }) entries
     ∙ ap (λ n. record (node_of d j known checked_out) { limit = n }) limit))
 
--- ---- a process is handed out
+-- ---- a process is checked out
 
--- the entry of a process that is handed out
+-- the entry of a process that is checked out
 pub handed_entry : (x : Debugged) (changes : ℕ) (checkouts : List Origin) (entry : CheckoutEntry) (o : Origin) → entry.serial ≡ length checkouts → o.pid ≡ entry.pid → IsOut x o → IsEarlierCode o.code x.node
     → entry.changes ≡ changes → context_in x ≡ context_of o → IsHanded x changes (checkouts ++ o ∷ []) entry
 handed_entry x changes checkouts entry o serial own checked_out kin now context = record {

@@ -24,7 +24,7 @@ ordered_run s (e ∷ events) h = ordered_run (next s e).state events (ordered_ne
 none_ordered : IsOrdered empty
 none_ordered n = (omega arith, λ l. refl)
 
--- the code of a state to which a journal leads is kin to itself
+-- the code of a state to which a journal leads counts as earlier code of that state
 pub kin_there : (d : Debugged) (es : List Entry) → replay es ≡ d → IsEarlierCode d.node.code d.node
 kin_there d es e =
     let events = map (λ (e : Entry). e.event) es in

@@ -1,4 +1,4 @@
--- Why a process can't be handed out.
+-- Why a process can't be checked out.
 use Rattle.std.proofs.Common.{◌≡◌, ℕ, ◌||◌, Bool, cond, List, map, Option, Some, None, ap, ◌∙◌}
 use Rattle.std.specs.Prelude.{is_some}
 use Rattle.beam_machine.specs.declared.event.Refused.TheVariants.{NotReady, Stopped}

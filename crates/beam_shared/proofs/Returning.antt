@@ -1,4 +1,4 @@
--- A process that comes back leaves the list of the processes that are out.
+-- A process that is checked in leaves the list of the processes that are checked out.
 use Rattle.std.proofs.Common.{◌≡◌, ◌≢◌, ℕ, zero, suc, ◌+◌, ◌-◌, ◌^◌, ◌<◌, ◌≤◌, ◌==◌, not, Bool, true, false, cond, List, [], ◌∷◌, ◌++◌, length, map, Option, Some, None, Ok, refl, sym, ap, subst, ◌∙◌, arith}
 use Rattle.std.proofs.lemmas.Bool.Decides.{nat_tests}
 use Rattle.std.specs.Prelude.{is_some, min, option_map, slice_get}
@@ -123,7 +123,7 @@ fewer pid (entry ∷ rest) e =
     = fewer_by pid entry rest (entry.pid == pid) e (fewer pid rest) (no_more pid rest) in
     omega (arith, less)
 
--- ---- the other processes that are out
+-- ---- the other processes that are checked out
 
 handed_by : (d : Debugged) (changes : ℕ) (handed : List Origin) (entry : CheckoutEntry) (rest : List CheckoutEntry) (b : Bool) → IsHanded d changes handed entry
     → AreHanded d changes handed rest → AreHanded d changes handed (cond b (entry ∷ rest) rest)
@@ -199,7 +199,7 @@ advanced_is d x j k known later checked_out pid rows reply next cut entered limi
     ∙ (ap (λ n. record (advanced (node_of d j known checked_out) pid rows reply) { checked_out = map checked_out_of (without_entry pid checked_out); limit = n }) limit
     ∙ ap (λ checkouts. record (advanced (node_of d j known checked_out) pid rows reply) { checked_out = checkouts }) (mapped pid checked_out))))
 
--- rows took effect: what is known of the other processes that are out still agrees
+-- rows took effect: what is known of the other processes that are checked out still agrees
 pub kept_on : (d x : Debugged) (j k : Journal) (known later : History) (checked_out : List CheckoutEntry) (changes : ℕ) (shared : Option CodeContext) (pid : ℕ) (rows : Private)
     (reply : DebugReply View) → NodeInvariant d j known checked_out changes shared → AreSpotsLive d → DebugAnswers d (event_of pid rows) (Ok reply) x
     → k.entries ≡ j.entries ++ entry_by (event_of pid rows) None reply ∷ []

@@ -1,4 +1,4 @@
--- Rows of a process that was handed out are committed: they take effect in the node, as one event of its journal. (This node's own.)
+-- Rows of a process that was checked out are committed: they take effect in the node, as one event of its journal. (This node's own.)
 use Rattle.std.specs.Prelude.{◌≡◌, ◌≢◌, ◌≤◌, ℕ, ◌==◌, not, Bool, true, false, List, [], ◌∷◌, ◌++◌, filter, length, slice_get, Option, Some, None, is_some, Ok}
 use Rattle.beam_machine.specs.declared.debug.DebugEvent.{DebugEvent}
 use Rattle.beam_machine.specs.declared.debug.DebugEvent.TheVariants.{Node as NodeEvent}
@@ -18,7 +18,7 @@ use Rattle.beam_shared.specs.FinishedSlice.{CodeContext, FinishedSlice, context_
 use Rattle.beam_shared.specs.Invariant.{context_in}
 use Rattle.beam_shared.specs.Node.{Node, CheckedOut, serial_of}
 
--- the number of a reason
+-- the number of a drop reason
 abbrev pub number_of : DropReason → ℕ
 number_of StaleCode = 1
 number_of Gone = 2
@@ -34,14 +34,14 @@ abbrev pub is_serial : ℕ → Option ℕ → Bool
 is_serial serial (Some of_out) = of_out == serial
 is_serial serial None = false
 
--- whether the process is out by the checkout of number `serial`
+-- whether the process is checked out by the checkout of number `serial`
 abbrev pub is_open : Node → ℕ → ℕ → Bool
 is_open n pid serial = is_serial serial (serial_of pid n.checked_out)
 
 abbrev pub is_live : Node → ℕ → Bool
 is_live n pid = is_some (live_process n.state.node.processes pid)
 
--- the process is out by that checkout and hasn't ended, and code and break spots are those of the checkout
+-- the process is checked out by that checkout and hasn't ended, and code and break spots are those of the checkout
 abbrev pub MayCommit : Node → ℕ → ℕ → CodeContext → Type 0
 MayCommit n pid serial context = (is_open n pid serial ≡ true) × (is_live n pid ≡ true) × (context_in n.state ≡ context)
 
@@ -68,11 +68,11 @@ DropsFor n f = DropsRows n f.origin.pid f.serial (context_of f.origin) f.rows
 abbrev pub without_checkout : ℕ → List CheckedOut → List CheckedOut
 without_checkout pid checked_out = filter (λ o. not (o.pid == pid)) checked_out
 
--- the node after a process was taken in, without its rows
+-- the node after a process was checked in, without its rows
 abbrev pub checked_in : Node → ℕ → Node
 checked_in n pid = record n { checked_out = without_checkout pid n.checked_out }
 
--- the node after a process was taken in and its rows took effect, with this reply
+-- the node after a process was checked in and its rows took effect, with this reply
 abbrev pub advanced : Node → ℕ → Private → DebugReply View → Node
 advanced n pid rows reply = record n {
   state = (debug_next n.state (event_of pid rows)).state;
@@ -80,14 +80,14 @@ advanced n pid rows reply = record n {
   checked_out = without_checkout pid n.checked_out;
 }
 
--- rows took effect with this reply; rows that are none aren't entered
+-- rows took effect with this reply; where there are no rows, nothing is entered
 abbrev pub Commits : Node → ℕ → Private → Option (DebugReply View) → Node → Type 0
 Commits n pid rows None new = (rows_of_event rows ≡ 0) × (new ≡ checked_in n pid)
 Commits n pid rows (Some reply) new =
     (rows_of_event rows ≢ 0) × (length n.journal ≢ n.limit)
     × ((debug_next n.state (event_of pid rows)).answer ≡ Ok reply) × (new ≡ advanced n pid rows reply)
 
--- rows that come back to a node from the checkout of number `serial`, executed over this code and these break spots
+-- rows that are to be committed to a node, of the checkout of number `serial`, executed over this code and these break spots
 pub record AreBack (n : Node) (pid : ℕ) (serial : ℕ) (context : CodeContext) (rows : Private) : Type 0 where
   pub origin : Origin
   pub handed : slice_get n.handed serial ≡ Some origin

@@ -1,4 +1,4 @@
--- Rows of a process that is out, which come back to the node. (This node's own.)
+-- Rows of a process that is checked out, which are to be committed. (This node's own.)
 use Rattle.std.specs.Prelude.{◌≡◌, ◌≢◌, ℕ, Bool, true, false, List, Option, Some, None}
 use Rattle.beam_model.specs.Place.{Place}
 use Rattle.beam_machine.specs.declared.action.Action.{Action}
@@ -23,7 +23,7 @@ pub record CodeContext : Type 0 where
 abbrev pub context_of : Origin → CodeContext
 context_of origin = record { code = origin.code; spots = origin.spots }
 
--- what was handed out, the number of its checkout, the rows that were executed, and whether an allocation failure ended them
+-- the checkout's number and origin, the rows that were executed, and whether an allocation failure ended them
 pub record FinishedSlice : Type 0 where
   pub serial : ℕ
   pub origin : Origin
@@ -61,7 +61,7 @@ sets_deadline_at code p _ = false
 abbrev pub sets_deadline : FinishedSlice → Bool
 sets_deadline f = sets_deadline_at f.origin.code f.rows.process f.rows.end
 
--- rows that concern only their process and those to whom it sent
+-- the process hasn't ended, and no row of the node follows: the rows concern only their process and those to whom it sent
 abbrev pub IsSelfContained : Private → Type 0
 IsSelfContained rows = (is_ended rows.process.status ≡ false) × (rows.end ≢ before_node_row)
 

@@ -26,12 +26,12 @@ node_of d j known checked_out = record { state = d; journal = j.entries; seats =
 abbrev pub context_in : Debugged → CodeContext
 context_in d = record { code = d.node.code; spots = d.spots }
 
--- what is handed out for this work and this context
+-- the origin of a checkout with this work and this context
 abbrev pub origin_by : ℕ → Work → CodeContext → Origin
 origin_by pid work context = record { pid = pid; process = work.process; passes = work.passes; code = context.code; spots = context.spots }
 
--- a process that is out: in the node it is as it was handed out, but for what others may do to it; and as long as the count of changes is
--- that of the checkout, code and break spots are those that were handed out
+-- a process that is checked out: in the node it is as it was at its checkout, but for what others may do to it; and as long as the count of
+-- changes is that of the checkout, code and break spots are those of the checkout
 pub record IsHanded (d : Debugged) (changes : ℕ) (handed : List Origin) (entry : CheckoutEntry) : Type 0 where
   pub origin : Origin
   pub handed_out : slice_get handed entry.serial ≡ Some origin
@@ -44,8 +44,8 @@ pub record IsHanded (d : Debugged) (changes : ℕ) (handed : List Origin) (entry
 abbrev pub AreHanded : Debugged → ℕ → List Origin → List CheckoutEntry → Type 0
 AreHanded d changes handed entries = AllByRecursion (IsHanded d changes handed) entries
 
--- The journal replays to the state, the receipts are over the journal, each of its commands is of a seat that was given, there is room in
--- it for an entry of each process that is out, and the shared context has the node's code and break spots.
+-- The journal replays to the state, the keeper knows the journal's entries, each of its commands is of a seat that was given, there is room
+-- in it for an entry of each process that is checked out, and the shared context has the node's code and break spots.
 pub record NodeInvariant (d : Debugged) (j : Journal) (known : History) (checked_out : List CheckoutEntry) (changes : ℕ) (shared : Option CodeContext) : Type 0 where
   pub replays : replay j.entries ≡ d
   pub known_is : known.journal ≡ j.entries
@@ -57,11 +57,11 @@ pub record NodeInvariant (d : Debugged) (j : Journal) (known : History) (checked
   pub handed : AreHanded d changes known.checkouts checked_out
   pub is_shared : IfSome shared (λ context. context ≡ context_in d)
 
--- each process that is out can be held as it comes back, without memory
+-- each process that is checked out can be held as it is checked in, without memory
 abbrev pub HasCapacityFor : Debugger → List CheckoutEntry → Type 0
 HasCapacityFor d checked_out = AllByRecursion (λ (entry : CheckoutEntry). entry.pid < d.capacity) checked_out
 
--- ---- the list of the processes that are out
+-- ---- the list of the processes that are checked out
 
 abbrev pub entry_of : ℕ → List CheckoutEntry → Option CheckoutEntry
 entry_of pid [] = None

@@ -18,7 +18,7 @@ use Rattle.beam_model.specs.Listing.{Listing}
 use Rattle.beam_laws.specs.Origin.{Origin}
 use Rattle.beam_journal.specs.Entering.{entry_of}
 
--- a process that is out, to be run apart from the node, and the number of its checkout
+-- a process that is checked out, to be run apart from the node, and the number of its checkout
 pub record CheckedOut : Type 0 where
   pub pid : ℕ
   pub serial : ℕ
@@ -39,12 +39,12 @@ new_node limit = record { state = undisturbed empty; journal = []; seats = 0; ha
 abbrev pub most_seats : ℕ
 most_seats = 4096
 
--- the number of the checkout of a process that is out
+-- the number of the checkout of a process that is checked out
 abbrev pub serial_of : ℕ → List CheckedOut → Option ℕ
 serial_of pid [] = None
 serial_of pid (o ∷ rest) = if o.pid == pid then Some o.serial else serial_of pid rest
 
--- ---- a process is handed out
+-- ---- a process is checked out
 
 abbrev pub has_any : List Signal → Bool
 has_any signals = not (length signals == 0)
@@ -66,7 +66,7 @@ abbrev pub delivered_if : Debugged → ℕ → Bool → Debugged
 delivered_if d pid true = (debug_next d (NodeEvent (Deliver pid))).state
 delivered_if d pid false = d
 
--- the state in which a process is handed out
+-- the state in which a process is checked out
 abbrev pub delivered_to : Node → ℕ → Debugged
 delivered_to n pid = delivered_if n.state pid (has_incoming n pid)
 
@@ -85,11 +85,11 @@ origin_in d pid (Some p) = Some (record {
 })
 origin_in d pid None = None
 
--- what is handed out of a process: the process after all signals in transit have arrived, with all that decides its rows
+-- the origin of a process's checkout: the process after all signals in transit have arrived, with all that decides its rows
 abbrev pub origin : Node → ℕ → Option Origin
 origin n pid = origin_in n.state pid (live_process n.state.node.processes pid)
 
--- the node after a process was handed out
+-- the node after a process was checked out
 abbrev pub handed_out : Node → ℕ → Origin → Node
 handed_out n pid o = record n {
   state = delivered_to n pid;

@@ -25,7 +25,8 @@ number_of JournalFull = 10
 abbrev pub most_checkouts : ℕ
 most_checkouts = 2 ^ 64 - 1
 
--- why a process can't be handed out: it was never started or has ended; it is out; it is held; it waits, and no signal is in transit to it
+-- why a process can't be checked out: it was never started or has ended; it is checked out; it is held; it waits, and no signal is in
+-- transit to it
 abbrev pub refusal_in : Debugged → List CheckedOut → ℕ → Option Process → Option Refusal
 refusal_in d checked_out pid None = Some (OfNode NoProcess)
 refusal_in d checked_out pid (Some p) =
@@ -40,8 +41,8 @@ refusal_of d checked_out pid = refusal_in d checked_out pid (live_process d.node
 abbrev pub why_not : Node → ℕ → Option Refusal
 why_not n pid = refusal_of n.state n.checked_out pid
 
--- why a checkout is refused. A process that may go isn't handed out if a delivery is to be entered in a full journal, if memory is refused,
--- or if all numbers of checkouts were given
+-- why a checkout is refused. A process that may be checked out isn't if a delivery is to be entered in a full journal, if memory is
+-- refused, or if all numbers of checkouts were given
 abbrev pub RefusesCheckout : Node → ℕ → Refusal → Type 0
 RefusesCheckout n pid JournalFull = (why_not n pid ≡ None) × (has_incoming n pid ≡ true) × (length n.journal ≡ n.limit)
 RefusesCheckout n pid (OfNode NoMemory) = why_not n pid ≡ None
@@ -50,7 +51,7 @@ RefusesCheckout n pid refusal = why_not n pid ≡ Some refusal
 
 -- ---- commands
 
--- whether an event waits: it is a process's own, and the process is out
+-- whether an event must wait: it is a process's own, and the process is checked out
 abbrev pub must_wait : List CheckedOut → DebugEvent Listing → Bool
 must_wait checked_out event = list_any (λ o. is_busy o.pid event) checked_out
 

@@ -1,4 +1,4 @@
--- What the node's code compares and keeps when a process comes back. (This node's own.)
+-- What the node's code compares and keeps when a process is checked in. (This node's own.)
 use Rattle.std.specs.Prelude.{ℕ, ◌==◌, not, ◌&&◌, Bool, List, filter}
 use Rattle.std.specs.Cmp.Lexicographic.{pointwise}
 use Rattle.beam_model.specs.Place.{Place, is_same_place}

@@ -1,4 +1,4 @@
-//! The processes that are out.
+//! The processes that are checked out.
 ghost use Rattle.std.specs.Prelude.{◌≡◌, map};
 ghost use Rattle.beam_laws.specs.Out.{is_busy, is_of};
 ghost use Rattle.beam_shared.specs.Invariant.{checked_out_of, entry_of};
@@ -8,7 +8,7 @@ use beam_image::Image;
 use beam_machine::debug::DebugEvent;
 use beam_machine::event::Event;
 
-/// A process that is out.
+/// The entry of a process that is checked out.
 #[derive(Clone, Copy, Debug)]
 pub(crate) struct CheckoutEntry {
     pub pid: u32,
@@ -18,7 +18,7 @@ pub(crate) struct CheckoutEntry {
     pub changes: u64,
 }
 
-/// The entry of a process, if it is out.
+/// The entry of a process, if it is checked out.
 pub(crate) fn entry_of(pid: u32, checked_out: &[CheckoutEntry]) -> Option<CheckoutEntry>
     ensures { result ≡ entry_of pid checked_out.now }
 {
@@ -55,7 +55,7 @@ fn is_busy(pid: u32, event: &DebugEvent<Image>) -> bool
     }
 }
 
-/// Whether an event is a process's own, and that process is out.
+/// Whether an event is a process's own, and that process is checked out.
 pub(crate) fn must_wait(checked_out: &[CheckoutEntry], event: &DebugEvent<Image>) -> bool
     ensures { result ≡ must_wait (map checked_out_of checked_out.now) event.now }
 {

@@ -55,7 +55,7 @@ fn is_runnable(process: &Process) -> bool
     process.is_running() || process.has_transit()
 }
 
-/// The process of that number, if it can be handed out, or why it can't.
+/// The process of that number, if it can be checked out, or why it can't.
 fn process_to_check_out<'a>(
     debugger: &'a Debugger,
     checked_out: &[CheckoutEntry],
@@ -122,7 +122,7 @@ fn deliver<B: NodeBrand>(
     Ok(())
 }
 
-/// The ticket of a process that is handed out.
+/// The ticket of a process that is checked out.
 fn hand_out<B: NodeBrand, O: GhostOrigin>(
     keeper: &mut Keeper<B>,
     pid: u32,
@@ -154,7 +154,7 @@ impl<B: NodeBrand> Node<B> {
         Ok(context)
     }
 
-    /// A process as it is to be handed out, with all signals in transit to it delivered, if it can be handed out.
+    /// A process as it is to be checked out, with all signals in transit to it delivered, if it can be checked out.
     fn work_of(&self, pid: u32) -> Result<Work, Refusal>
         ensures ok { IfOk result (λ work. origin self.now pid ≡ Some (origin_by pid work (context_in self.now.state))) }
         ensures may { OnOk result (why_not self.now pid ≡ None) }
@@ -175,7 +175,7 @@ impl<B: NodeBrand> Node<B> {
         })
     }
 
-    /// Each row of a process as it is to be handed out finds what it names, as each row of the node does.
+    /// Each row of a process as it is to be checked out finds what it names, as each row of the node does.
     fn finds(&self, pid: u32, work: &Work, context: &CodeContext)
         requires { origin self.now pid ≡ Some (origin_by pid work.now context.now) }
         ensures { AlwaysFinds context.now.code work.now.process }
@@ -183,7 +183,7 @@ impl<B: NodeBrand> Node<B> {
         self.debugger.core().recall_invariant();
     }
 
-    /// Hands out a process that may go, as this work, over this context.
+    /// Checks out a process that may be checked out, as this work, over this context.
     fn hand_out(
         &mut self,
         pid: u32,
@@ -227,12 +227,12 @@ impl<B: NodeBrand> Node<B> {
         })
     }
 
-    /// Hands a process out, to be run apart from the node, over code and break spots as they are. The signals in transit to it are
-    /// delivered first, by an event of no seat. `NoProcess` where it was never started or has ended, then `Busy` where it is out, `Stopped`
-    /// where it is held, `NotReady` where it waits and no signal is in transit to it. `JournalFull` if signals are to be delivered and the
-    /// journal is full. `NoMemory` if memory is refused, also for the entry of its rows. `TooMany` after 2^64 - 1 checkouts. A refusal
-    /// changes nothing. It takes time and memory for its registers, frames and messages, and after a change of code or break spots for the
-    /// modules and break spots.
+    /// Checks a process out, to be run apart from the node, over code and break spots as they are. The signals in transit to it are
+    /// delivered first, by an event of no seat. `NoProcess` where it was never started or has ended, then `Busy` where it is checked out,
+    /// `Stopped` where it is held, `NotReady` where it waits and no signal is in transit to it. `JournalFull` if signals are to be
+    /// delivered and the journal is full. `NoMemory` if memory is refused, also for the entry of its rows. `TooMany` after 2^64 - 1
+    /// checkouts. A refusal changes nothing. It takes time and memory for the registers, frames and messages of the process, and after a
+    /// change of code or break spots for the modules and break spots.
     pub fn checkout(&mut self, pid: u32) -> Result<Checkout<B>, Refusal>
         ensures origin { IfOk result (λ c. origin self.old pid ≡ Some c.origin) }
         ensures serial { IfOk result (λ c. c.serial ≡ length self.old.handed) }

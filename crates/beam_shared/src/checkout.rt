@@ -1,4 +1,4 @@
-//! A process that is handed out.
+//! A process that is checked out.
 ghost use Rattle.std.specs.Prelude.{◌≡◌};
 ghost use Rattle.beam_shared.specs.FinishedSlice.{ComesFrom};
 
@@ -10,8 +10,8 @@ use beam_step::run_private;
 use beam_step::work::Work;
 use std::marker::Model;
 
-/// A process that is handed out, to be run apart from the node, with its ticket, and code and break spots as they are. Each of its rows
-/// finds what it names, as each row of the node does. If it is dropped the process stays out.
+/// A process that is checked out, to be run apart from the node, with its ticket, and code and break spots as they are. Each of its rows
+/// finds what it names, as each row of the node does. If it is dropped the process stays checked out.
 pub struct Checkout<B: NodeBrand> {
     pub(crate) pid: u32,
     pub(crate) context: CodeContext,

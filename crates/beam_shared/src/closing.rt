@@ -11,8 +11,8 @@ use beam_receipts::brand::NodeBrand;
 use beam_receipts::keeper::Keeper;
 use beam_receipts::seat::SeatReceipt;
 
-/// Whether all seats' numbers differ. Makes known that each number is below the count of seats given, and that each seat kept exactly the
-/// journal's entries of its number.
+/// Whether all seats' numbers differ. If they do, it shows that each number is below the count of seats given, and that each seat kept
+/// exactly the journal's entries of its number.
 fn are_distinct<B: NodeBrand>(keeper: &mut Keeper<B>, seats: &mut Vec<SeatReceipt<B>>) -> bool
     requires { keeper.old.given ≤ most_seats }
     ensures is { IsTrue result ↔ AreDistinct seats.old.items }

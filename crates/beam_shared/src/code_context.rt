@@ -34,7 +34,7 @@ impl Model for ContextParts {
     ghost view = { λ b. record { code = b.code; spots = b.spots.items } };
 }
 
-/// A copy of a node's code and break spots, which all that run its processes share. It is made again only after a change.
+/// A copy of a node's code and break spots, shared by all that run its processes. It is made again only after a change.
 pub(crate) struct CodeContext {
     parts: Arc<ContextParts>,
 }

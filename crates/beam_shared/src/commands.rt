@@ -63,9 +63,9 @@ fn note_change(event: &DebugEvent<Image>, changes: &mut u64, context: &mut Optio
 
 impl<B: NodeBrand> Node<B> {
     /// Gives the node an event, as a seat's command, and enters it with its reply. `JournalFull` at the journal's limit; then `Busy` for an
-    /// event of a process itself, which are rows, deliveries and timeouts, while the process is out; then as the node refuses it. A refusal
-    /// changes nothing, and nothing is entered. Where memory is refused in the middle of rows, the reply says so, and the rows that were
-    /// executed are entered. The seat is the node's, and it kept exactly the journal's entries of its number.
+    /// event of a process itself, which are rows, deliveries and timeouts, while the process is checked out; then as the node refuses it. A
+    /// refusal changes nothing, and nothing is entered. Where memory is refused in the middle of rows, the reply says so, and the rows that
+    /// were executed are entered. The seat is the node's, and it kept exactly the journal's entries of its number.
     pub fn command(
         &mut self,
         seat: &mut SeatReceipt<B>,

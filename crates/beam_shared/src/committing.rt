@@ -1,4 +1,4 @@
-//! Processes that were handed out come back.
+//! Committing the rows of processes that were checked out.
 ghost use Rattle.std.specs.Prelude.{◌≡◌, ◌≢◌, ◌≤◌, ◌||◌, true, false, is_some, map, length, option_map, slice_get, Some, IfOk, IfErr, OnOk, OnErr};
 ghost use Rattle.beam_laws.specs.Slice.{rows_of_event};
 ghost use Rattle.beam_debug.specs.Answers.{reply_of};
@@ -25,7 +25,7 @@ use beam_receipts::brand::NodeBrand;
 use beam_receipts::ticket::TicketReceipt;
 use std::marker::Brand;
 
-/// How many rows the event of these rows asks for. One more than these if they end before a row of the node, which is executed at the
+/// How many rows the event for these rows asks for: one more than these if they end before a row of the node, which is executed at the
 /// commit, or before a break spot, at which the node stops then.
 fn rows_asked(rows: &Private) -> u32
     requires { rows.now.count ≤ 4000 }
@@ -66,7 +66,7 @@ fn is_context(debugger: &Debugger, is_unchanged: bool, context: &CodeContext) ->
             && are_same_places(context.spots(), debugger.spots()))
 }
 
-/// Takes a process out of the list of those that are out.
+/// Removes a process from the list of those that are checked out.
 fn check_in(pid: u32, checked_out: &mut Vec<CheckoutEntry>)
     ensures { checked_out.new.items ≡ without_entry pid checked_out.old.items }
 {
@@ -74,7 +74,7 @@ fn check_in(pid: u32, checked_out: &mut Vec<CheckoutEntry>)
 }
 
 impl<B: NodeBrand> Node<B> {
-    /// Whether the process is out by the checkout of which these rows are.
+    /// Whether the process is checked out by the checkout of which these rows are.
     fn is_open(&self, finished: &FinishedSlice<B>) -> bool
         ensures { result ≡ is_open self.now finished.now.origin.pid finished.now.serial }
     {
@@ -84,7 +84,7 @@ impl<B: NodeBrand> Node<B> {
         }
     }
 
-    /// The number of a ticket's checkout. It is known then what was handed out by it.
+    /// The number of a ticket's checkout. It shows that the checkout had the ticket's origin, and uses the ticket up.
     fn redeem(&mut self, ticket: TicketReceipt<B>) -> u64
         ensures same { self.new ≡ self.old }
         ensures redeem { slice_get self.old.handed ticket.serial ≡ Some ticket.origin }
@@ -95,7 +95,7 @@ impl<B: NodeBrand> Node<B> {
         serial
     }
 
-    /// Whether rows that come back may take effect, or why not. If they may, they are those of a slice that can be committed.
+    /// Whether rows may take effect, or why not. If they may, they are those of a slice that can be committed.
     fn may_commit(
         &self,
         pid: u32,
@@ -124,14 +124,14 @@ impl<B: NodeBrand> Node<B> {
         }
     }
 
-    /// Takes a process in, as it is in the node.
+    /// Checks a process in, as it is in the node.
     fn check_in(&mut self, pid: u32)
         ensures { self.new ≡ checked_in self.old pid }
     {
         check_in(pid, &mut self.checked_out);
     }
 
-    /// Lets rows take effect, enters them, and takes the process in. The process is taken in too if the rows are dropped.
+    /// Lets rows take effect, enters them, and checks the process in. The process is checked in too if the rows are dropped.
     fn enter_rows(&mut self, pid: u32, rows: Private) -> Result<Outcome, DropReason>
         requires checked_out { is_some (serial_of pid self.old.checked_out) ≡ true }
         requires rows { AreSlices self.old.state pid rows }
@@ -159,7 +159,7 @@ impl<B: NodeBrand> Node<B> {
         }
     }
 
-    /// Lets rows that come back take effect, or drops them, and takes the process in.
+    /// Lets rows take effect, or drops them, and checks the process in.
     fn end_checkout(
         &mut self,
         pid: u32,
@@ -188,17 +188,17 @@ impl<B: NodeBrand> Node<B> {
         }
     }
 
-    /// Takes a process in that was handed out. Its rows take effect as one event of the journal, which no seat sent: of as many rows, and
+    /// Checks a process in that was checked out. Its rows take effect as one event of the journal, which no seat sent: of as many rows, and
     /// of one more if they ended before a row of the node, which is executed now, or at a break spot, where the process is held. Signals,
     /// names, starts and the clock stay as they became meanwhile. `None` if there were no rows: nothing is entered then.
     ///
     /// Rows are dropped for one of these reasons, in this order: `Stranger` if they are of no open checkout, and then they come back and
     /// nothing changes; `Gone` if the process has ended; `StaleCode` if code or break spots aren't those of the checkout; `JournalFull` at
     /// the journal's limit; `NoMemory` if memory is refused, which it isn't to rows that sent nothing, didn't end the process, and didn't
-    /// end before a row of the node. The process is then taken in as it is in the node, and nothing else changes.
+    /// end before a row of the node. The process is then checked in as it is in the node, and nothing else changes.
     ///
-    /// No row is run again, and neither code nor process is compared by value: it takes time for what the rows sent and for the row of
-    /// the node, for the processes that are out, and after a change of code or break spots for the modules and break spots.
+    /// No row is run again, and neither code nor process is compared by value: it takes time for what the rows sent and for the row of the
+    /// node, for the processes that are checked out, and after a change of code or break spots for the modules and break spots.
     pub fn commit(&mut self, finished: FinishedSlice<B>) -> Result<Option<Outcome>, NotCommitted<B>>
         ensures may { OnOk result (MayCommit self.old finished.origin.pid finished.serial (context_of finished.origin)) }
         ensures commits { IfOk result (λ reply. Commits self.old finished.origin.pid finished.rows (option_map reply_of reply) self.new) }

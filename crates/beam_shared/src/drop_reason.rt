@@ -1,4 +1,4 @@
-//! Why rows of a process that was handed out aren't committed.
+//! Why rows of a process that was checked out aren't committed.
 
 use crate::finished_slice::FinishedSlice;
 use beam_receipts::brand::NodeBrand;
@@ -45,7 +45,7 @@ impl DropReason {
 /// Rows that weren't committed, and why.
 pub struct NotCommitted<B: NodeBrand> {
     pub dropped: DropReason,
-    /// The rows of a stranger, which come back.
+    /// The rows, which come back if the reason is `Stranger`.
     pub back: Option<FinishedSlice<B>>,
 }
 

@@ -16,8 +16,8 @@ use beam_receipts::keeper::Keeper;
 use beam_receipts::seat::SeatReceipt;
 use std::alloc::AllocError;
 
-/// Makes room for the entries of all processes that are out, and for `more` others. If memory is refused the entries stay as they were, and
-/// no room is lost.
+/// Makes room for the entries of all processes that are checked out, and for `more` others. If memory is refused the entries stay as they
+/// were, and no room is lost.
 pub(crate) fn make_room(
     checked_out: &[CheckoutEntry],
     journal: &mut Journal,

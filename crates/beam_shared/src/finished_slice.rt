@@ -1,4 +1,4 @@
-//! Rows of a process that is out, which come back.
+//! Rows of a process that is checked out, which are to be committed.
 ghost use Rattle.std.specs.Prelude.{◌≡◌, ◌↔◌, IsTrue};
 ghost use Rattle.beam_core.specs.Installing.{AreQuiet};
 ghost use Rattle.beam_shared.specs.FinishedSlice.{IsSelfContained, is_timed, sets_deadline, waits_at};
@@ -13,7 +13,7 @@ use beam_receipts::ticket::TicketReceipt;
 use beam_step::slice::Slice;
 use std::marker::Model;
 
-/// A process that was handed out and has run. If it is dropped the process stays out.
+/// A process that was checked out and has run. If it is dropped the process stays checked out.
 #[derive(Drop)]
 pub struct FinishedSlice<B: NodeBrand> {
     pub(crate) pid: u32,
@@ -91,7 +91,7 @@ impl<B: NodeBrand> FinishedSlice<B> {
         &self.slice.rows.sent
     }
 
-    /// Whether its rows concern only the process and those to whom it sent: it hasn't ended, and no row of the node follows them.
+    /// Whether its rows concern only the process and those to whom it sent: the process hasn't ended, and no row of the node follows them.
     pub fn is_self_contained(&self) -> bool
         ensures { IsTrue result ↔ IsSelfContained self.now.rows }
     {
@@ -102,8 +102,8 @@ impl<B: NodeBrand> FinishedSlice<B> {
         }
     }
 
-    /// Whether its rows concern the process alone: nothing was sent, it hasn't ended, and no row of the node follows them. Their commit
-    /// takes no memory, and changes no other process.
+    /// Whether its rows concern the process alone: nothing was sent, the process hasn't ended, and no row of the node follows them. Their
+    /// commit takes no memory, and changes no other process.
     pub fn is_quiet(&self) -> bool
         ensures { IsTrue result ↔ AreQuiet self.now.rows }
     {

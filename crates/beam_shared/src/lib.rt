@@ -1,4 +1,4 @@
-//! A node that threads share under one lock: its state, the journal that replays to it, and the processes that were handed out.
+//! A node that threads share under one lock: its state, the journal that replays to it, and the processes that were checked out.
 #![tactic(auto)]
 
 mod checked_out;

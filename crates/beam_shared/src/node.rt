@@ -25,7 +25,7 @@ use std::marker::Model;
 pub const MOST_SEATS: u32 = 4_096;
 
 /// A node with its debugger, which threads share under one lock. It enters all that it accepts in a journal, which replays to its state,
-/// while processes are handed out, run under no lock, and come back.
+/// while processes are checked out, run under no lock, and are committed.
 pub struct Node<B: NodeBrand> {
     pub(crate) alloc: Global,
     pub(crate) debugger: Debugger,

@@ -7,10 +7,10 @@ use thiserror::Error;
 /// Why a call is refused. The node then stays as it was.
 #[derive(Clone, Copy, Debug, PartialEq, Eq, Error)]
 pub enum Refusal {
-    /// The node refuses it with this.
+    /// The node refuses the call, for this reason.
     #[error("{0}")]
     Node(Refused),
-    /// The process is out.
+    /// The process is checked out.
     #[error("Busy")]
     Busy,
     /// The journal has as many entries as it can have.

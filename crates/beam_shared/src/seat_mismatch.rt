@@ -1,4 +1,4 @@
-//! The seats with which a node was to be closed, and which aren't all of its seats.
+//! Why a node isn't closed: these seats aren't all of its seats.
 
 use crate::node::Node;
 use beam_receipts::brand::NodeBrand;

@@ -1,4 +1,4 @@
--- What holds of the node after an answer, if each step of the book keeps it.
+-- What holds of the node after an answer, if each step of the definition preserves it.
 use Rattle.std.proofs.Common.{ℕ, List, [], Err, sym, ap, subst}
 use Rattle.beam_machine.specs.declared.event.Event.{Event}
 use Rattle.beam_machine.specs.declared.event.Refused.TheVariants.{NoMemory}
@@ -12,7 +12,7 @@ use Rattle.beam_laws.proofs.Rising.{next_rises}
 use Rattle.beam_state.specs.Parts.{parts, node, AnswersByProcesses}
 use Rattle.beam_state.specs.Posting.{AreLawful}
 
--- a statement that each step of the book keeps holds after each answer
+-- a statement that each step of the definition preserves holds after each answer
 pub answers_keep : (P : State → Type 0) → ((s : State) (e : Event Listing) → P s → P (next s e).state)
     → (s t : State) (e : Event Listing) (a : Answer) → Answers s e a t → P s → P t
 answers_keep P keeps s t e (Err NoMemory) h p = subst P (sym h) p

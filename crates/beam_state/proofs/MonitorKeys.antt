@@ -1,4 +1,4 @@
--- The DOWNs made by the keys of watches are those that all others are sent at an end.
+-- The DOWNs made by the keys of monitors are those that all others are sent at an end.
 use Rattle.std.proofs.Common.{◌≡◌, ℕ, zero, suc, ◌+◌, ◌-◌, ◌*◌, ◌/◌, ◌%◌, ◌<◌, ◌≤◌, ◌==◌, ◌&&◌, Bool, true, false, cond, not, nat_lt, List, [], ◌∷◌, ◌++◌, length, map, slice_get, append_assoc, append-nil, Option, Some, None, refl, sym, ap, subst, ◌∙◌, arith, true≢false, rules}
 use Rattle.std.proofs.lemmas.Bool.Decides.{nat_tests}
 use Rattle.std.proofs.lemmas.List.{map-append}
@@ -245,7 +245,7 @@ rise_at count (p ∷ ps) (suc i) q r e = rise_at count ps i q r.1 e
 -- ---- the signals that are sent
 
 module _ (keys : List ℕ) (ps : List Process) (count : ℕ) (have : AreMonitorsKeyed keys ps) (o : Orderly ps) (r : AreRising count ps) (few : count < 4294967296) where
-  -- a monitor's key counts
+  -- a monitor's key is live
   counted : (w n i : ℕ) (q : Process) → slice_get ps i ≡ Some q → is_monitored_by w n q.monitors ≡ true → is_live_key ps w (monitor_key w (i + 1) n) ≡ true
   counted w n i q there h =
       let keyed = have i q there w n h in
@@ -256,7 +256,7 @@ module _ (keys : List ℕ) (ps : List Process) (count : ℕ) (have : AreMonitors
       (subst (λ m. monitors_under w n (live_process ps m) ≡ true) (sym (receiver_is w (i + 1) n keyed.1.0 fits))
       (subst (λ p. monitors_under w n p ≡ true) (sym live) up.0))
 
-  -- a sweep that leaves all keys that count leaves the keys complete
+  -- a sweep that leaves all live keys leaves the keys complete
   pub swept : (new : List ℕ) → ((key : ℕ) → is_live_key ps (monitored_in key) key ≡ true → has_key keys key ≡ true → has_key new key ≡ true) → AreMonitorsKeyed new ps
   swept new leaves = λ i q there w n h.
       let keyed = have i q there w n h in
@@ -315,7 +315,7 @@ module _ (keys : List ℕ) (ps : List Process) (count : ℕ) (have : AreMonitors
         ap (map (down_of reason)) (ext 0 asc.0 (base w (1 + length ps)) told_keys (keys_at w 1 ps) kept rising (λ k. alike (has_key told_keys k) (has_key (keys_at w 1 ps) k) (found k) (back k)))
         ∙ sent_each reason w 1 count keys ps few r (listed keys ps 1 have)
 
--- ---- a process that isn't watched
+-- ---- a process that isn't monitored
 
 named_monitors : (w n : ℕ) (ms : List Monitor) → IsNamed w n ms → list_any (monitors_process w) ms ≡ true
 named_monitors w n [] h = cc

@@ -173,7 +173,7 @@ notices_more ps j pid reason p l g o =
     ∙ (each_more 1 (heard_of pid reason) (take j ps) p
     ∙ ap (λ k. notices_of (take j ps) pid reason ++ map (λ signal. record { to = k; signal = signal }) (heard_of pid reason p)) number)
 
--- where no process watches a pid, none of them does
+-- where a pid isn't monitored, none of the processes monitors it
 pub none_watches : (ps : List Process) (j pid : ℕ) (p : Process) → slice_get ps j ≡ Some p → is_monitored ps pid ≡ false → list_any (monitors_process pid) p.monitors ≡ false
 none_watches [] j pid p e w = cc
 none_watches (q ∷ ps) zero pid p e w = ap (λ r. list_any (monitors_process pid) r.monitors) (sym (is_there q p e)) ∙ (either_false (list_any (monitors_process pid) q.monitors) (is_monitored ps pid) w).0

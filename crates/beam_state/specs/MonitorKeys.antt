@@ -1,4 +1,4 @@
--- Monitors as numbers, in the order of the watched processes, of those that monitor them, and of the references.
+-- Monitors as numbers, in the order of the monitored processes, of those that monitor them, and of the references.
 use Rattle.std.specs.Prelude.{◌≡◌, ◌==◌, ◌&&◌, ◌+◌, ◌*◌, ◌/◌, ◌%◌, ◌<◌, ℕ, Bool, true, false, not, List, slice_get, Option, Some, None, option_map, filter, map}
 use Rattle.std.specs.List.{list_any}
 use Rattle.std.specs.declared.ops.Bound.TheVariants.{Included, Excluded}
@@ -16,7 +16,7 @@ use Rattle.beam_state.specs.Posting.{AreLawful, notices_of}
 
 -- ---- keys
 
--- the key of a watch: the numbers of the watched process, of the one that watches, and of the reference, each of them below 2^32
+-- the key of a monitor: the numbers of the monitored process, of the one that monitors it, and of the reference, each of them below 2^32
 abbrev pub monitor_key : ℕ → ℕ → ℕ → ℕ
 monitor_key watched receiver reference = (watched * 4294967296 + receiver) * 4294967296 + reference
 
@@ -32,13 +32,13 @@ reference_in key = key % 4294967296
 abbrev pub has_key : List ℕ → ℕ → Bool
 has_key keys key = list_any (λ k. key == k) keys
 
--- whether a key is of the watched process of that number
+-- whether a key is of the monitored process of that number
 abbrev pub is_key_of : ℕ → ℕ → Bool
 is_key_of watched key = range_contains nat_cmp (Included (monitor_key watched 0 0)) (Excluded (monitor_key (watched + 1) 0 0)) key
 
 -- ---- what the keys hold of the processes
 
--- whether one of these monitors has that reference and watches the process of that number
+-- whether one of these monitors has that reference and is on the process of that number
 abbrev pub is_monitored_by : ℕ → ℕ → List Monitor → Bool
 is_monitored_by watched reference ms = list_any (λ m. (m.reference == reference) && monitors_process watched m) ms
 
@@ -62,7 +62,7 @@ AreMonitorsKeyed keys ps = (i : ℕ) (p : Process) → slice_get ps i ≡ Some p
 unfoldable pub AreMonitorsKeyedIf : Bool → List ℕ → List Process → Type 0
 AreMonitorsKeyedIf complete keys ps = complete ≡ true → AreMonitorsKeyed keys ps
 
--- ---- the keys that count
+-- ---- the keys that are live
 
 abbrev pub names_number : ℕ → Option TermValue → Bool
 names_number number (Some pid) = is_this_number number (own_number pid)
@@ -72,11 +72,11 @@ abbrev pub monitors_under : ℕ → ℕ → Option Process → Bool
 monitors_under watched reference (Some p) = names_number watched (option_map (λ m. m.pid) (monitor_of reference p.monitors))
 monitors_under watched reference None = false
 
--- whether the process of a key lives, and watches the process of the given number under the key's reference
+-- whether the process of a key lives, and monitors the process of the given number under the key's reference
 abbrev pub is_live_key : List Process → ℕ → ℕ → Bool
 is_live_key ps watched key = monitors_under watched (reference_in key) (live_process ps (receiver_in key))
 
--- whether the process of a key isn't the watched one, and the key counts: so it hears of the end
+-- whether the process of a key isn't the monitored one, and the key is live: so it hears of the end
 abbrev pub is_told : List Process → ℕ → ℕ → Bool
 is_told ps watched key = not (receiver_in key == watched) && is_live_key ps watched key
 

@@ -153,7 +153,7 @@ impl State {
     }
 
     /// A module's old code is removed, and the processes that linger in it end; those that monitor them hear of it. It is refused for
-    /// memory only where one of them is watched, and then nothing changes.
+    /// memory only where one of them is monitored, and then nothing changes.
     pub fn purge(&mut self, code: &mut CodeTable, name: &Atom) -> Result<Reply, Refused>
         ensures next { Answers (node code.old self.old) (Event.Purge name.now) result (node code.new self.new) }
         ensures memory { LacksMemory (node code.old self.old) (Event.Purge name.now) result (node code.new self.new) }

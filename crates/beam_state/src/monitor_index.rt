@@ -1,4 +1,4 @@
-//! An index of monitors, by the processes that they watch.
+//! An index of monitors, by the monitored processes.
 ghost use Rattle.std.specs.Prelude.{◌≡◌, ◌++◌, ◌∷◌, [], ℕ, true, false, filter, if◌then◌else◌, Some, OnOk, OnErr};
 ghost use Rattle.std.specs.List.Sorted.{IsStrictlySortedBy};
 ghost use Rattle.std.specs.Ordering.{nat_cmp};
@@ -17,7 +17,7 @@ use std::collections::BTreeSet;
 use std::collections::btree_set::Range;
 use std::marker::Model;
 
-/// The keys of watches, in their order. Some may be of monitors that are no more.
+/// The keys of monitors, in their order. Some may be of monitors that are no more.
 pub(crate) struct MonitorIndex {
     keys: BTreeSet<u128>,
     // the number of keys above which they are swept next
@@ -41,7 +41,7 @@ impl Model for MonitorIndex {
     ghost view = { λ w. w.keys.keys };
 }
 
-/// The key of a watch.
+/// The key of a monitor.
 fn monitor_key(monitored: u32, receiver: u32, reference: u32) -> u128
     ensures { result ≡ monitor_key monitored receiver reference }
 {
@@ -49,14 +49,14 @@ fn monitor_key(monitored: u32, receiver: u32, reference: u32) -> u128
     pair * 4_294_967_296 + u128::from(reference)
 }
 
-/// The number of the watched process.
+/// The number of the monitored process.
 fn monitored_in(key: u128) -> u32
     ensures { result ≡ monitored_in key }
 {
     (key / 4_294_967_296 / 4_294_967_296 % 4_294_967_296) as u32
 }
 
-/// The number of the process that watches.
+/// The number of the process that monitors it.
 fn receiver_in(key: u128) -> u32
     ensures { result ≡ receiver_in key }
 {
@@ -70,7 +70,7 @@ fn reference_in(key: u128) -> u32
     (key % 4_294_967_296) as u32
 }
 
-/// Whether the process of a key lives, and watches the process of number `watched` under the key's reference.
+/// Whether the process of a key lives, and monitors the process of number `monitored` under the key's reference.
 fn is_live_key(processes: &[ProcessEntry], monitored: u32, key: u128) -> bool
     ensures { result ≡ is_live_key processes.now monitored key }
 {
@@ -83,7 +83,7 @@ fn is_live_key(processes: &[ProcessEntry], monitored: u32, key: u128) -> bool
     }
 }
 
-/// Adds the DOWN that the process of a key is sent where the watched process ends for that reason, if the key counts.
+/// Adds the DOWN that the process of a key is sent where the monitored process ends for that reason, if the key is live.
 pub(crate) fn add_down(
     processes: &[ProcessEntry],
     key: u128,
@@ -140,7 +140,7 @@ impl MonitorIndex {
         self.keys.len()
     }
 
-    /// The keys of a watched process, in their order.
+    /// The keys of a monitored process, in their order.
     pub(crate) fn of(&self, monitored: u32) -> Range<'_, u128>
         ensures { result ≡ filter (is_key_of monitored) self.now }
     {
@@ -148,7 +148,7 @@ impl MonitorIndex {
         self.keys.range(first..first + 18_446_744_073_709_551_616)
     }
 
-    /// Adds a watch.
+    /// Adds the key of a monitor.
     fn push(&mut self, monitored: u32, receiver: u32, reference: u32) -> Result<(), AllocError>
         ensures ok { OnOk result (has_key self.new (monitor_key monitored receiver reference) ≡ true) }
         ensures kept { (key : ℕ) → has_key self.old key ≡ true → has_key self.new key ≡ true }
@@ -185,8 +185,8 @@ impl MonitorIndex {
         Ok(())
     }
 
-    /// Takes out the keys that count no longer, if there are over a thousand more than twice as many as after the last sweep. It takes no
-    /// memory.
+    /// Takes out the keys that are no longer live, if there are over a thousand more than twice as many as after the last sweep. It takes
+    /// no memory.
     pub(crate) fn sweep(&mut self, processes: &[ProcessEntry])
         ensures { (key : ℕ) → is_live_key processes.now (monitored_in key) key ≡ true → has_key self.old key ≡ true → has_key self.new key ≡ true }
     {

@@ -117,7 +117,7 @@ impl State {
     }
 
     /// The signals that all others are sent where the process of that number ends for that reason: a DOWN for each monitor of it. It isn't
-    /// refused where the process isn't watched.
+    /// refused where the process isn't monitored.
     pub fn notices(&self, pid: u32, reason: &Term) -> Result<Vec<Sent>, AllocError>
         ensures ok { IfOk result (λ notices. notices.items ≡ notices_of self.now.processes pid reason.now) }
         ensures quiet { is_monitored self.now.processes pid ≡ false → OnErr result ⊥ }

@@ -136,7 +136,7 @@ at_a_spot spots passes code q runs stopped m = rw add-one (at (is_running q.stat
     at true false h k = cc
     at false s h k = cc
 
--- rows that end after `count`, where the last look at a row left the process and the signals as they were
+-- rows that end after `count`, where the next row wasn't executed and left the process and the signals as they were
 stopped_as : (spots : List Place) (passes : Bool) (code : Code) (p q r : Process) (count rows : ℕ) (sent after : List Sent) (still : Bool) (end : End) → r ≡ q → after ≡ sent
     → Made spots passes code p count sent still q → count < rows → ((m : ℕ) → private_to_spot spots still code (m + 1) q ≡ stops q end)
     → record { count = count; process = r; sent = after; end = end } ≡ private_to_spot spots passes code rows p

@@ -75,14 +75,14 @@ WrongSays app words (wrong.NoList text) = AskWrongly words (wrong.NoList text)
 WrongSays app words (wrong.NoLevel text) = AskToServeWrongly words (wrong.NoLevel text)
 WrongSays app words (wrong.NoStart text) = AskToServeWrongly words (wrong.NoStart text)
 
--- what a stop implies for the words; an allocation failure implies nothing
+-- what an early exit implies for the words; an allocation failure implies nothing
 abbrev pub StopSays : App → List Text → EarlyExit → Type 0
 StopSays app words stop.Help = AskForHelp app words
 StopSays app words stop.Version = AskForVersion app words
 StopSays app words (stop.Wrong w) = WrongSays app words w
 StopSays app words stop.NoMemory = ⊤
 
--- this stop is what an error of this kind becomes
+-- this early exit is what an error of this kind becomes
 abbrev pub StopsBy : ErrorKind → EarlyExit → Type 0
 StopsBy k stop.Help = k ≡ kind.DisplayHelp
 StopsBy k stop.Version = k ≡ kind.DisplayVersion

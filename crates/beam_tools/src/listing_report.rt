@@ -60,7 +60,7 @@ fn feature_of(line: &str) -> Option<&'static str> {
     None
 }
 
-// A part of a text that is refused: the line at which it begins, the refusal's name, and, of a frame that doesn't fit, what is lacking.
+// A part of a text that is refused: the line at which it begins, the refusal's name, and, of a frame that doesn't fit, the mismatch.
 #[derive(Clone, Copy)]
 struct RefusedLine {
     line: usize,
@@ -166,7 +166,7 @@ fn push_line(line: usize, text: &str, lines: &mut Lines) {
     lines.push(b"\n");
 }
 
-// Adds the line of a refused part, and what it lacks.
+// Adds the line of a refused part, and its mismatch.
 fn push_refused(refused: RefusedLine, text: &str, lines: &mut Lines) {
     push_line(refused.line, text, lines);
     if let Some(mismatch) = refused.mismatch {

@@ -1,4 +1,4 @@
-//! What an instruction lacks of the newest frame, in words.
+//! The mismatch of an instruction with the newest frame, in words.
 
 use crate::lines::Lines;
 use beam_shapes::mismatch::{Actual, Expected, Mismatch};

@@ -88,7 +88,7 @@ fn kind_of(action: &Action<'_>) -> RowEffect {
     }
 }
 
-/// The kind of the row at a position. The one function that owns a step.
+/// The effect of the row at a position. The one function that owns a step.
 fn kind_at(image: &Image, at: usize) -> RowEffect {
     match image.step(at) {
         Some(step) => kind_of(&step.action),
@@ -104,7 +104,7 @@ fn entry_of(image: &Image, function: &Atom, arity: u32, instance: u32) -> Option
     }
 }
 
-/// The instance and the row at which an exported function begins, found in a share of the image.
+/// The instance and the row at which an exported function begins, found by a second reference to the image.
 fn entry_of_share(image: &Image, function: &Atom, instance: u32) -> Option<(u32, usize)> {
     match image.try_share() {
         Ok(shared) => entry_of(&shared, function, 1, instance),

@@ -28,11 +28,12 @@ pub struct GateReport {
     /// What didn't come in time, if a slice was held for it.
     pub late: Option<Unfinished>,
     pub tally: Tally,
-    /// The shares of the journal that were reached, in percent: the numbers one after another, three digits each.
+    /// The thresholds that the journal has reached, in percent: the numbers one after another, three digits each.
     pub percents: u64,
 }
 
-/// Holds each slice that was run, from slice `first` on, until it is opened. It is to be opened once `needed` slices were checked out.
+/// Holds each slice that was run, from slice `first` on, until the gate is opened. It is to be opened once `needed` slices were checked
+/// out.
 pub struct BarrierGate<'a, R> {
     rt: &'a R,
     pub deadline: TestDeadline,
@@ -54,7 +55,7 @@ impl<R> Drop for BarrierGate<'_, R> {
 }
 
 impl<'a, R: Wait + time::Clock> BarrierGate<'a, R> {
-    /// Holds slices from number `first` on, until `needed` were checked out; with 0 and 0 it holds none.
+    /// A gate that holds slices from number `first` on, until `needed` were checked out; with 0 and 0 it holds none.
     pub fn new(rt: &'a R, first: u32, needed: u32) -> BarrierGate<'a, R> {
         BarrierGate {
             rt,
@@ -85,7 +86,7 @@ impl<'a, R: Wait + time::Clock> BarrierGate<'a, R> {
         self.report.lock(self.rt).is_open = true;
     }
 
-    /// Waits until `needed` slices were checked out. Answers what didn't come, if they weren't.
+    /// Waits until `needed` slices were checked out. Returns what didn't come in time, if they weren't.
     pub fn wait_for_all(&self) -> Option<Unfinished> {
         for _ in 0..u32::MAX {
             if self.report().outs >= self.needed {
@@ -98,7 +99,7 @@ impl<'a, R: Wait + time::Clock> BarrierGate<'a, R> {
         Some(Unfinished::Late("so many slices to be checked out", self.needed))
     }
 
-    /// Waits until the gate is opened. Answers what didn't come, if it wasn't.
+    /// Waits until the gate is opened. Returns what didn't come in time, if it wasn't.
     fn wait_until_open(&self) -> Option<Unfinished> {
         for _ in 0..u32::MAX {
             if self.report().is_open {

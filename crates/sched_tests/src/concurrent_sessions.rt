@@ -1,4 +1,4 @@
-//! Sessions side by side, and sessions after one that failed, over devices in memory that one door gives.
+//! Sessions side by side, and sessions after one that failed, over devices in memory that come from one queue of clients.
 ghost use Rattle.std.specs.Prelude.{◌≡◌, Some, take, length};
 
 use crate::devices::ended;
@@ -27,7 +27,7 @@ use std::test::*;
 use std::thread::Threads;
 use std::time;
 
-/// A device that comes for a session.
+/// A client of a session, with its device.
 struct Client {
     name: &'static str,
     device: Memory,
@@ -66,7 +66,7 @@ impl Drop for EndedSession {
     }
 }
 
-/// The clients that wait to be let in, the next one last, and the sessions that have ended.
+/// The clients that wait for a session, the next one last, and the sessions that have ended.
 struct ClientQueue {
     deadline: TestDeadline,
     clients: Mutex<Vec<Client>>,
@@ -84,7 +84,7 @@ impl Drop for ClientQueue {
 }
 
 impl ClientQueue {
-    /// The sessions that have ended, in that order.
+    /// The sessions that have ended, in the order in which they ended.
     fn into_ended_sessions(self) -> Vec<EndedSession> {
         let ClientQueue {
             deadline: _deadline,
@@ -95,7 +95,7 @@ impl ClientQueue {
     }
 }
 
-/// The device of a client.
+/// A client's device.
 #[derive(Drop)]
 struct ClientDevice<'a, R> {
     rt: &'a R,
@@ -152,7 +152,7 @@ impl<R: Wait + time::Clock> Port for ClientDevice<'_, R> {
     }
 }
 
-/// Lets clients in to a seat.
+/// Where a session thread gets its clients.
 #[derive(Drop)]
 struct ClientSource<'a, R> {
     rt: &'a R,
@@ -192,7 +192,7 @@ impl<'a, R: Wait + time::Clock> Incoming<ClientDevice<'a, R>> for ClientSource<'
     }
 }
 
-/// Runs sessions with clients at one thread context.
+/// Runs sessions with clients, with the desk of one thread context.
 struct SessionThread<'a, B: NodeBrand + QueueBrand, R> {
     rt: &'a R,
     alloc: Global,
@@ -257,7 +257,7 @@ impl<B: NodeBrand + QueueBrand, R: Wait + time::Clock + Log + AllocGlobal> Foreg
     }
 }
 
-/// A session thread at each thread context. If one is lost, the node can't be closed.
+/// A session thread for each thread context. If one is lost, the node can't be closed.
 fn session_threads_at<'a, B: NodeBrand + QueueBrand, R>(
     rt: &'a R,
     alloc: Global,
@@ -286,7 +286,7 @@ fn with_session_threads<B: NodeBrand + QueueBrand, R>(
     contexts
 }
 
-/// Runs the sessions, one of these thread contexts here and each of the others on a thread. All thread contexts come back.
+/// Runs the sessions, with one of these thread contexts here and with each of the others on a thread. All thread contexts come back.
 fn receive<
     'a,
     B: NodeBrand + QueueBrand + Send + Sync,

@@ -69,8 +69,8 @@ fn last_refusal<B: NodeBrand>(
     number
 }
 
-/// Runs one row of the first process apart and commits it. Answers the number of the reason for which it is dropped, or 0; 100 and more if
-/// the checkout is refused.
+/// Checks the first process out, runs one row of it and commits it. Returns the number of the reason for which the row is dropped, or 0;
+/// 100 and more if the checkout is refused.
 fn row_apart<B: NodeBrand>(node: &mut Node<B>) -> u8 {
     let checkout = match node.checkout(1) {
         Ok(checkout) => checkout,

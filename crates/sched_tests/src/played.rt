@@ -14,11 +14,11 @@ pub struct ClosedNode {
     pub journal: Journal,
     /// What workers reported to the gate.
     pub report: GateReport,
-    /// Which process could go on in the end.
+    /// The first process that runs in the end or has a signal in transit, if there is one.
     pub ready: Option<u32>,
     /// The views of its processes from 1 to `ends`, as text.
     pub text: Vec<u8>,
-    /// How many processes were looked at.
+    /// How many processes are inspected.
     pub ends: u32,
     /// The pids that were left in the queues.
     pub left: Vec<u32>,
@@ -57,7 +57,7 @@ pub struct JournalCounts {
 pub struct Played {
     /// What workers reported to the gate.
     pub report: GateReport,
-    /// Which process could go on in the end.
+    /// The first process that runs in the end or has a signal in transit, if there is one.
     pub ready: Option<u32>,
     /// What its journal has.
     pub counts: JournalCounts,

@@ -42,7 +42,7 @@ fn unattended(alloc: Global) -> Scenario {
     Scenario::until(alloc, first, Wanted::Nothing)
 }
 
-/// Many processes are run while other code is loaded again and again. After each load workers look at all of them.
+/// Many processes are run while other code is loaded again and again. After each load workers scan all of them.
 fn looked_at(alloc: Global) -> Scenario {
     let mut first = endless(alloc, MANY);
     for _ in 0..20 {

@@ -11,7 +11,7 @@ use std::marker::Brand;
 use std::process::Abort;
 use std::test::*;
 
-/// Enters that a seat resumes a process.
+/// Enters an event of a seat, which resumes a process.
 fn resume<B: NodeBrand, E: GhostEntry>(keeper: &mut Keeper<B>, seat: &mut SeatReceipt<B>, pid: u32)
     requires event { E.entry.event ≡ Resume pid }
     requires seat { E.entry.seat ≡ Some seat.old.number }
@@ -25,7 +25,7 @@ fn resume<B: NodeBrand, E: GhostEntry>(keeper: &mut Keeper<B>, seat: &mut SeatRe
 /// Checks a process out.
 fn hand_out<B: NodeBrand, O: GhostOrigin>(keeper: &mut Keeper<B>, pid: u32) -> TicketReceipt<B>
     requires { O.origin.pid ≡ pid }
-    ensures ticket { (result.serial ≡ length keeper.old.outs) × (result.origin.pid ≡ pid) }
+    ensures ticket { (result.serial ≡ length keeper.old.checkouts) × (result.origin.pid ≡ pid) }
     ensures keeper { keeper.new.journal ≡ keeper.old.journal }
 {
     keeper.check_out::<O>()

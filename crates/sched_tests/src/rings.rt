@@ -23,18 +23,18 @@ fn sums(alloc: Global, count: u32) -> Commands {
         .spawn_many(count, "t", "sum", &[Integer(4)])
 }
 
-/// A process of sum(4) that stops before each turn of its loop.
+/// A process of sum(4) that stops before each round of its loop.
 fn stopped(alloc: Global) -> Scenario {
     let first = Commands::new(alloc).load(SUM).set_break("t", 4);
     Scenario::ending(alloc, first.spawn("t", "sum", &[Integer(4)]), 1)
 }
 
-/// Two processes that are out at the same time.
+/// Two processes that are checked out at the same time.
 fn two_sums(alloc: Global) -> Scenario {
     Scenario::with_barrier(sums(alloc, 2), (1, 2), Commands::new(alloc), 2)
 }
 
-/// Two processes, and a load while both are out.
+/// Two processes, and a load while both are checked out.
 fn two_sums_and_a_load(alloc: Global) -> Scenario {
     let then = Commands::new(alloc).load(SUM);
     Scenario::with_barrier(sums(alloc, 2), (1, 2), then, 2)
@@ -56,7 +56,7 @@ fn links(alloc: Global) -> Scenario {
     Scenario::ending(alloc, first, LINKS)
 }
 
-/// The code of a process is purged while it is out for the second time.
+/// The code of a process is purged while it is checked out for the second time.
 fn purged(alloc: Global) -> Scenario {
     let first = Commands::new(alloc).load(CALLER);
     let first = first.spawn("o", "call", &[Pid(1), Integer(5_000)]);
@@ -64,8 +64,8 @@ fn purged(alloc: Global) -> Scenario {
     Scenario::with_barrier(first, (2, 2), then, 1)
 }
 
-/// The first process ends with the messages that it gets. The second one's code is purged while it is out for the second time, with a
-/// message to the first one; then a command sends another message.
+/// The first process ends with the messages that it gets. The second one's code is purged while it is checked out for the second time, with
+/// a message to the first one; then a command sends another message.
 fn purged_with_a_message(alloc: Global) -> Scenario {
     let first = Commands::new(alloc).load(CALLER).load(HEAR);
     let first = first.spawn("h", "hear", &[]);
@@ -128,7 +128,7 @@ fn links_with_sixty_four_workers(rt: HostRuntime) -> Result<(), Fail> {
     linked(&rt, 64)
 }
 
-/// Two slices that are out at the same time are both committed, with `workers` workers.
+/// Two slices that are checked out at the same time are both committed, with `workers` workers.
 fn met<R: Threads + Wait + Clock + Sync + Abort + AllocGlobal>(
     rt: &R,
     workers: u32,
@@ -147,7 +147,7 @@ fn two_slices_are_out_at_once(rt: HostRuntime) -> Result<(), Fail> {
     met(&rt, 64)
 }
 
-/// After a load while both processes are out, none of their rows is committed, and both processes run them again.
+/// After a load while both processes are checked out, none of their rows is committed, and both processes run them again.
 fn overtaken<R: Threads + Wait + Clock + Sync + Abort + AllocGlobal>(
     rt: &R,
     workers: u32,
@@ -167,7 +167,7 @@ fn two_slices_over_old_code_are_dropped(rt: HostRuntime) -> Result<(), Fail> {
     overtaken(&rt, 64)
 }
 
-/// A process whose code is purged while it is out has ended, and no row of its second slice is entered.
+/// A process whose code is purged while it is checked out has ended, and no row of its second slice is entered.
 fn gone<R: Threads + Wait + Clock + Sync + Abort + AllocGlobal>(
     rt: &R,
     workers: u32,
@@ -188,7 +188,7 @@ fn a_slice_of_a_purged_process_is_dropped(rt: HostRuntime) -> Result<(), Fail> {
     gone(&rt, 64)
 }
 
-/// The first process got only the other message. With one worker the slice comes back before the first process runs again.
+/// The first process got only the other message. With one worker the slice is committed before the first process runs again.
 #[test]
 fn a_slice_of_a_purged_process_sends_nothing(rt: HostRuntime) -> Result<(), Fail> {
     let seen = "pid 1 ended [7]\npid 2 ended killed\n";

@@ -68,7 +68,7 @@ impl<Q: QueueBrand> CountedQueue<Q> {
         }
     }
 
-    /// Adds up how often each pid was enqueued and taken, and leaves the run queue.
+    /// Adds up how often each pid was enqueued and taken, and gives back the run queue.
     fn add_to(self, enqueued: &mut Vec<u32>, found: &mut Vec<u32>) -> RunQueue<Q> {
         let CountedQueue {
             run_queue,

@@ -77,8 +77,8 @@ impl Scenario {
         }
     }
 
-    /// A scenario of these commands, and of others, 1 ms apart, once the slices of `held` are checked out, which are held until then. Each of
-    /// the processes from 1 to `ends` ends.
+    /// A scenario of these commands, and of others, 1 ms apart, once the slices of `held` are checked out, which are held until then. Each
+    /// of the processes from 1 to `ends` ends.
     pub fn with_barrier(first: Commands, held: (u32, u32), then: Commands, ends: u32) -> Scenario {
         Scenario {
             limit: MOST_ENTRIES,
@@ -104,7 +104,7 @@ impl Scenario {
         }
     }
 
-    /// How many processes are looked at after the scenario.
+    /// How many processes are inspected after the scenario.
     pub fn ends(&self) -> u32 {
         match self.wanted {
             Wanted::Ends(count) => count,
@@ -119,7 +119,7 @@ impl Scenario {
     }
 }
 
-/// Plays a scenario beside the workers.
+/// Plays a scenario beside the workers, with a thread context of its own.
 #[derive(Drop)]
 pub struct ScenarioRunner<'a, B: NodeBrand + QueueBrand, R> {
     rt: &'a R,
@@ -162,15 +162,15 @@ impl Wanted {
         }
     }
 
-    /// The failure of a scenario in which it doesn't come.
+    /// The failure of a scenario in which `wanted` doesn't come.
     fn late(self) -> Unfinished {
         match self {
             Wanted::Nothing => Unfinished::Late("nothing", 0),
-            Wanted::Ends(count) => Unfinished::Late("so many of the processes to end", count),
+            Wanted::Ends(count) => Unfinished::Late("the end of processes, in number", count),
             Wanted::End(pid) => Unfinished::Late("the process of this number to end", pid),
-            Wanted::Entries(count) => Unfinished::Late("so many entries of the journal", count),
+            Wanted::Entries(count) => Unfinished::Late("entries of the journal, in number", count),
             Wanted::Tally(tally) => Unfinished::Late(
-                "the gate to be told what is wanted, with so many ends",
+                "the wanted report of the gate, with ends, in number",
                 tally.ended,
             ),
         }
@@ -193,7 +193,7 @@ impl<'a, B: NodeBrand + QueueBrand, R: Wait + time::Clock> ScenarioRunner<'a, B,
             context,
             scenario,
             workers,
-            unfinished: Some(Unfinished::Undone("no story was played")),
+            unfinished: Some(Unfinished::Undone("no scenario was played")),
         }
     }
 
@@ -234,7 +234,7 @@ impl<'a, B: NodeBrand + QueueBrand, R: Wait + time::Clock> ScenarioRunner<'a, B,
         }
     }
 
-    /// Waits for `wanted`. Answers what didn't come, if it didn't.
+    /// Waits for `wanted`. Returns what didn't come, if it didn't.
     fn wait(&mut self) -> Option<Unfinished> {
         for _ in 0..u32::MAX {
             let (has_come, held) = self.look();
@@ -251,7 +251,7 @@ impl<'a, B: NodeBrand + QueueBrand, R: Wait + time::Clock> ScenarioRunner<'a, B,
         Some(self.scenario.wanted.late())
     }
 
-    /// Gives the commands, up to the wait at the end. Answers why not all were given, if they weren't.
+    /// Gives the commands, up to the wait at the end. Returns why not all were given, if they weren't.
     fn begin(&mut self, workers: usize) -> Option<Unfinished> {
         let rt = self.rt;
         let shared = self.shared;

@@ -1,4 +1,4 @@
-//! A node that is played through, up to its journal.
+//! A scenario that is played with a node, up to the node's journal.
 ghost use Rattle.std.specs.Prelude.{◌≡◌};
 
 use crate::barrier_gate::{BarrierGate, GateReport, SliceClock};
@@ -22,7 +22,8 @@ use std::test::Fail;
 use std::thread::Threads;
 use std::time::Clock;
 
-/// Runs a scenario runner beside workers. The time is a clock's, or the number of slices that were checked out. All thread contexts but the scenario runner's come back.
+/// Runs a scenario beside workers. The time is a clock's, or the number of slices that were checked out. All thread contexts but the
+/// scenario runner's come back.
 fn run_beside<'a, B: NodeBrand + QueueBrand + Send + Sync, R: Threads + Wait + Clock + Sync>(
     rt: &'a R,
     alloc: Global,
@@ -58,7 +59,7 @@ fn run<'a, B: NodeBrand + QueueBrand + Send + Sync, R: Threads + Wait + Clock + 
     let is_whole = contexts.push(context).is_ok();
     match unfinished {
         None if is_whole => Ok(contexts),
-        None => Err(Fail::new("no room for a station")),
+        None => Err(Fail::new("no place for a thread context")),
         Some(unfinished) => Err(unfinished.fail()),
     }
 }

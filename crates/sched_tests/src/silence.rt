@@ -1,4 +1,4 @@
-//! Streams with a limit of time, over a clock and a stream in memory.
+//! Streams with a time limit, over a clock and a stream in memory.
 
 use beam_serve::TimedStream;
 use std::cell::Cell;
@@ -34,7 +34,7 @@ impl Clock for StreamClock {
 /// A delay in milliseconds, and then this many zeros and a byte.
 type Piece = (u64, usize, u8);
 
-/// A stream that gives its pieces, one a call. A call for a piece that comes later than the call waits fails.
+/// A stream that gives its pieces, one a call. A call fails if its piece comes later than the call waits.
 #[derive(Drop)]
 struct Pieces<'a> {
     clock: &'a StreamClock,

@@ -14,7 +14,8 @@ use beam_shared::node::Node;
 use std::alloc::Global;
 use std::test::Fail;
 
-/// A new node whose journal can have `limit` entries, the thread contexts of `workers` workers, one of a sender of commands, and the others.
+/// A new node whose journal can have `limit` entries, the thread contexts of `workers` workers, one of a sender of commands, and the other
+/// senders' ones.
 pub fn staged<B: NodeBrand + QueueBrand>(
     alloc: Global,
     unbranded: UnbrandedKeeper,
@@ -38,11 +39,11 @@ pub fn staged<B: NodeBrand + QueueBrand>(
     let (workers, mut others) = contexts(alloc, &mut node, queues, workers as usize)?;
     match others.pop() {
         Some(context) => Ok((node, workers, context, others)),
-        None => Err(Fail::new("no station")),
+        None => Err(Fail::new("no thread context")),
     }
 }
 
-/// The seats of thread contexts, and the pids that are left in their queues, which are closed.
+/// The seats of thread contexts, and the pids that are left in their queues, which are closed then.
 fn parts<B: NodeBrand + QueueBrand>(
     alloc: Global,
     contexts: Vec<ThreadContext<B>>,
@@ -53,7 +54,7 @@ fn parts<B: NodeBrand + QueueBrand>(
     Ok((seats, close(alloc, run_queues)?))
 }
 
-/// Closes the queues and the node with all thread contexts. Gives the journal, and the pids that are left in the queues.
+/// Closes the queues and the node with all thread contexts. Returns the journal, and the pids that are left in the queues.
 pub fn closed<B: NodeBrand + QueueBrand>(
     alloc: Global,
     node: Node<B>,

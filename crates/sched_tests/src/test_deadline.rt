@@ -4,8 +4,8 @@ use std::test::Fail;
 use std::thread;
 use std::time::{Clock, Duration};
 
-/// The most seconds that a scenario waits. `rt` ends each test after 60 seconds, and only a test that ends by itself can report what it waited
-/// for: so this is a little less.
+/// The most seconds that a scenario waits. `rt` ends each test after 60 seconds, and only a test that ends by itself can report what it
+/// waited for: so this is a little less.
 const SECONDS: u64 = 50;
 
 /// The time until which a scenario waits, whatever it waits for.
@@ -15,7 +15,7 @@ pub struct TestDeadline {
 }
 
 impl TestDeadline {
-    /// Begins now.
+    /// A deadline that begins now.
     pub fn new<R: Clock>(rt: &R) -> TestDeadline {
         let now = rt.monotonic().unwrap_or(Duration::ZERO);
         TestDeadline {

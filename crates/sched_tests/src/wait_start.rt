@@ -28,7 +28,7 @@ use std::thread::Threads;
 use std::time;
 use std::time::Duration;
 
-/// A clock that stays at the time at which it was put, and counts how often it was read.
+/// A clock that stays at the time to which it was set, and counts how often it was read.
 #[derive(Drop)]
 struct ManualClock {
     time: AtomicU64,
@@ -49,7 +49,7 @@ impl Clock for ManualClock {
     }
 }
 
-/// How a process stands.
+/// The state of a process, as far as this test needs it.
 #[derive(Clone, Copy, PartialEq, Eq)]
 enum ProcessState {
     Waiting,
@@ -57,7 +57,7 @@ enum ProcessState {
     Otherwise,
 }
 
-/// How the first process stands.
+/// The state of the first process.
 fn first_process_state(node: &Debugger) -> ProcessState {
     match node.process(1) {
         Some(process) if process.is_ended() => ProcessState::Ended,
@@ -73,8 +73,8 @@ const SETTLED: u64 = 4;
 /// How often the worker reads the clock at 299.
 const EARLY: u64 = 60;
 
-/// Starts a process that waits for 100 ms, on a node that has been idle for 200 ms. Checks how the process stands 99 ms later, and whether
-/// it ends 100 ms later.
+/// Starts a process that waits for 100 ms, on a node that has been idle for 200 ms. Checks the state of the process 99 ms later, and
+/// whether it ends 100 ms later.
 #[derive(Drop)]
 struct WaitTest<'a, B: NodeBrand + QueueBrand, R> {
     rt: &'a R,
@@ -83,7 +83,7 @@ struct WaitTest<'a, B: NodeBrand + QueueBrand, R> {
     clock: &'a ManualClock,
     context: ThreadContext<B>,
     commands: Commands,
-    /// How the process stood 99 ms later.
+    /// The state of the process 99 ms later.
     early: ProcessState,
     /// Why the test didn't come to its end.
     unfinished: Option<Unfinished>,
@@ -94,7 +94,7 @@ impl<B: NodeBrand + QueueBrand, R: Wait + time::Clock> WaitTest<'_, B, R> {
         first_process_state(self.shared.node().lock(self.rt).node().debugger())
     }
 
-    /// Waits until the process stands so. False if it didn't in time.
+    /// Waits until the process is in this state. False if it wasn't in time.
     fn wait_for(&self, wanted: ProcessState) -> bool {
         for _ in 0..u32::MAX {
             if self.process_state() == wanted {
@@ -107,7 +107,7 @@ impl<B: NodeBrand + QueueBrand, R: Wait + time::Clock> WaitTest<'_, B, R> {
         false
     }
 
-    /// Puts the clock, and waits until the worker has read it `often` times. False if it didn't in time.
+    /// Sets the clock, and waits until the worker has read it `often` times. False if it hadn't in time.
     fn is_read_at(&self, time: u64, often: u64) -> bool {
         self.clock.put(time);
         let before = self.clock.reads.load(Ordering::SeqCst);
@@ -123,7 +123,7 @@ impl<B: NodeBrand + QueueBrand, R: Wait + time::Clock> WaitTest<'_, B, R> {
         false
     }
 
-    /// Plays the test. Answers why it didn't come to its end, if it didn't.
+    /// Plays the test. Returns why it didn't come to its end, if it didn't.
     fn play(&mut self) -> Option<Unfinished> {
         self.clock.put(200);
         let is_given = self
@@ -159,13 +159,13 @@ impl<B: NodeBrand + QueueBrand, R: Wait + time::Clock> ForegroundTask for WaitTe
 struct WaitResult {
     /// Why the test didn't come to its end.
     unfinished: Option<Unfinished>,
-    /// How the process stood at 299.
+    /// The state of the process at 299.
     early: ProcessState,
     /// The moments in the journal, one after another.
     moments: u64,
 }
 
-/// All thread contexts, which came back, how the process stood, and why the test didn't come to its end, if it didn't.
+/// All thread contexts, which came back, the state of the process at 299, and why the test didn't come to its end, if it didn't.
 fn run<'a, B: NodeBrand + QueueBrand + Send + Sync, R: Threads + Wait + time::Clock + Sync>(
     rt: &'a R,
     alloc: Global,

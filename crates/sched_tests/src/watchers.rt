@@ -38,7 +38,7 @@ fn watchers(alloc: Global) -> Scenario {
     Scenario::ending(alloc, first, 2 * WATCHERS)
 }
 
-/// The second process monitors the first one. Commands end the first one while the second one is out for the second time.
+/// The second process monitors the first one. Commands end the first one while the second one is checked out for the second time.
 fn told_while_out(alloc: Global) -> Scenario {
     let first = watch(hear(modules(alloc)), 1, 2_000);
     let then = Commands::new(alloc).send(1, 7).deliver(1).steps(1, 100);
@@ -73,7 +73,8 @@ fn watchers_are_told_with_two_workers(rt: HostRuntime) -> Result<(), Fail> {
     all_told(&rt, 2)
 }
 
-/// Four slices are out and none is dropped. The process whose slice was out then still has its DOWN in transit after the commit.
+/// Four slices are checked out and none is dropped. The process whose slice was checked out then still has its DOWN in transit after the
+/// commit.
 #[test]
 fn a_slice_keeps_what_its_process_was_told_meanwhile(rt: HostRuntime) -> Result<(), Fail> {
     let seen = "pid 1 ended [7]\npid 2 ended {'DOWN',#Ref<0.0.0.1>,process,<0.1.0>,[7]}\n";

@@ -11,7 +11,7 @@ pub enum TestRowError {
     UnknownKind,
     /// It hasn't as many columns as its kind wants.
     Columns,
-    /// The marks of a name or of a repeated text are used in another way.
+    /// The notation of a name or of a repeated text is used in another way.
     Marks,
     /// A column, or a part of it, isn't what it should be.
     No(&'static str),

@@ -2,7 +2,7 @@
 
 use std::fmt;
 
-/// What a row says.
+/// The kind of a row.
 #[derive(Clone, Copy, PartialEq, Eq)]
 pub enum RowKind {
     /// Bytes of an external term, which is written with the same bytes again.

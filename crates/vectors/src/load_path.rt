@@ -12,7 +12,7 @@ use beam_remote::{Desk, LoadError, load_path};
 use beam_tools::files::Files;
 use std::alloc::Global;
 
-/// A node, and how many events it was given.
+/// A desk of a node that counts the events that it is given.
 struct CountingDesk {
     node: NodeDesk,
     events: u32,

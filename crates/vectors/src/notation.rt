@@ -1,4 +1,4 @@
-//! Marks in columns: names of texts, repeated texts, and pictures of control characters.
+//! The notation of columns: names of texts, repeated texts, and pictures of control characters.
 
 use crate::draft::Draft;
 use crate::error::TestRowError;

@@ -87,7 +87,7 @@ fn unserved<'a, F: Files>(
     ))
 }
 
-// Runs `beamnode`, which has no net.
+// Runs `beamnode`, which has no network.
 fn run_node<F: Files>(
     alloc: Global,
     words: &[&str],

@@ -9,7 +9,7 @@ use crate::session::{ended, told};
 use beam_desk::pipe;
 use std::alloc::Global;
 
-/// The session at the place N, counted from 0. All devices but those of pieces give and take one byte a call.
+/// The kind of a sweep: the session at the place N, counted from 0. All devices but those of pieces give and take one byte a call.
 #[derive(Clone, Copy)]
 enum SweepKind {
     /// The read after N others fails.

@@ -2,7 +2,7 @@ use Rattle.std.proofs.Common.{◌≡◌, ◌-◌, ℕ, length, ◌+◌}
 use Rattle.beam_sched.specs.QueueStates.{queue_state_of}
 use Rattle.beam_sched.proofs.queue_states.QueueStates.reserve.Given as goal
 
--- each process has the mark that it had before
+-- each process has the queue state that it had before
 abbrev pub invariant-loop-self : goal.invariant-loop-self
 invariant-loop-self l = (other : ℕ) → queue_state_of l.self-inside.states.items other ≡ queue_state_of l.fn.self other
 

@@ -88,7 +88,7 @@ invariant_of-self-in-Err g c =
       subst (λ checked_out. HasCapacityFor new checked_out) (sym c.check_in-2.ensures) held,
     )
 
--- there is room for the process to be held, since it is out
+-- the process can be held without memory, since it is checked out
 pub returns-in-Err-clause-dropped : goal.returns-in-Err-clause-dropped
 returns-in-Err-clause-dropped g c =
     let i = c.self.inside in
