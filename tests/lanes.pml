@@ -1,32 +1,32 @@
-/* A model of the workers of crates/beam_sched (worker.rt, marked.rt, looking.rt, idle.rt), for the model checker spin:
+/* A model of the workers of crates/beam_sched (worker.rt, locked_node.rt, scan.rt, idle_workers.rt), for the model checker spin:
      spin -DNW=2 -DNP=1 -DNOMEM=1 -DKC=2 -a lanes.pml && gcc -O2 -DSAFETY -DCOLLAPSE -DVECTORSZ=2048 -o pan pan.c && ./pan -E -m2000000 -w24
    Each section under the node's lock waits for nothing, and is one atomic step. Each queue that is asked for a process is a step of its own,
    and so is what an idle worker does under the lock of those that wait (il). Nobody holds both. Time: a worker that sleeps until a moment may
-   wake at any step; a look finds deadlines come or not, as it likes, unless it was made because one has come.
-   A slice is of few rows or not, as it likes, and after one of few a worker may try for the baton: how many of few it had isn't counted.
-   NW workers, NP processes, MOST found at a look, NOMEM refusals of memory in all, of whatever takes some, KC commands; the client, whose
-   queue has the number NW, then closes the queues, stops the workers, or stays. With FULL a commit or a look may find the journal full, and
+   wake at any step; a scan finds deadlines come or not, as it likes, unless it was made because one has come.
+   A slice is short or not, as it likes (few), and after a short one a worker may try for the token (baton): how many it had isn't counted.
+   NW workers, NP processes, MOST found at a scan, NOMEM refusals of memory in all, of whatever takes some, KC commands; the client, whose
+   queue has the number NW, then closes the queues, stops the workers, or stays. With FULL a commit or a scan may find the journal full, and
    stops the workers.
-   Claimed at each step: a process waits in at most one queue, once, and just those that are marked do. Claimed when nothing moves any more: no
-   process can go unless the workers were stopped; no process waits with a deadline unless the queues are closed or the workers stopped; all
-   workers have ended if it is one of these, and none otherwise; and unless they were stopped nothing is left in the queues.
+   Claimed at each step: a process waits in at most one queue, once, and just those in state queued (marked) do. Claimed when nothing moves any
+   more: no process can go unless the workers were stopped; no process waits with a deadline unless the queues are closed or the workers
+   stopped; all workers have ended if it is one of these, and none otherwise; and unless they were stopped nothing is left in the queues.
    Each of these leaves out one rule, and a claim then fails:
      NOA  rows that end in a wait with a kept deadline tell it
-     NOB  a wait that a later part of a look ends for a process behind it counts as a change
-     NOC  only a look from the first process on forgets that something was put off
-     NOD  a look to which memory was refused is put off
-     NOE  no worker ends while something is put off
-     NOG  rows that aren't apart are a change
+     NOB  a wait that a later part of a scan ends for a process behind it counts as a change
+     NOC  only a scan from the first process on forgets that something was deferred
+     NOD  a scan to which memory was refused is deferred
+     NOE  no worker ends while something is deferred
+     NOG  rows that aren't self-contained are a change
      NOK  who ends wakes all others
-     NOL  a look that can't announce a process is put off
-     NOM  a process that waits in a queue is marked
-     NOP  a process is announced after its commit
+     NOL  a scan that can't enqueue a process is deferred
+     NOM  a process that waits in a queue has the state queued
+     NOP  a process is enqueued after its commit
      NOQ  a command that may concern any process is a change
      NOR  an idle worker is counted before it asks the queues for the last time
      NOS  who stops the workers wakes all
-     NOT  an idle worker looks where that is wanted
-     NOU  a worker that finds nothing gives the baton back before it asks the queues for the last time
-     NOV  a worker stands back only while another one has the baton */
+     NOT  an idle worker scans where that is wanted
+     NOU  a worker that finds nothing gives the token back before it asks the queues for the last time
+     NOV  a worker stands back only while another one has the token */
 #ifndef NW
 #define NW 2
 #endif
@@ -110,7 +110,7 @@ byte ended=0, nomem=0;
 #define IS_AWAKE(p) ((st[p]==RUN || st[p]==WAIT) && !held[p])
 #define REFUSED nomem<NOMEM -> nomem++
 
-/* Station::announce; r: 0 done, 1 refused */
+/* ThreadContext::enqueue; r: 0 done, 1 refused */
 inline put(at, one) {
   r=0;
   if
@@ -121,7 +121,7 @@ inline put(at, one) {
      :: REFUSED; r=1
      fi
   fi }
-/* Marked::announce */
+/* LockedNode::enqueue */
 inline announce(at, one) { if :: READY(one) && !held[one] -> put(at, one); if :: r -> changed=1; r=0 :: else fi :: else fi }
 inline sends(at, one) { if :: st[one]==RUN || st[one]==WAIT -> transit[one]=1 :: else fi }
 inline notify_one() { /* any of those that wait */
@@ -134,7 +134,7 @@ inline notify_one() { /* any of those that wait */
 inline notify_all() { for (i : 0 .. NW-1) { waiting[i]=0 } }
 inline wake() { if :: sleepers>0 -> atomic { il==0 -> notify_one() } :: else fi }
 inline stop() { stopped=1; atomic { il==0 -> if :: NOS -> notify_one() :: else -> notify_all() fi; i=0 } }
-/* Runner: tries for the baton, and gives it back if it has it */
+/* RecentSlices: tries for the token, and gives it back if it has it */
 inline take_baton() { if :: !baton -> baton=1; has=1 :: else fi }
 inline give_baton() { if :: has -> baton=0; has=0 :: else fi }
 inline took(at, one) { queue[at]?one; times[one]--; if :: at==w && own>0 -> own-- :: else fi }
@@ -188,7 +188,7 @@ proctype worker(byte w) {
     fi };
   if :: r -> atomic { r=0; retry=1 } :: else fi;
   if :: p==0 -> goto turn_ :: else fi;
-  atomic { /* come_back: what the slice did, all of it open */
+  atomic { /* commit_locked: what the slice did, all of it open */
     q=0; apart=1; if :: few=0 :: few=1 fi;
     if :: skip :: select(q : 1 .. NP) fi;
     if :: q!=0 && q!=p && IS_AWAKE(q) -> put(w, q); if :: r -> r=0; changed=1 :: else -> own++ fi :: else fi;
@@ -216,7 +216,7 @@ proctype worker(byte w) {
     fi;
     if :: own>len(queue[w]) -> own=len(queue[w]) :: else fi;
     more=(!few && own>1); gives=(!few && has);
-    if :: few && !has -> tries=1 :: skip fi;                    /* many of few rows, one after another */
+    if :: few && !has -> tries=1 :: skip fi;                    /* many short ones, one after another */
     p=0; q=0; few=0; apart=0 };
   if :: isfull -> isfull=0; stop() :: else fi;
   if :: refused -> atomic { refused=0; retry=1 } :: else fi;

@@ -129,7 +129,7 @@ PIPES = {
     "pipe, monitors": (MONITORS, range(1, 18), ("served", "watch", "m")),
     "pipe, frames": (FRAMES, range(1, 2), "ft"),
 }
-# A story whose processes schedulers run: the last one is out, or about to be, when it is purged, and its slice is dropped.
+# A story whose processes schedulers run: the last one is checked out, or about to be, when it is purged, and its slice is dropped.
 SERVE = """
     load t.beam; spawn t:sum [4]; rest 1
     load g1.beam; break current:g:4:0; spawn g:a []; rest 2; load g2.beam; purge g; versions g

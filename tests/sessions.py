@@ -274,7 +274,7 @@ def count_of(written):
 
 
 def is_busy(program):
-    """Whether rows of a process that is out are refused as `Busy`, which `pipe` never answers."""
+    """Whether rows of a process that is checked out are refused as `Busy`, which `pipe` never answers."""
     session = Serve(program, 1)
     try:
         session.ask(["load", "s.beam"])
@@ -322,7 +322,7 @@ def main():
                 seen |= {f"reply {reply[4]}" if reply[4] not in (6, 7) else f"reply {reply[4]} {reply[5]}" for reply in replies}
                 of_cases, missed = of_cases + len(replies), missed + differs
         if not is_busy(given.beamnode):
-            missed.append("no steps of a process that is out were refused as Busy")
+            missed.append("no steps of a process that is checked out were refused as Busy")
         os.chdir(ROOT)
     wanted = [f"command {kind}" for kind in range(1, 19)] + [f"reply {kind}" for kind in (*range(6), 8)]
     wanted += [f"reply 6 {number}" for number in (2, 3, 4, 5, 7, 8, 9, 11, 12)] + [f"reply 7 {number}" for number in (1, 2, 3)]
