@@ -171,13 +171,13 @@ module _ (s : State) (pid : ℕ) (rows : Private) (h : AreRowsOf s pid rows) whe
           (subst (λ p. steps s pid (count + m) ≡ before count (steps (given p rows.sent) pid m)) (sym e.1.0)
           (subst (λ sent. steps s pid (count + m) ≡ before count (steps (given p sent) pid m)) (sym e.1.1) k))
 
-  -- the node after the rows and the node's row keeps what every `Steps` keeps
+  -- the node after the rows and the node's row preserves what every `Steps` preserves
   pub rows_keep : (P : State → Type 0) → ((s : State) (pid n : ℕ) → P s → P (next s (Steps pid n)).state) → P s → P (installed s pid (with_name_and_transit_of h.now rows)).state
   rows_keep P keeps p =
       let count : ℕ = rows.count + node_rows rows.end in
       subst P (steps_state s pid count ∙ ap (λ (r : Rows). r.state) (rows_next (node_rows rows.end))) (keeps s pid count p)
 
-  -- the node after the rows, before the node's row, keeps what every `Steps` keeps
+  -- the node after the rows, before the node's row, preserves what every `Steps` preserves
   pub rows_alone_keep : (P : State → Type 0) → ((s : State) (pid n : ℕ) → P s → P (next s (Steps pid n)).state) → P s → P (after_private s pid (with_name_and_transit_of h.now rows))
   rows_alone_keep P keeps p =
       let count : ℕ = rows.count + 0 in

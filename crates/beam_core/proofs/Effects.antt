@@ -95,7 +95,7 @@ module _ (code : Code) (old posted : Parts) (pid : ℕ) (rows : Private) (h : Ar
     taken : HavePids old.processes → node code put ≡ after_private (node code old) pid (with_name_and_transit_of h.now rows)
     taken = took_effect code old posted put pid h.now rows h.there lives told all posts puts
 
-    -- the node after the rows took effect keeps what every `Steps` keeps
+    -- the node after the rows took effect preserves what every `Steps` preserves
     pub effect_keeps : (P : State → Type 0) → ((s : State) (pid n : ℕ) → P s → P (next s (Steps pid n)).state) → HavePids old.processes → P (node code old) → P (node code put)
     effect_keeps P keeps pids kept = subst P (sym (taken pids)) (rows_alone_keep (node code old) pid rows h P keeps kept)
 
@@ -150,7 +150,7 @@ module _ (code : Code) (old posted : Parts) (pid : ℕ) (rows : Private) (h : Ar
           all_undone code old posted put pid h.now rows h.there lives told all posts puts (process_runs (node code old) pid rows h e) was done.1 now last new is (back made there).0
           (takes ∙ ap (λ ts. with_processes last (all_taken last.processes ts)) same_ts)
 
--- the node keeps what every `Steps` keeps
+-- the node preserves what every `Steps` preserves
 pub install_keeps : (P : State → Type 0) → ((s : State) (pid n : ℕ) → P s → P (next s (Steps pid n)).state) → (code : Code) (old new : Parts) (pid : ℕ) (rows : Private)
     → AreRowsOf (node code old) pid rows → (result : Result Then Refused) → IfOk result (λ after. Installed (node code old) pid rows after (node code new)) → OnErr result (new ≡ old)
     → P (node code old) → P (node code new)

@@ -52,7 +52,7 @@ halting_rows zero spots passes s pid = refl
 halting_rows (suc n) spots passes s pid =
     halts_rows spots passes s pid (λ t. halting spots false t pid n) (running (process_of s.processes pid)) refl (λ t. halting_rows n spots false t pid)
 
--- rows that stop before break spots keep what every `Steps` keeps
+-- rows that stop before break spots preserve what every `Steps` preserves
 halting_keeps : (P : State → Type 0) → ((s : State) (pid n : ℕ) → P s → P (next s (Steps pid n)).state)
     → (spots : List Place) (passes : Bool) (pid n : ℕ) (s : State) → P s → P (halting spots passes s pid n).rows.state
 halting_keeps P keeps spots passes pid n s p =

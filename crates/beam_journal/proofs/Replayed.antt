@@ -50,7 +50,7 @@ lawful_more = answers_more (undisturbed empty)
 pub replay_more : (es : List Entry) (e : Entry) → replay (es ++ e ∷ []) ≡ (debug_next (replay es) e.event).state
 replay_more = state_more (undisturbed empty)
 
--- ---- the part of an entry that is kept
+-- ---- the part of an entry that is stored
 
 answered_more : (d : Debugged) (ss : List SentEvent) (s : SentEvent)
     → answered_from d (ss ++ s ∷ []) ≡ answered_from d ss

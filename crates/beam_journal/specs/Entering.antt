@@ -38,7 +38,7 @@ abbrev pub takes_memory : Debugged → List (DebugEvent Listing) → Bool
 takes_memory d [] = false
 takes_memory d (event ∷ rest) = not (is_quiet_debug_event d event) || takes_memory (debug_next d event).state rest
 
--- ---- the part of an entry that is kept: all but the reply, which the events determine
+-- ---- the part of an entry that is stored: all but the reply, which the events determine
 
 pub record SentEvent : Type 0 where
   pub event : DebugEvent Listing

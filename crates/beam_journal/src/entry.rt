@@ -8,7 +8,7 @@ use std::mem::size_of;
 
 /// An event that the node accepted, and the seat that sent it. It takes 64 bytes, and 16 for each argument for which the list of a `Spawn`
 /// has capacity, as `Vec` makes it: four at least where there is one. Terms, atoms and images are shared with the node, not copied. The
-/// reply isn't kept: the events before it and this one determine it.
+/// reply isn't stored: the events before it and this one determine it.
 pub struct Entry {
     pub(crate) event: DebugEvent<Image>,
     pub(crate) seat: Option<u32>,

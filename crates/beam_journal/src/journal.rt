@@ -172,7 +172,7 @@ impl Journal {
     {
         match replayed(self.alloc, &self.entries) {
             Ok(node) => Ok(node),
-            // Where an event that is kept may take memory, so may the event of its entry.
+            // Where an event that is stored may take memory, so may the event of its entry.
             Err(refused) => Err(refused),
         }
     }

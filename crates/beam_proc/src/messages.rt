@@ -24,7 +24,7 @@ impl Process {
         }
     }
 
-    /// Whether the row of a place, to which a wait leads, finds a message at the save pointer: a wait that leads to itself looks at none.
+    /// Whether the row of a place, to which a wait leads, finds a message at the save pointer: a wait that leads to its own row finds none.
     fn finds_message(&self, place: Place) -> bool
         ensures { result ≡ finds_message self.now place }
     {

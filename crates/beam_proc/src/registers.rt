@@ -6,7 +6,7 @@ ghost use Rattle.beam_machine.specs.Process.{written_x};
 use beam_term::Term;
 use std::alloc::AllocError;
 
-/// Makes room for a register. Where memory is refused nothing changes.
+/// Reserves memory for a register. Where memory is refused nothing changes.
 pub fn reserve(x: &mut Vec<Term>, register: u32) -> Result<(), AllocError>
     ensures items { x.new.items ≡ x.old.items }
     ensures len { vec_len x.new ≡ vec_len x.old }
@@ -20,7 +20,7 @@ pub fn reserve(x: &mut Vec<Term>, register: u32) -> Result<(), AllocError>
     Ok(())
 }
 
-/// Adds `more` registers, which read `[]` and for which there is room.
+/// Adds `more` registers, which read `[]` and for which memory is reserved.
 #[tactic(auto, using(crate::proofs::Lists::padded_more))]
 fn pad(x: &mut Vec<Term>, more: usize)
     requires { vec_len x.old + more ≤ vec_capacity x.old }
@@ -33,7 +33,7 @@ fn pad(x: &mut Vec<Term>, more: usize)
     }
 }
 
-/// Writes a register for which there is room.
+/// Writes a register for which memory is reserved.
 pub fn write(x: &mut Vec<Term>, register: u32, value: Term)
     requires { register < vec_capacity x.old }
     ensures items { x.new.items ≡ written_x x.old.items register value }

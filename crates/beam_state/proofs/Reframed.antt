@@ -1,4 +1,4 @@
--- A native's answer doesn't look at the y registers of the process that asks.
+-- A native's answer doesn't depend on the y registers of the process that asks.
 use Rattle.std.proofs.Common.{◌≡◌, ℕ, zero, suc, ◌<◌, List, [], ◌∷◌, ◌++◌, length, slice_get, refl, sym, ap, ◌∙◌, arith}
 use Rattle.std.specs.Prelude.{Option, Some, None, slice_set}
 use Rattle.beam_term.specs.TermValue.{TermValue}

@@ -48,18 +48,18 @@ same_registered f names pids (p ∷ ps) name =
     ∙ (ap (λ k. cond (has_name name p.name) (Some k) rest) (pids 0 p)
     ∙ ap (λ o. cond (has_name name p.name) (Some p.pid) o) (same_registered (λ i. f (suc i)) (λ i. names (suc i)) (λ i. pids (suc i)) ps name))
 
--- the function changes neither a process's number nor its name, nor whether it lives, and doesn't look at its name
+-- the function changes neither a process's number nor its name, nor whether it lives, and doesn't depend on its name
 pub record Unseen (f : ℕ → Process → Process) : Type 0 where
   pub names : (i : ℕ) (p : Process) → (f i p).name ≡ p.name
   pub pids : (i : ℕ) (p : Process) → (f i p).pid ≡ p.pid
   pub stands : (i : ℕ) (p : Process) → is_ended (f i p).status ≡ is_ended p.status
   pub renamed : (i : ℕ) (p : Process) (name : Option (List ℕ)) → f i (record p { name = name }) ≡ record (f i p) { name = name }
 
--- the function doesn't look at the signals in transit to the process at that index
+-- the function doesn't depend on the signals in transit to the process at that index
 abbrev pub Posts : (ℕ → Process → Process) → ℕ → Type 0
 Posts f i = (p : Process) (signal : Signal) → f i (record p { transit = p.transit ++ signal ∷ [] }) ≡ record (f i p) { transit = (f i p).transit ++ signal ∷ [] }
 
--- the function doesn't look at the monitors of the process at that index
+-- the function doesn't depend on the monitors of the process at that index
 abbrev pub Watches : (ℕ → Process → Process) → ℕ → Type 0
 Watches f i = (p : Process) (m : MonitorValue) → f i (record p { monitors = p.monitors ++ m ∷ [] }) ≡ record (f i p) { monitors = (f i p).monitors ++ m ∷ [] }
 
