@@ -11,7 +11,7 @@ use crate::error::CheckError;
 use crate::functions::functions_of;
 use crate::signatures::{are_exports_distinct, are_functions_distinct};
 use crate::valid_operands::{
-    are_labels_lawful_where, are_limits_kept_where, are_natives_known_where, are_operands_valid,
+    are_labels_lawful_where, are_limits_met_where, are_natives_known_where, are_operands_valid,
 };
 use beam_model::function::Function;
 use beam_model::listing::Listing;
@@ -86,7 +86,7 @@ pub fn check(alloc: Global, listing: &Listing) -> Result<(), CheckError>
     if !are_natives_known_where(listing, valid) {
         return Err(CheckError::UnknownBif);
     }
-    if !are_limits_kept_where(listing, valid) {
+    if !are_limits_met_where(listing, valid) {
         return Err(CheckError::LimitExceeded);
     }
     if !frames(alloc, listing)? {

@@ -93,7 +93,7 @@ pub fn are_natives_known_where(listing: &Listing, valid: bool) -> bool
 
 /// Whether limits are kept, which needs no look where the operands are valid.
 #[tactic(auto, using(crate::proofs::ValidOperands::limits_of_valid))]
-pub fn are_limits_kept_where(listing: &Listing, valid: bool) -> bool
+pub fn are_limits_met_where(listing: &Listing, valid: bool) -> bool
     requires { valid ≡ are_operands_valid listing.now }
     ensures { result ≡ are_limits_met listing.now }
 {

@@ -4,7 +4,7 @@ use Rattle.beam_machine.specs.declared.process.Slot.{Slot}
 use Rattle.beam_machine.specs.Code.{Code}
 use Rattle.beam_machine.specs.Process.{Process}
 use Rattle.beam_machine.specs.View.{Location, NextView, at_row, entry, nowhere, FrameView, LiveView, View, live, over, frame_view, instruction_in, next_of, back_text, register_text, slot_text, ys_text}
-use Rattle.beam_debug.specs.declared.view.Location.{Location as TheStanding}
+use Rattle.beam_debug.specs.declared.view.Location.{Location as TheLocation}
 use Rattle.beam_debug.specs.declared.view.Next.{Next as TheNext}
 use Rattle.beam_debug.specs.declared.view.Next.TheVariants.{Row, Entry, Nothing}
 use Rattle.beam_debug.specs.declared.view.FrameView.{FrameView as TheFrameView}
@@ -12,7 +12,7 @@ use Rattle.beam_debug.specs.declared.view.LiveView.{LiveView as TheLiveView}
 use Rattle.beam_debug.specs.declared.view.View.{View as TheView}
 use Rattle.beam_debug.specs.declared.view.View.TheVariants.{Live, Over}
 
-abbrev pub location_seen : TheStanding → Location
+abbrev pub location_seen : TheLocation → Location
 location_seen s = record { function = s.function; label = s.label; rows = s.rows; instance = s.instance }
 
 abbrev pub next_seen : TheNext → NextView

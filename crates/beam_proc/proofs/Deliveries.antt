@@ -14,7 +14,7 @@ use Rattle.beam_model.specs.Exception.{around}
 use Rattle.beam_machine.specs.Process.{Process, ended, is_ended, killed, monitor_of, without_monitor}
 use Rattle.beam_machine.specs.Next.{delivered, received, notified, signalled, down_term}
 use Rattle.beam_mailbox.specs.Messages.{messages_of}
-use Rattle.beam_proc.specs.Deliveries.{ends_by, this_reason, ending, is_down, left_by, added, arriving, woken, with_arrivals, received_all}
+use Rattle.beam_proc.specs.Deliveries.{ends_by, this_reason, ending, is_down, left_by, added, arriving, woken, with_delivered, received_all}
 
 pub append_none : (ts : List TermValue) → ts ++ [] ≡ ts
 append_none [] = refl
@@ -63,7 +63,7 @@ woken_running [] = refl
 woken_running (t ∷ ts) = refl
 
 -- one message more before the others
-told_first : (p : Process) (t : TermValue) (ts : List TermValue) (ms : List Monitor) → with_arrivals (received p t) ts ms ≡ with_arrivals p (t ∷ ts) ms
+told_first : (p : Process) (t : TermValue) (ts : List TermValue) (ms : List Monitor) → with_delivered (received p t) ts ms ≡ with_delivered p (t ∷ ts) ms
 told_first p t ts ms =
     ap (λ s. record p { mailbox = record p.mailbox { messages = (p.mailbox.messages ++ t ∷ []) ++ ts }; status = s; monitors = ms }) (woken_running ts)
     ∙ ap (λ l. record p { mailbox = record p.mailbox { messages = l }; status = Running; monitors = ms }) (append_assoc p.mailbox.messages (t ∷ []) ts)
@@ -111,13 +111,13 @@ exit_first p None later sender reason rest h = h ∙ same_exit p later sender re
 
 -- a process after a DOWN and further signals, by the monitor that was found
 abbrev with_found : Process → TermValue → List Monitor → List Signal → Option Monitor → Process
-with_found p reason ms rest found = with_arrivals p (added (option_map (λ m. around (down_term m) reason) found) (arriving ms rest)) (fold left_by ms rest)
+with_found p reason ms rest found = with_delivered p (added (option_map (λ m. around (down_term m) reason) found) (arriving ms rest)) (fold left_by ms rest)
 
 unheard : (p : Process) (n : ℕ) (reason : TermValue) (rest : List Signal) (end : Option TermValue) → monitor_of n p.monitors ≡ None
     → received_all p end rest ≡ received_all p end (Down n reason ∷ rest)
 unheard p n reason rest (Some r) e = refl
 unheard p n reason rest None e =
-    ap (λ ms. with_arrivals p (arriving ms rest) (fold left_by ms rest)) (sym (none_left n p.monitors e))
+    ap (λ ms. with_delivered p (arriving ms rest) (fold left_by ms rest)) (sym (none_left n p.monitors e))
     ∙ ap (with_found p reason (without_monitor n p.monitors) rest) (sym e)
 
 heard : (p : Process) (n : ℕ) (reason : TermValue) (rest : List Signal) (end : Option TermValue) (m : Monitor) → monitor_of n p.monitors ≡ Some m

@@ -70,10 +70,10 @@ woken [] status = status
 woken (t ∷ ts) status = Running
 
 -- a process with more messages, and with other monitors
-abbrev pub with_arrivals : Process → List TermValue → List Monitor → Process
-with_arrivals p ts ms = record p { mailbox = with_messages p.mailbox ts; status = woken ts p.status; monitors = ms }
+abbrev pub with_delivered : Process → List TermValue → List Monitor → Process
+with_delivered p ts ms = record p { mailbox = with_messages p.mailbox ts; status = woken ts p.status; monitors = ms }
 
 -- the process after the signals: it has ended with this reason, or has their messages
 abbrev pub received_all : Process → Option TermValue → List Signal → Process
 received_all p (Some reason) signals = ended p reason nil_term
-received_all p None signals = with_arrivals p (arriving p.monitors signals) (fold left_by p.monitors signals)
+received_all p None signals = with_delivered p (arriving p.monitors signals) (fold left_by p.monitors signals)

@@ -26,12 +26,12 @@ abbrev pub input_of : List Text → Option Text
 input_of words = first_of (codes "in") (matches_of dis_app words)
 
 -- the text of the listing that the file of that name spells
-abbrev pub IsTextOf : Contents → Text → List ℕ → Type 0
-IsTextOf files name text = (l : Listing) × IsFileOf files name l × (text ≡ listing_text l)
+abbrev pub IsListingTextOf : Contents → Text → List ℕ → Type 0
+IsListingTextOf files name text = (l : Listing) × IsFileOf files name l × (text ≡ listing_text l)
 
 -- the words name a file, and this is the text of its listing
 abbrev pub AsksFor : Contents → List Text → List ℕ → Type 0
-AsksFor files words text = (name : Text) × (input_of words ≡ Some name) × IsTextOf files name text
+AsksFor files words text = (name : Text) × (input_of words ≡ Some name) × IsListingTextOf files name text
 
 -- why the file of that name has no text: its bytes are refused; a failed device and an allocation failure imply nothing
 abbrev pub IsNotListed : Contents → Text → FileFaultKind → Type 0

@@ -5,7 +5,7 @@ ghost use Rattle.clap.specs.Walk.{texts};
 ghost use Rattle.beam_print.specs.Begun.{IsBegun};
 ghost use Rattle.beam_model.specs.ListingText.{listing_text};
 ghost use Rattle.beam_tools.specs.Call.{IsFileOf};
-ghost use Rattle.beam_tools.specs.Dis.{FaultSays, FileSays, IsDone, IsNotListed, IsTextOf, Leaves, Prints, StopsPrinting};
+ghost use Rattle.beam_tools.specs.Dis.{FaultSays, FileSays, IsDone, IsNotListed, IsListingTextOf, Leaves, Prints, StopsPrinting};
 ghost use Rattle.beam_tools.specs.Fault.{status_of};
 ghost use Rattle.beam_tools.specs.Report.{IsReported};
 ghost use Rattle.beam_tools.specs.declared.fault.RunFault.{RunFault as TheFault};
@@ -67,10 +67,10 @@ fn print_file<'a, F: Files, O: Write>(
     files: &mut F,
     output: &mut O,
 ) -> Result<(), RunFault<'a>>
-    ensures printed { OnOk result ((text : List ℕ) × IsTextOf (F.contents files.old) name.entry.now text
+    ensures printed { OnOk result ((text : List ℕ) × IsListingTextOf (F.contents files.old) name.entry.now text
         × Appends (O.contents output.old) (O.contents output.new) text) }
     ensures fault { IfErr result (FileSays (F.contents files.old) name.entry.now) }
-    ensures left { IfErr result (λ f. Leaves O.contents (IsTextOf (F.contents files.old) name.entry.now) f output.old output.new) }
+    ensures left { IfErr result (λ f. Leaves O.contents (IsListingTextOf (F.contents files.old) name.entry.now) f output.old output.new) }
     ensures unwritten { F.written files.new ≡ F.written files.old }
 {
     match listing_of(alloc, files, name) {

@@ -2,7 +2,7 @@
 
 use beam_bif::built_in::built_in_of;
 use beam_check::error::CheckError;
-use beam_check::limits::{are_limits_kept, are_operands_within};
+use beam_check::limits::{are_limits_met, are_operands_within};
 use beam_genop::kinds;
 use beam_model::function::Export;
 use beam_model::instruction::{Argument, Instruction, Operand};
@@ -345,7 +345,7 @@ impl<'a> ListingScan<'a> {
 
     // Where no other part is refused: adds the instruction at which the listing is found not to be framed, if there is one.
     fn scan_frames(&mut self, alloc: Global) {
-        if self.parts.is_empty() && are_limits_kept(self.listing) {
+        if self.parts.is_empty() && are_limits_met(self.listing) {
             match find_mismatch(alloc, self.listing) {
                 Ok(Some(first)) => self.add(mismatch_part(first)),
                 Ok(None) => {}

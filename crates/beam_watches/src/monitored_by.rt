@@ -21,9 +21,9 @@ pub(crate) struct OriginList {
 
 impl Model for OriginList {
     ghost use Rattle.std.specs.Prelude.{List};
-    ghost use Rattle.beam_watches.specs.declared.monitored_by.MonitorOrigin.{MonitorOrigin as TheWatch};
+    ghost use Rattle.beam_watches.specs.declared.monitored_by.MonitorOrigin.{MonitorOrigin as TheOrigin};
 
-    ghost Value = { List TheWatch };
+    ghost Value = { List TheOrigin };
 
     ghost view = { λ l. l.items.items };
 }
@@ -47,9 +47,9 @@ impl Drop for MonitoredBy {
 
 impl Model for MonitoredBy {
     ghost use Rattle.std.specs.Prelude.{ℕ, List};
-    ghost use Rattle.beam_watches.specs.declared.monitored_by.MonitorOrigin.{MonitorOrigin as TheWatch};
+    ghost use Rattle.beam_watches.specs.declared.monitored_by.MonitorOrigin.{MonitorOrigin as TheOrigin};
 
-    ghost Value = { List (ℕ × List TheWatch) };
+    ghost Value = { List (ℕ × List TheOrigin) };
 
     ghost view = { λ w. w.lists.entries };
 }

@@ -1,7 +1,7 @@
 use Rattle.std.proofs.Common.{inl, inr}
 use Rattle.std.proofs.lemmas.Result.{IfErr-weaker}
 use Rattle.clap.specs.Walk.{texts}
-use Rattle.beam_tools.specs.Dis.{FaultSays, IsTextOf, Prints, dis_app}
+use Rattle.beam_tools.specs.Dis.{FaultSays, IsListingTextOf, Prints, dis_app}
 use Rattle.beam_tools.specs.Files.{Contents}
 use Rattle.beam_tools.specs.Lines.{IsAnswer, LineFault}
 use Rattle.beam_tools.specs.declared.program.Program.TheVariants.{Disassembler}
@@ -18,7 +18,7 @@ pub returns-in-Ok-clause-left : goal.returns-in-Ok-clause-left
 returns-in-Ok-clause-left g c =
     let files : Contents = g.F.Files.contents c.args.files.now in
     let words = texts c.args.words.now in
-    dis_left_more g.O.Write.contents (IsTextOf files c.in-Ok.name.now) (Prints files words) c.print_file.result c.args.output.now c.print_file.new.output
+    dis_left_more g.O.Write.contents (IsListingTextOf files c.in-Ok.name.now) (Prints files words) c.print_file.result c.args.output.now c.print_file.new.output
     (λ t h. inl (c.in-Ok.name.now, c.in-Ok.ensures.told, h)) c.print_file.ensures.left
 
 pub returns-in-Err-clause-done : goal.returns-in-Err-clause-done

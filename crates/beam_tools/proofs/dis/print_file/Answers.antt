@@ -1,6 +1,6 @@
 use Rattle.std.proofs.Common.{refl}
 use Rattle.beam_model.specs.ListingText.{listing_text}
-use Rattle.beam_tools.specs.Dis.{IsTextOf}
+use Rattle.beam_tools.specs.Dis.{IsListingTextOf}
 use Rattle.beam_tools.specs.Files.{Contents}
 use Rattle.beam_tools.proofs.Left.{dis_left_begun, stops_says, unlisted}
 use Rattle.beam_tools.proofs.Stops.{done_more}
@@ -17,9 +17,9 @@ returns-in-Ok-clause-fault g c =
 pub returns-in-Ok-clause-left : goal.returns-in-Ok-clause-left
 returns-in-Ok-clause-left g c =
     let files : Contents = g.F.Files.contents c.args.files.now in
-    dis_left_begun g.O.Write.contents (IsTextOf files c.args.name.now) c.args.name.now c.print_listing.result c.args.output.now c.print_listing.new.output
+    dis_left_begun g.O.Write.contents (IsListingTextOf files c.args.name.now) c.args.name.now c.print_listing.result c.args.output.now c.print_listing.new.output
     (listing_text c.in-Ok.listing) (c.in-Ok.listing, c.in-Ok.ensures.listing, refl) c.print_listing.ensures.fault c.print_listing.ensures.begun
 
 pub returns-in-Err-clause-left : goal.returns-in-Err-clause-left
 returns-in-Err-clause-left g c =
-    unlisted g.O.Write.contents (IsTextOf (g.F.Files.contents c.args.files.now) c.args.name.now) c.in-Err.why c.args.output.now c.in-Err.ensures.unprinted
+    unlisted g.O.Write.contents (IsListingTextOf (g.F.Files.contents c.args.files.now) c.args.name.now) c.in-Err.why c.args.output.now c.in-Err.ensures.unprinted
