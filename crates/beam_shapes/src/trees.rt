@@ -48,7 +48,7 @@ impl Model for Trees {
 
 /// The number of a label, which is added if it is new. `AllocError` if memory is refused or 2^32 - 1 labels are there.
 fn intern_label(labels: &mut IndexSet<u32>, label: u32) -> Result<u32, AllocError>
-    ensures kept { IfOk result (λ n. IsInterned label labels.old.keys labels.new.keys n) }
+    ensures interned { IfOk result (λ n. IsInterned label labels.old.keys labels.new.keys n) }
     ensures err { OnErr result (labels.new.keys ≡ labels.old.keys) }
 {
     if labels.len() >= u32::MAX as usize {
@@ -62,7 +62,7 @@ fn intern_label(labels: &mut IndexSet<u32>, label: u32) -> Result<u32, AllocErro
 
 /// The number of halves, which are added if they are new. `AllocError` if memory is refused or 2^32 - 1 halves are there.
 fn intern_halves(halves: &mut IndexSet<Halves>, both: Halves) -> Result<u32, AllocError>
-    ensures kept { IfOk result (λ n. IsInterned both halves.old.keys halves.new.keys n) }
+    ensures interned { IfOk result (λ n. IsInterned both halves.old.keys halves.new.keys n) }
     ensures err { OnErr result (halves.new.keys ≡ halves.old.keys) }
 {
     if halves.len() >= u32::MAX as usize {

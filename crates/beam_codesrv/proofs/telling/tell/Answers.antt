@@ -12,14 +12,14 @@ returns-then-not-one_is_monitored-clause-told c =
     let ps = c.args.processes.now in
     none_told test ps (sym (one_is_monitored test ps c.requires) ∙ (sym c.one_is_monitored.ensures ∙ c.if-not-one_is_monitored.true))
 
-pub returns-in_err-sent-clause-watched : goal.returns-in_err-sent-clause-watched
-returns-in_err-sent-clause-watched c =
+pub returns-in_err-sent-clause-monitored : goal.returns-in_err-sent-clause-monitored
+returns-in_err-sent-clause-monitored c =
     let test = lingers_in c.args.old in
     let ps = c.args.processes.now in
     on_err c.from_residual.result (sym (one_is_monitored test ps c.requires) ∙ (sym c.one_is_monitored.ensures ∙ c.if-not-one_is_monitored.false))
 
-pub returns-in_err-post_all-clause-watched : goal.returns-in_err-post_all-clause-watched
-returns-in_err-post_all-clause-watched c =
+pub returns-in_err-post_all-clause-monitored : goal.returns-in_err-post_all-clause-monitored
+returns-in_err-post_all-clause-monitored c =
     let test = lingers_in c.args.old in
     let ps = c.args.processes.now in
     on_err c.from_residual-in_err-post_all.result (sym (one_is_monitored test ps c.requires) ∙ (sym c.one_is_monitored.ensures ∙ c.if-not-one_is_monitored.false))
