@@ -214,7 +214,7 @@ impl CodeTable {
     }
 }
 
-/// The count of instances with these images, if there can be as many.
+/// The count of instances with these images, if there can be so many.
 fn count_after(count: u32, images: &[Image]) -> Option<u32>
     ensures { MatchOption result (2 ^ 32 ≤ count + length images.now) (λ sum. sum ≡ count + length images.now) }
 {
