@@ -266,7 +266,7 @@ fn queues_of(line: &Serve) -> usize {
 }
 
 /// Serves the connections to a listener with a new node, and closes the node. `Mismatch` where the thread contexts aren't all of the
-/// node's.
+/// node's, `ProcessesOut` where a worker didn't commit a process that it had checked out.
 fn serve_node<
     'l,
     F: Files,
@@ -295,11 +295,14 @@ fn serve_node<
     let ended = run(
         rt, alloc, &shared, &acceptor, files, line, contexts, &mut parts,
     );
-    let is_closed = is_closed(rt, alloc, shared.into_node(), parts);
+    let node = shared.into_node();
+    let are_all_in = node.checked_out_count() == 0;
+    let is_closed = is_closed(rt, alloc, node, parts);
     match ended {
         Err(fault) => Err(fault),
-        Ok(()) if is_closed => Ok(()),
-        Ok(()) => Err(JobFault::Mismatch),
+        Ok(()) if !is_closed => Err(JobFault::Mismatch),
+        Ok(()) if !are_all_in => Err(JobFault::ProcessesOut),
+        Ok(()) => Ok(()),
     }
 }
 
