@@ -64,13 +64,7 @@ fn contexts_of<'l, B: NodeBrand + QueueBrand>(
 }
 
 /// Loads the files and starts the process of the line, and prints the address on the console.
-fn start_up<
-    'l,
-    F: Files,
-    B: NodeBrand + QueueBrand,
-    R: Wait + Log + AllocGlobal,
-    C: Print,
->(
+fn start_up<'l, F: Files, B: NodeBrand + QueueBrand, R: Wait + Log + AllocGlobal, C: Print>(
     console: &C,
     alloc: Global,
     files: &mut F,
