@@ -94,8 +94,8 @@ fn behind_a_held_one(alloc: Global) -> Scenario {
     Scenario::until(alloc, first, Wanted::End(2))
 }
 
-/// Slices count as milliseconds. The first process never ends and never waits, so one is always in the worker's queue. Two others sleep,
-/// for 20 and for 100 slices: the second deadline comes after the scan that finds the first one.
+/// Slices count as milliseconds. The first process never ends and never waits, so the worker's queue is never empty. Two others sleep, for
+/// 20 and for 100 slices: the second deadline comes after the scan that finds the first one.
 fn beside_one_that_computes(alloc: Global) -> Scenario {
     let first = endless(alloc, 1)
         .load(SLEEP)
