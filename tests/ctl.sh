@@ -26,6 +26,25 @@ cp "$root"/examples/t.{beam,S} .
 "$as" "$root/examples/v1/shop.S" shop.beam && "$as" "$root/examples/v2/shop.S" shop2.beam || exit 1
 "$as" "$root/examples/counter.S" counter.beam || exit 1
 printf '{module,erlang}.\n{exports,[]}.\n{attributes,[]}.\n{labels,1}.\n' >erlang.S && "$as" erlang.S erlang.beam || exit 1
+# hold(N, X) puts X into two places of a tuple, that into two of another, and so N times; it keeps the last tuple, and answers
+# {From, Question} with the question. leave(N, X) ends with that tuple as its reason.
+cat >grow.S <<'LISTING'
+{module,grow}. {exports,[{hold,2},{leave,2}]}. {attributes,[]}. {labels,10}.
+{function,hold,2,2}. {label,1}. {func_info,{atom,grow},{atom,hold},2}.
+{label,2}. {test,is_eq_exact,{f,6},[{x,0},{integer,0}]}. {allocate,1,2}. {move,{x,1},{y,0}}. {move,{integer,0},{x,1}}.
+{label,3}. {loop_rec,{f,5},{x,0}}. {test,is_tuple,{f,4},[{x,0}]}. {test,test_arity,{f,4},[{x,0},2]}. remove_message.
+{get_tuple_element,{x,0},1,{x,1}}. {get_tuple_element,{x,0},0,{x,0}}. send.
+{move,{y,0},{x,1}}. {move,{integer,0},{x,0}}. {call_last,2,{f,2},1}.
+{label,4}. {loop_rec_end,{f,3}}.
+{label,5}. {wait,{f,3}}.
+{label,6}. {gc_bif,'-',{f,0},2,[{x,0},{integer,1}],{x,0}}. {test_heap,3,2}. {put_tuple2,{x,1},{list,[{x,1},{x,1}]}}. {call_only,2,{f,2}}.
+{function,leave,2,8}. {label,7}. {func_info,{atom,grow},{atom,leave},2}.
+{label,8}. {test,is_eq_exact,{f,9},[{x,0},{integer,0}]}. {move,{x,1},{x,0}}. {call_ext_only,1,{extfunc,erlang,exit,1}}.
+{label,9}. {gc_bif,'-',{f,0},2,[{x,0},{integer,1}],{x,0}}. {test_heap,3,2}. {put_tuple2,{x,1},{list,[{x,1},{x,1}]}}. {call_only,2,{f,8}}.
+LISTING
+"$as" grow.S grow.beam || exit 1
+# Grown sixteen times these are 16 MB of text.
+leaf=$(printf 'a%.0s' {1..250})
 head -c 20 t.beam >cut.beam
 printf '\x1f\x8b\x08' >packed.beam
 head -c 8388608 /dev/zero >large.beam
@@ -55,6 +74,16 @@ start() {
 start
 
 ctl() { python3 "$root/clients/beamctl.py" --port "$port" "$@"; }
+
+# occupied SECONDS WORD..: the node's only place is taken for so long, and beamctl tries.
+occupied() {
+    local seconds=$1
+    shift
+    exec 9<>"/dev/tcp/127.0.0.1/$port"
+    (sleep "$seconds") 9<&9 &
+    exec 9>&-
+    ctl "$@"
+}
 
 # held PID: waits until the process is held.
 held() {
@@ -528,9 +557,18 @@ beamctl: an atom has at most 255 characters
 $ ctl versions $'\xff'
 beamctl: '\udcff' is no UTF-8
 (status 2)
-$ ctl --timeout 0 ps 2>&1 | tail -1
-beamctl: argument --timeout: invalid seconds value: '0'
+$ ctl --timeout -1 ps 2>&1 | tail -1
+beamctl: argument --timeout: -1 is neither seconds nor none
 (status 2)
+$ ctl --timeout soon ps 2>&1 | tail -1
+beamctl: argument --timeout: soon is neither seconds nor none
+(status 2)
+$ ctl top --interval 0 2>&1 | tail -1
+beamctl: argument --interval: invalid seconds value: '0'
+(status 2)
+$ ctl --timeout 0 versions nothing; ctl versions nothing --timeout none
+current none, old none
+current none, old none
 $ ctl unknown 2>&1 | cut -c 1-50 | tail -1
 beamctl: argument COMMAND: invalid choice: 'unknow
 (status 2)
@@ -568,6 +606,38 @@ true
 $ ctl call erlang:demonitor '[a]'
 beamctl: error: badarg
 (status 3)
+
+# ---- Processes that are too long to show
+$ ctl load grow.beam
+$ ctl spawn grow:hold "[16,$leaf]"
+$ ctl spawn grow:hold '[0,small]'
+$ ctl inspect 44
+$ ctl ask 44 hello
+$ ctl --timeout 0.2 wait 44
+$ ctl ps
+$ ctl --json ps
+$ ctl top --count 1 | grep .
+$ ctl register grown 44
+$ ctl ask --timeout none grown hello
+$ ctl lingers grow
+$ ctl load grow.beam
+$ ctl lingers grow
+$ ctl --json lingers grow
+$ ctl kill 44
+$ ctl wait 44
+$ ctl lingers grow
+$ ctl spawn grow:leave "[16,$leaf]"
+$ ctl wait 50
+$ ctl --json wait 50
+$ ctl kill 50
+$ ctl call grow:leave "[16,$leaf]"
+$ ctl ps --all --last 2
+
+# ---- The only place is taken
+$ occupied 2 --timeout 0.2 load t.beam
+$ occupied 2 --timeout 0.2 --json load t.beam
+$ occupied 1 versions t
+$ occupied 1 --timeout none versions t
 END_OF_LINES
 compare
 

@@ -1,6 +1,7 @@
 #!/usr/bin/env python3
-"""What clients/beamctl.py makes of replies: each refusal, frame error and fault of a file by its number, and replies that are
-no replies, at each command. A small server in this process gives them. Prints how many hold; status 1 names what doesn't."""
+"""What clients/beamctl.py makes of replies: each refusal, frame error and fault of a file by its number, replies that are no
+replies, and none at all, at each command and as the first reply of a connection. A small server in this process gives them.
+Prints how many hold; status 1 names what doesn't."""
 
 import contextlib
 import io
@@ -21,10 +22,13 @@ FILE = os.path.join(ROOT, "examples", "t.beam")
 
 
 class Answers:
-    """A server whose answer to each frame is what `reply` gives of the frame's kind."""
+    """A server whose answer to each frame is what `reply` gives of the frame's kind; to the first one of a connection it is what
+    `first` gives of how many connections there were. None is no answer."""
 
     def __init__(self):
         self.reply = lambda kind: b""
+        self.first = lambda connections: REFUSED
+        self.connections = 0
         self.listener = socket.create_server(("127.0.0.1", 0))
         self.port = self.listener.getsockname()[1]
         threading.Thread(target=self.serve, daemon=True).start()
@@ -32,12 +36,17 @@ class Answers:
     def serve(self):
         while True:
             connection, _ = self.listener.accept()
+            self.connections += 1
             with connection, contextlib.suppress(OSError), connection.makefile("rb") as frames:
-                while length := int.from_bytes(frames.read(4), "big"):
-                    answer = self.reply(frames.read(length)[0])
-                    connection.sendall(answer)
-                    if not whole(answer) or answer[4] == 7:
-                        break
+                first = frames.read(len(FIRST))
+                goes_on = first != FIRST or self.give(connection, self.first(self.connections))
+                while goes_on and (length := int.from_bytes(frames.read(4), "big")):
+                    goes_on = self.give(connection, self.reply(frames.read(length)[0]))
+
+    def give(self, connection, answer):
+        """Whether the connection goes on after the answer."""
+        connection.sendall(answer or b"")
+        return answer is None or whole(answer) and answer[4] != 7
 
 
 def whole(answer: bytes) -> bool:
@@ -48,11 +57,11 @@ def frame(*body: int) -> bytes:
     return struct.pack(">I", len(body)) + bytes(body)
 
 
-def control(port: int, words: list[str], timeout: str) -> tuple[object, str]:
+def control(port: int, words: list[str], timeout: str | None) -> tuple[object, str]:
     """The status, and what is printed; a traceback, if there is one."""
     printed = io.StringIO()
     printed.reconfigure = lambda **_: None
-    sys.argv = ["beamctl.py", "--port", str(port), "--timeout", timeout, *words]
+    sys.argv = ["beamctl.py", "--port", str(port), *(["--timeout", timeout] if timeout else []), *words]
     with contextlib.redirect_stdout(printed), contextlib.redirect_stderr(printed):
         try:
             status = beamctl.main()
@@ -61,6 +70,9 @@ def control(port: int, words: list[str], timeout: str) -> tuple[object, str]:
     return status, printed.getvalue()
 
 
+# Resume of process 0, by which each connection has to begin.
+FIRST = frame(14, 0, 0, 0, 0)
+REFUSED = frame(6, 2)
 COMMANDS = [
     ["load", FILE], ["load", "--strict", FILE], ["atomic", FILE, FILE], ["delete", "t"], ["soft_purge", "t"], ["purge", "t"], ["versions", "t"],
     ["spawn", "t:sum", "[4]"], ["send", "1", "a"], ["steps", "1", "1"], ["deliver", "1"], ["clock", "1"], ["timeout", "1"],
@@ -108,8 +120,8 @@ def main() -> int:
 
     for words in COMMANDS:
         for number, name in REFUSALS.items():
-            # ps and top ask for processes until there is none.
-            if not (name == "NoProcess" and words[0] in ("ps", "top")):
+            # ps and top ask for processes until there is none, wait asks until the process has ended.
+            if not (name == "NoProcess" and words[0] in ("ps", "top") or name in beamctl.STATES and words[0] == "wait"):
                 check_text(words, frame(6, number), name)
     for (layer, number), name in FILE_FAULTS.items():
         check_text(["load", FILE], frame(6, 12, layer, number), f"BadFile: {name} ({layer},{number})")
@@ -128,8 +140,42 @@ def main() -> int:
                 kind, frame(beamctl_reply(kind), *random.randbytes(random.randrange(12))))
             found = control(server.port, words, "0.05")
             check(f"{words[0]} of {replies}", found[0] in (0, 1, 3), found)
+    for name, (found, wanted) in without_replies(server).items():
+        check(name, found == wanted, found)
     print(f"ctl_replies: {count - failed} of {count} hold")
     return int(failed > 0)
+
+
+NO_REPLY = "beamctl: no reply within 0.05 seconds: it may still be done\n"
+NO_PLACE = "beamctl: no first reply within 0.05 seconds: nothing was sent that changes anything. All places may be taken\n"
+
+
+def without_replies(server: Answers) -> dict[str, tuple[object, object]]:
+    """By what is tried: what comes where a reply, or the first one, doesn't come, and what has to come."""
+    checks = {}
+    server.reply = lambda kind: None
+    for words in COMMANDS:
+        checks[f"{words[0]} without a reply"] = control(server.port, words, "0.05"), (1, NO_REPLY)
+    checks["--json without a reply"] = control(server.port, ["--json", "ps"], "0.05"), (1, '{"error": "NoReply"}\n')
+    server.first = lambda connections: None
+    for words in COMMANDS:
+        checks[f"{words[0]} without a first reply"] = control(server.port, words, "0.05"), (1, NO_PLACE)
+    checks["--json without a first reply"] = control(server.port, ["--json", "ps"], "0.05"), (1, '{"error": "NoPlace"}\n')
+
+    server.reply = lambda kind: frame(5, 0, 0, 0, 1, 0, 0, 0, 2)
+    for reply in [*BROKEN, frame(7, 2), frame(0)]:
+        server.first = lambda connections: reply
+        status = 0 if reply[4:5] == b"\6" else 1
+        checks[f"a first reply {reply[:40].hex(' ')}"] = control(server.port, ["versions", "t"], "0.05")[0], status
+
+    # A process that waits, then two connections without a first reply, then it has ended.
+    begun = server.connections
+    server.first = lambda connections: None if 1 < connections - begun < 4 else REFUSED
+    server.reply = lambda kind: (
+        frame(6, 4) if server.connections == begun + 1 else REFUSED if kind == 8 else frame(4, *b"pid 1 ended normal\n"))
+    beamctl.SECONDS_FOR_A_REPLY = 0.05
+    checks["wait without a place meanwhile"] = control(server.port, ["wait", "1"], None), (0, "<0.1.0> ended normal\n")
+    return checks
 
 
 def beamctl_reply(kind: int) -> int:
