@@ -343,28 +343,28 @@ class Client:
         return low
 
     def views(self, numbers: Sequence[int]) -> Iterator[dict | None]:
-        """The views of processes; None for a process that was never started. A view that is too long ends the node's session, and
-        those after it come over a new one."""
+        """The views of processes; None for a process that was never started. Of one whose view is too long it is the pid, with None for
+        the state. The node ends the session then, and those after it come over a new one."""
         frames = ((16, number.to_bytes(4, "big")) for number in numbers)
         for number, reply in zip(numbers, self.session.ask_all(frames, may_repeat=True)):
             try:
                 yield answer(16, reply).value
             except Failed as fault:
                 if fault.error == FRAME_ERRORS[1]:
-                    yield {"pid": pid_text(number), "state": TOO_LONG}
+                    yield {"pid": pid_text(number), "state": None}
                 elif fault.error == REFUSALS[2]:
                     yield None
                 else:
                     raise
 
     def look(self, numbers: Sequence[int]) -> list[tuple[int, dict]]:
-        """The processes that were started, with their views. Of one whose view is too long it has the pid, the state, and that text in
-        place of its place or reason."""
+        """The processes that were started, with their views. Of one whose view is too long it has the pid, the state, and None for where
+        it is or why it ended."""
         found = [(number, seen) for number, seen in zip(numbers, self.views(numbers)) if seen]
         for number, seen in found:
-            if seen["state"] == TOO_LONG:
+            if seen["state"] is None:
                 seen["state"] = self.state(number.to_bytes(4, "big"))
-                seen["reason" if seen["state"] == "ended" else "at"] = TOO_LONG
+                seen["reason" if seen["state"] == "ended" else "at"] = None
         return found
 
 
@@ -480,8 +480,12 @@ def spot_text(client: Client, given) -> str:
 COLUMNS = [("PID", "pid"), ("STATE", "state"), ("MAILBOX", "mailbox"), ("TRANSIT", "transit"), ("AT", "at")]
 
 
+def cell(value: object) -> str:
+    return TOO_LONG if value is None else str(value)
+
+
 def table(columns: list[tuple[str, str]], seen: list[dict]) -> str:
-    rows = [[title for title, _ in columns], *([str(line.get(key, "")) for _, key in columns] for line in seen)]
+    rows = [[title for title, _ in columns], *([cell(line.get(key, "")) for _, key in columns] for line in seen)]
     widths = [max(map(len, column)) for column in zip(*rows)]
     return "\n".join("  ".join(map(str.ljust, row, widths)).rstrip() for row in rows)
 
@@ -501,9 +505,10 @@ def ps(client: Client, given):
 
 
 def may_linger(seen: dict, instance: int) -> bool:
-    """Whether a live process's place or a frame's return place lies in that instance. It may, if they are too long to show."""
-    places = [seen["at"], *(frame["return"] for frame in seen.get("frames", ()))]
-    return seen["at"] == TOO_LONG or any(place.endswith(f" instance {instance}") for place in places)
+    """Whether a live process's place or a frame's return place lies in that instance. They may, if they are too long to show."""
+    if seen["at"] is None:
+        return True
+    return any(place.endswith(f" instance {instance}") for place in [seen["at"], *(frame["return"] for frame in seen["frames"])])
 
 
 def lingers(client: Client, given):

@@ -607,37 +607,82 @@ $ ctl call erlang:demonitor '[a]'
 beamctl: error: badarg
 (status 3)
 
-# ---- Processes that are too long to show
+# ---- Processes that are too long to show: 45, and 51, which ends so; 46 is a short one
 $ ctl load grow.beam
+current 18, old none
 $ ctl spawn grow:hold "[16,$leaf]"
+<0.45.0>
 $ ctl spawn grow:hold '[0,small]'
-$ ctl inspect 44
-$ ctl ask 44 hello
-$ ctl --timeout 0.2 wait 44
+<0.46.0>
+$ ctl inspect 45
+beamctl: TooLong
+(status 1)
+$ ctl ask 45 hello
+hello
+$ ctl --timeout 0.2 wait 45
+beamctl: <0.45.0> hasn't ended within 0.2 seconds
+(status 1)
 $ ctl ps
-$ ctl --json ps
+PID       STATE    MAILBOX  TRANSIT  AT
+<0.45.0>  waiting                    too long to show
+<0.46.0>  waiting  0        0        grow:hold/2 label 3 + 0 instance 18
+$ ctl --json ps --last 3 2>/dev/null | cut -c 1-106
+[{"pid": "<0.45.0>", "state": "waiting", "at": null}, {"pid": "<0.46.0>", "state": "waiting", "at": "grow:
 $ ctl top --count 1 | grep .
-$ ctl register grown 44
+2 processes, 2 waiting
+PID       RAN  STATE    MAILBOX  TRANSIT  AT
+<0.45.0>  0%   waiting                    too long to show
+<0.46.0>  0%   waiting  0        0        grow:hold/2 label 3 + 0 instance 18
+$ ctl register grown 45
+done
 $ ctl ask --timeout none grown hello
+hello
 $ ctl lingers grow
+PID  STATE  MAILBOX  TRANSIT  AT
 $ ctl load grow.beam
+current 19, old 18
 $ ctl lingers grow
-$ ctl --json lingers grow
-$ ctl kill 44
-$ ctl wait 44
+PID       STATE    MAILBOX  TRANSIT  AT
+<0.45.0>  waiting                    too long to show
+<0.46.0>  waiting  0        0        grow:hold/2 label 3 + 0 instance 18
+$ ctl --json lingers grow | cut -c 1-106
+[{"pid": "<0.45.0>", "state": "waiting", "at": null}, {"pid": "<0.46.0>", "state": "waiting", "at": "grow:
+$ ctl kill 45
+done
+$ ctl wait 45
+<0.45.0> ended killed
 $ ctl lingers grow
+PID       STATE    MAILBOX  TRANSIT  AT
+<0.46.0>  waiting  0        0        grow:hold/2 label 3 + 0 instance 18
 $ ctl spawn grow:leave "[16,$leaf]"
-$ ctl wait 50
-$ ctl --json wait 50
-$ ctl kill 50
+<0.51.0>
+$ ctl wait 51
+<0.51.0> ended with a reason that is too long to show
+$ ctl --json wait 51
+{"pid": "<0.51.0>", "state": "ended", "reason": null}
+$ ctl kill 51
+beamctl: NoProcess: <0.51.0> has ended
+(status 1)
 $ ctl call grow:leave "[16,$leaf]"
+beamctl: TooLong
+(status 1)
 $ ctl ps --all --last 2
+beamctl: 52 processes were started; these are of the last 2 (--last 0: of all)
+PID       STATE  MAILBOX  TRANSIT  AT
+<0.51.0>  ended                    too long to show
+<0.52.0>  ended                    too long to show
 
-# ---- The only place is taken
-$ occupied 2 --timeout 0.2 load t.beam
-$ occupied 2 --timeout 0.2 --json load t.beam
+# ---- The only place is taken: what was given up isn't done later
+$ occupied 3 --timeout 0.2 load t.beam
+beamctl: no first reply within 0.2 seconds: nothing was sent that changes anything. All places may be taken
+(status 1)
+$ occupied 3 --timeout 0.2 --json load t.beam
+{"error": "NoPlace"}
+(status 1)
 $ occupied 1 versions t
+current 10, old 9
 $ occupied 1 --timeout none versions t
+current 10, old 9
 END_OF_LINES
 compare
 

@@ -5,6 +5,7 @@ Prints how many hold; status 1 names what doesn't."""
 
 import contextlib
 import io
+import json
 import os
 import random
 import socket
@@ -23,12 +24,14 @@ FILE = os.path.join(ROOT, "examples", "t.beam")
 
 class Answers:
     """A server whose answer to each frame is what `reply` gives of the frame's kind; to the first one of a connection it is what
-    `first` gives of how many connections there were. None is no answer."""
+    `first` gives of how many connections there were. None is no answer. `body` is that of the last frame. Where it `drops`, answers
+    that the system hasn't sent are lost when the server ends a connection, as they are where commands are unread."""
 
     def __init__(self):
         self.reply = lambda kind: b""
         self.first = lambda connections: REFUSED
         self.connections = 0
+        self.body, self.drops = b"", False
         self.listener = socket.create_server(("127.0.0.1", 0))
         self.port = self.listener.getsockname()[1]
         threading.Thread(target=self.serve, daemon=True).start()
@@ -41,7 +44,10 @@ class Answers:
                 first = frames.read(len(FIRST))
                 goes_on = first != FIRST or self.give(connection, self.first(self.connections))
                 while goes_on and (length := int.from_bytes(frames.read(4), "big")):
-                    goes_on = self.give(connection, self.reply(frames.read(length)[0]))
+                    kind, *self.body = frames.read(length)
+                    goes_on = self.give(connection, self.reply(kind))
+                if self.drops:
+                    connection.setsockopt(socket.SOL_SOCKET, socket.SO_LINGER, struct.pack("ii", 1, 0))
 
     def give(self, connection, answer):
         """Whether the connection goes on after the answer."""
@@ -142,6 +148,9 @@ def main() -> int:
             check(f"{words[0]} of {replies}", found[0] in (0, 1, 3), found)
     for name, (found, wanted) in without_replies(server).items():
         check(name, found == wanted, found)
+    for _ in range(20):
+        found = long_among_many(server)
+        check("ps of processes that are too long to show", found == (COUNT, list(LONG)), found)
     print(f"ctl_replies: {count - failed} of {count} hold")
     return int(failed > 0)
 
@@ -176,6 +185,26 @@ def without_replies(server: Answers) -> dict[str, tuple[object, object]]:
     beamctl.SECONDS_FOR_A_REPLY = 0.05
     checks["wait without a place meanwhile"] = control(server.port, ["wait", "1"], None), (0, "<0.1.0> ended normal\n")
     return checks
+
+
+COUNT, LONG = 150, (1, 5, 70, 71, 72, 140)
+
+
+def of_many(server: Answers) -> bytes:
+    """The answer to Steps or Inspect where 150 processes wait, of which six are too long to show."""
+    number = int.from_bytes(server.body[:4], "big")
+    if number > COUNT:
+        return REFUSED
+    return frame(7, 1) if number in LONG else frame(4, *f"pid {number} waiting\nat a:b/0 label 1 + 0 instance 1\n".encode())
+
+
+def long_among_many(server: Answers) -> tuple[int, list[int]]:
+    """How many processes ps shows, and which of them as too long."""
+    server.first, server.drops = lambda connections: REFUSED, True
+    server.reply = lambda kind: frame(6, 4) if kind == 8 else of_many(server)
+    status, text = control(server.port, ["--json", "ps"], "5")
+    shown = json.loads(text) if status == 0 else []
+    return len(shown), [at for at, line in enumerate(shown, 1) if line["at"] is None]
 
 
 def beamctl_reply(kind: int) -> int:

@@ -46,7 +46,7 @@ ERLANG = """
     [Port] = [list_to_integer(Word) || Word <- init:get_plain_arguments()],
     Try = fun(Do) ->
         case kanguriwe:connect(Port, 500) of
-            {ok, Node} -> Do(Node);
+            {ok, Node} -> Answer = Do(Node), kanguriwe:close(Node), Answer;
             Error -> Error
         end
     end,
