@@ -590,7 +590,7 @@ COMMANDS = [
      [("--interval", {"type": seconds, "default": 1.0, "metavar": "SECONDS"}),
       ("--count", {"type": whole_number, "default": 0, "metavar": "N", "help": "looks (0: no end)"}),
       ("--lines", {"type": whole_number, "default": 20, "metavar": "N"}), LAST]),
-    ("lingers", lingers, "the processes that are in a module's old code, or return to it; those that are too long to show may do so", [MODULE]),
+    ("lingers", lingers, "the processes that are in a module's old code or return to it, or are too long to show", [MODULE]),
     ("inspect", plain("inspect", "process"), "a process: registers, frames, mailbox", [PROCESS]),
     ("load", load, "make the files' modules current; what was current becomes old",
      [("file", {"metavar": "FILE", "nargs": "+"}), ("--strict", {"action": "store_true", "help": "refuse where there is old code"})]),

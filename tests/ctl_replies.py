@@ -41,8 +41,7 @@ class Answers:
             connection, _ = self.listener.accept()
             self.connections += 1
             with connection, contextlib.suppress(OSError), connection.makefile("rb") as frames:
-                first = frames.read(len(FIRST))
-                goes_on = first != FIRST or self.give(connection, self.first(self.connections))
+                goes_on = frames.read(len(FIRST)) == FIRST and self.give(connection, self.first(self.connections))
                 while goes_on and (length := int.from_bytes(frames.read(4), "big")):
                     kind, *self.body = frames.read(length)
                     goes_on = self.give(connection, self.reply(kind))

@@ -73,6 +73,11 @@ def reply(connection):
     return size + read(connection, int.from_bytes(size, "big"))
 
 
+def first_reply(connection):
+    connection.sendall(FIRST)
+    return reply(connection)
+
+
 def ask(connection, kind, body):
     connection.sendall(struct.pack(">IB", len(body) + 1, kind) + body)
     return reply(connection)
@@ -148,8 +153,7 @@ def given_up(beamnode, clients, checks):
     with node(beamnode, "--schedulers", "2", "--clients", "3") as port, contextlib.ExitStack() as stack:
         places = [stack.enter_context(connect(port)) for _ in range(3)]
         for place in places:
-            reply_to_first = (place.sendall(FIRST), reply(place))[1]
-            checks.same("the first reply", reply_to_first, NO_PROCESS)
+            checks.same("the first reply", first_reply(place), NO_PROCESS)
         ask(places[0], LOAD, pathlib.Path("shop.beam").read_bytes())
         ask(places[0], SPAWN, OPEN)
         before = until_it_waits(places[0], 1)
@@ -171,12 +175,10 @@ def full(beamnode, clients, checks):
     with node(beamnode, "--journal-limit", "1") as port:
         for _ in range(50):
             with connect(port) as connection:
-                connection.sendall(FIRST)
-                checks.same("the first reply", reply(connection), NO_PROCESS)
+                checks.same("the first reply", first_reply(connection), NO_PROCESS)
         with connect(port) as connection:
             checks.same("one command", versions(connection), "current 0, old 0")
-            connection.sendall(FIRST)
-            checks.same("the first reply of a full journal", reply(connection), JOURNAL_FULL)
+            checks.same("the first reply of a full journal", first_reply(connection), JOURNAL_FULL)
         checks.same("beamctl", clients.run(port, "versions", "shop"), (1, "", "beamctl: JournalFull\n"))
         if clients.has_erlang:
             checks.same("kanguriwe", re.findall(r"\w+_full", clients.erlang(port)), ["journal_full"] * 4)
