@@ -68,12 +68,14 @@ CLASSES = 64
 
 
 class Blocks:
-    """The blocks that a program has at a moment: their bytes, and those of the longest one, if it's the only one of its class."""
+    """The blocks that a program has at a moment: their bytes, how many they are, and the bytes of the longest one, if it's the only one of
+    its class."""
 
     def __init__(self, words):
         sizes, numbers = words[:CLASSES], words[CLASSES:]
         last = max((digits for digits, number in enumerate(numbers) if number), default=0)
-        self.bytes, self.longest = sum(sizes), sizes[last] if numbers[last] == 1 else None
+        self.bytes, self.number = sum(sizes), sum(numbers)
+        self.longest = sizes[last] if numbers[last] == 1 else None
 
 
 class Counter:
@@ -85,12 +87,12 @@ class Counter:
         subprocess.run(words, input=ALLOCATOR.encode(), check=True)
 
     @contextlib.contextmanager
-    def program(self, words):
+    def program(self, words, stdin=None):
         """The process of a program, and a function that reads its blocks. At the end of this block of code the process is ended."""
         with tempfile.NamedTemporaryFile(dir=self.folder) as file:
             file.truncate(mmap.PAGESIZE)
             environment = {**os.environ, "LD_PRELOAD": self.library, "BLOCKS": file.name}
-            process = subprocess.Popen(words, env=environment, stdout=subprocess.PIPE)
+            process = subprocess.Popen(words, env=environment, stdin=stdin, stdout=subprocess.PIPE)
             with mmap.mmap(file.fileno(), mmap.PAGESIZE, access=mmap.ACCESS_READ) as page:
                 try:
                     yield process, lambda: Blocks(struct.unpack(f"{2 * CLASSES}q", page[:16 * CLASSES]))

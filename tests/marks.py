@@ -2,7 +2,7 @@
 """A commit and slices while every request for memory is refused: the program of tests/marks.txt asks for a block of a size of its own
 before and after each of them, and the allocator of tests/refuse.py refuses everything between. 1,500 rows that build lists and send nothing
 are committed so, the slice of t:sum(4) does all its rows, and that of the lists stops before the first of them. Makes the program, unproved,
-in a copy of the project (`./try.sh make`: `rt` has to be on the path, some four minutes of a processor). Status 1 where something else comes
+in a copy of the project (unproved.sh: `rt` has to be on the path, some four minutes of a processor). Status 1 where something else comes
 of it. Not part of `rt ci`.
 
     tests/marks.py [--program MARKS] [--beamas BEAMAS]"""
@@ -38,7 +38,7 @@ t:sum(4), run: 19 rows, dropped 0
 def made():
     """The program, in a copy of the project that has a crate for it."""
     with tempfile.TemporaryDirectory() as folder:
-        files = subprocess.run(["git", "ls-files", "-z", "crates", "crates.txt", "HANDLES", "try.sh"], cwd=ROOT, check=True, capture_output=True).stdout
+        files = subprocess.run(["git", "ls-files", "-z", "crates", "crates.txt", "HANDLES", "tests/unproved.sh"], cwd=ROOT, check=True, capture_output=True).stdout
         for name in files.decode().split("\0")[:-1]:
             pathlib.Path(folder, name).parent.mkdir(parents=True, exist_ok=True)
             shutil.copy(ROOT / name, pathlib.Path(folder, name))
@@ -46,7 +46,7 @@ def made():
         shutil.copy(ROOT / "tests/marks.txt", pathlib.Path(folder, "crates/marks/src/main.rt"))
         with open(f"{folder}/crates.txt", "a") as crates:
             crates.write(f"marks: {CRATES}\n")
-        subprocess.run([f"{folder}/try.sh", "make", "marks"], check=True)
+        subprocess.run([f"{folder}/tests/unproved.sh", "marks"], check=True)
         yield f"{folder}/out/programs/marks"
 
 
