@@ -3,7 +3,7 @@
 use crate::commands::file;
 use crate::listings::{LOOP, OVER};
 use crate::serving::{first_miss, outcome};
-use crate::serving_rows::{NodeRow, connections, files, journals, levels, silence, threads};
+use crate::serving_rows::{NodeRow, connections, files, journals, levels, silence, thread_counts};
 use crate::talking::frames;
 use std::net::{Net, TcpListener, TcpStream};
 use std::process::Abort;
@@ -97,7 +97,7 @@ fn a_journal_fills(rt: HostRuntime) -> Result<(), Fail> {
 
 #[test]
 fn threads_are_as_many_as_were_asked_for(rt: HostRuntime) -> Result<(), Fail> {
-    come_to(&rt, threads())
+    come_to(&rt, thread_counts())
 }
 
 #[test]
