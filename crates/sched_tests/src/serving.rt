@@ -18,13 +18,30 @@ use std::{rt, thread};
 /// Before each line of the log: the beginning of 1970.
 const TIME: &str = "1970-01-01T00:00:00.000Z ";
 
-/// The words of a command line.
-fn words_of(alloc: Global, text: &'static str) -> Result<Vec<&'static str>, Fail> {
+/// A word of a command line, which is put into the folder if it is the name of a file.
+fn word_in(alloc: Global, folder: &str, word: &str) -> Result<String, AllocError> {
+    if word.ends_with(".beam") {
+        format!(in alloc; "{folder}/{word}")
+    } else {
+        format!(in alloc; "{word}")
+    }
+}
+
+/// The words of a command line, with the files of a folder.
+fn words_of(alloc: Global, folder: &str, line: &str) -> Result<Vec<String>, AllocError> {
     let mut words = Vec::new(alloc);
-    for word in text.split_whitespace() {
-        words.push(word)?;
+    for word in line.split_whitespace() {
+        words.push(word_in(alloc, folder, word)?)?;
     }
     Ok(words)
+}
+
+fn texts(alloc: Global, words: &[String]) -> Result<Vec<&str>, AllocError> {
+    let mut texts = Vec::new(alloc);
+    for word in words {
+        texts.push(word.as_str())?;
+    }
+    Ok(texts)
 }
 
 /// Does what the words ask for, with a service on the console. Returns the status, and what was written on the errors beside the log.
@@ -132,7 +149,17 @@ pub fn outcome<
     Ok(format!(in alloc; "{miss}{printed}{logged}{errors}status {status}\n")?)
 }
 
-/// The first row whose outcome isn't the wanted one, with that; nothing where there is none.
+/// A text without the name of a folder before that of a file.
+fn without_folder(alloc: Global, folder: &str, text: &str) -> Result<String, AllocError> {
+    let folder = format!(in alloc; "{folder}/")?;
+    match text.split_once(folder.as_str()) {
+        Some((before, after)) => format!(in alloc; "{before}{after}"),
+        None => format!(in alloc; "{text}"),
+    }
+}
+
+/// The first row whose outcome isn't the wanted one, with that; nothing where there is none. The files are those of a folder, which is left
+/// out of the outcome.
 pub fn first_miss<
     R: Net<Listener = TcpListener, Stream = TcpStream>
         + Threads
@@ -141,13 +168,15 @@ pub fn first_miss<
         + rt::Files
         + AllocGlobal
         + Sync,
->(rt: &R, rows: &'static [NodeRow]) -> Result<String, Fail> {
+>(rt: &R, folder: &str, rows: &'static [NodeRow]) -> Result<String, Fail> {
+    let alloc = rt.alloc();
     for row in rows {
-        let words = words_of(rt.alloc(), row.words)?;
-        let found = outcome(rt, &words, row.steps, row.is_closed)?;
+        let words = words_of(alloc, folder, row.words)?;
+        let found = outcome(rt, &texts(alloc, &words)?, row.steps, row.is_closed)?;
+        let found = without_folder(alloc, folder, &found)?;
         if found.as_str() != row.wanted {
-            return Ok(format!(in rt.alloc(); "{}:\n{found}", row.title)?);
+            return Ok(format!(in alloc; "{}:\n{found}", row.title)?);
         }
     }
-    Ok(String::new(rt.alloc()))
+    Ok(String::new(alloc))
 }

@@ -215,7 +215,7 @@ pub fn journals() -> &'static [NodeRow] {
 }
 
 /// The threads are that of the client, and those that serve connections and run processes.
-const THREADS: [NodeRow; 2] = [
+const THREAD_COUNTS: [NodeRow; 2] = [
     NodeRow {
         title: "one scheduler, one connection at once",
         words: "beamnode serve --port 0 --connections 1 --schedulers 1",
@@ -253,8 +253,8 @@ const THREADS: [NodeRow; 2] = [
 ];
 
 /// Schedulers and threads that serve connections.
-pub fn threads() -> &'static [NodeRow] {
-    &THREADS
+pub fn thread_counts() -> &'static [NodeRow] {
+    &THREAD_COUNTS
 }
 
 /// The first client sends nothing, and the second one half a frame.

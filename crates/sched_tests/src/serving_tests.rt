@@ -3,15 +3,16 @@
 use crate::commands::file;
 use crate::listings::{LOOP, OVER};
 use crate::serving::{first_miss, outcome};
-use crate::serving_rows::{NodeRow, connections, files, journals, levels, silence, threads};
+use crate::serving_rows::{NodeRow, connections, files, journals, levels, silence, thread_counts};
 use crate::talking::frames;
 use std::net::{Net, TcpListener, TcpStream};
 use std::process::Abort;
+use std::rt::Env;
 use std::sync::Wait;
 use std::test::*;
 use std::thread::Threads;
 use std::time::Clock;
-use std::{fs, rt};
+use std::{env, fs, rt};
 
 /// How many bytes stand before the file in a `Load`.
 const BEFORE_FILE: usize = 5;
@@ -27,7 +28,7 @@ fn come_to<
         + AllocGlobal
         + Sync,
 >(rt: &R, rows: &'static [NodeRow]) -> Result<(), Fail> {
-    let miss = first_miss(rt, rows)?;
+    let miss = first_miss(rt, "", rows)?;
     assert_eq!(rt; miss.as_str(), "");
     Ok(())
 }
@@ -37,25 +38,56 @@ fn connections_are_served(rt: HostRuntime) -> Result<(), Fail> {
     come_to(&rt, connections())
 }
 
-/// Writes the files of the rows.
-fn write_files<R: rt::Files + AllocGlobal>(rt: &R) -> Result<(), Fail> {
+/// Makes a folder, which the moment names.
+fn new_folder<R: Env + Clock + rt::Files + AllocGlobal>(rt: &R) -> Result<String, Fail> {
+    let parent = env::temp_dir(rt)?;
+    let now = rt.since_1970()?;
+    let folder = format!(in rt.alloc();
+        "{}/beamnode-{}-{}",
+        parent.as_str(),
+        now.as_secs(),
+        now.subsec_nanos()
+    )?;
+    fs::create_dir(rt, folder.as_str())?;
+    Ok(folder)
+}
+
+/// Writes a file into a folder.
+fn write<R: rt::Files + AllocGlobal>(
+    rt: &R,
+    folder: &str,
+    name: &str,
+    bytes: &[u8],
+) -> Result<(), Fail> {
+    let name = format!(in rt.alloc(); "{folder}/{name}")?;
+    fs::write(rt, name.as_str(), bytes)?;
+    Ok(())
+}
+
+/// Writes the files of the rows into a folder.
+fn write_files<R: rt::Files + AllocGlobal>(rt: &R, folder: &str) -> Result<(), Fail> {
     let Some(load) = frames(rt.alloc(), "LOAD") else {
         return Err(Fail::new("no frames"));
     };
     let Some(file_of_t) = load.get(BEFORE_FILE..) else {
         return Err(Fail::new("no file"));
     };
-    fs::write(rt, "t.beam", file_of_t)?;
-    fs::write(rt, "e.beam", file(rt.alloc(), OVER)?.as_slice())?;
-    fs::write(rt, "l.beam", file(rt.alloc(), LOOP)?.as_slice())?;
-    fs::write(rt, "bad.beam", "{module,t}.\n")?;
-    Ok(())
+    write(rt, folder, "t.beam", file_of_t)?;
+    write(rt, folder, "e.beam", &file(rt.alloc(), OVER)?)?;
+    write(rt, folder, "l.beam", &file(rt.alloc(), LOOP)?)?;
+    write(rt, folder, "bad.beam", b"{module,t}.\n")
 }
 
+/// The folder is removed before the outcome is looked at.
 #[test]
 fn a_node_begins_with_files_and_a_process(rt: HostRuntime) -> Result<(), Fail> {
-    write_files(&rt)?;
-    come_to(&rt, files())
+    let folder = new_folder(&rt)?;
+    write_files(&rt, &folder)?;
+    let miss = first_miss(&rt, &folder, files());
+    let is_removed = fs::remove_dir_all(&rt, folder.as_str()).is_ok();
+    let miss = miss?;
+    assert_eq!(rt; (miss.as_str(), is_removed), ("", true));
+    Ok(())
 }
 
 #[test]
@@ -65,7 +97,7 @@ fn a_journal_fills(rt: HostRuntime) -> Result<(), Fail> {
 
 #[test]
 fn threads_are_as_many_as_were_asked_for(rt: HostRuntime) -> Result<(), Fail> {
-    come_to(&rt, threads())
+    come_to(&rt, thread_counts())
 }
 
 #[test]
