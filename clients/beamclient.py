@@ -8,6 +8,7 @@ and its standard library alone.
 """
 
 import collections
+import contextlib
 import dataclasses
 import re
 import socket
@@ -18,6 +19,10 @@ LONGEST_FRAME = 8_388_608
 # How many commands are sent before the first one's reply is read. They fit the buffers of any socket: a node that waits for its
 # replies to be read reads no commands.
 PIPELINED = 64
+# What a connection begins with, kind and body: a Resume of process 0. No node has that process, so it is always refused, changes
+# nothing and enters nothing in the journal, also where that is full.
+FIRST_COMMAND = 14, bytes(4)
+ENDED = "the node ended the session"
 
 REFUSALS = dict(enumerate(
     ["NoMemory", "NoProcess", "BackwardClock", "NotReady", "Stopped", "Busy", "Sticky", "NotPurged", "Duplicated",
@@ -278,7 +283,10 @@ class Reply:
 
 
 class Session:
-    """A session with the node, which begins with the first command. While it lasts it occupies one of the node's client threads."""
+    """A session with the node, which begins with the first command. While it lasts it occupies one of the node's client threads.
+
+    What is sent while all of these are occupied waits in the system's buffers, and is done when one is free, also if the client has
+    given up by then. So a connection begins with a command that does nothing, and no other one is sent before its reply is there."""
 
     def __init__(self, port: int, timeout: float | None):
         self.port = port
@@ -292,24 +300,55 @@ class Session:
             self.connection.close()
             self.connection = None
 
+    def begin(self) -> None:
+        """Connects, and waits for the first reply."""
+        try:
+            connection = socket.create_connection(("127.0.0.1", self.port), self.timeout)
+            connection.setsockopt(socket.IPPROTO_TCP, socket.TCP_NODELAY, 1)
+            self.connection, self.replies = connection, connection.makefile("rb")
+            self.write(*FIRST_COMMAND)
+            first = self.receive()
+        except TimeoutError:
+            raise Failed("NoPlace", f"no first reply{self.within()}: nothing was sent that changes anything. "
+                                    "All places may be taken") from None
+        if first[0] != 6:
+            raise Failed(f"a first reply of kind {first[0]}")
+
+    def within(self) -> str:
+        return f" within {self.timeout:g} seconds" if self.timeout else ""
+
+    def no_reply(self) -> Failed:
+        return Failed("NoReply", f"no reply{self.within()}: it may still be done")
+
+    def write(self, kind: int, body: bytes) -> None:
+        # What a node wrote before it ended the session can still be read, so that tells how it ended.
+        with contextlib.suppress(ConnectionError):
+            self.connection.sendall(struct.pack(">IB", len(body) + 1, kind) + body)
+
     def send(self, kind: int, body: bytes) -> None:
         if not self.connection:
-            self.connection = socket.create_connection(("127.0.0.1", self.port), self.timeout)
-            self.connection.setsockopt(socket.IPPROTO_TCP, socket.TCP_NODELAY, 1)
-            self.replies = self.connection.makefile("rb")
-        self.connection.sendall(struct.pack(">IB", len(body) + 1, kind) + body)
+            self.begin()
+        self.write(kind, body)
 
     def receive(self) -> bytes:
-        length = int.from_bytes(self.replies.read(4), "big")
-        reply = self.replies.read(min(length, LONGEST_FRAME))
+        try:
+            length = int.from_bytes(self.replies.read(4), "big")
+            reply = self.replies.read(min(length, LONGEST_FRAME))
+        except ConnectionError:
+            raise Failed(ENDED) from None
         if not length or len(reply) < length:
-            raise Failed("the node ended the session")
+            raise Failed(ENDED)
         return reply
 
-    def ask_all(self, commands: Iterable[tuple[int, bytes]]) -> Iterator[bytes]:
+    def ask_all(self, commands: Iterable[tuple[int, bytes]], may_repeat: bool = False) -> Iterator[bytes]:
         """The replies, kind and body, to commands, of which some are sent before the first reply is read. After a frame error
-        the node reads no more of the session, so the commands after it are sent again in a new one."""
+        the node reads no more of the session, so the commands after it are sent again in a new one. Where it ends the session so
+        early that replies are lost, those without a reply are sent again if they may be done twice. Raises Failed: NoPlace if a new
+        connection had no first reply in time, so that no command without a reply was done; NoReply if a reply didn't come in time, so
+        that its command, and those sent after it, may still be done."""
         waiting = collections.deque()
+        if self.connection:
+            self.connection.settimeout(self.timeout)
         try:
             for kind, body in commands:
                 if len(body) >= LONGEST_FRAME:
@@ -317,22 +356,33 @@ class Session:
                 waiting.append((kind, body))
                 self.send(kind, body)
                 if len(waiting) == PIPELINED:
-                    yield self.next_reply(waiting)
+                    yield self.next_reply(waiting, may_repeat)
             while waiting:
-                yield self.next_reply(waiting)
+                yield self.next_reply(waiting, may_repeat)
         except TimeoutError:
-            raise Failed(f"no reply within {self.timeout:g} seconds") from None
+            raise self.no_reply() from None
         except OSError as fault:
             raise Failed(f"127.0.0.1:{self.port}: {fault.strerror or fault}") from None
         finally:
             if waiting:
                 self.leave()
 
-    def next_reply(self, waiting: collections.deque) -> bytes:
-        reply = self.receive()
+    def next_reply(self, waiting: collections.deque, may_repeat: bool) -> bytes:
+        are_sent = True
+        try:
+            reply = self.receive()
+        except Failed:
+            if not may_repeat or len(waiting) == 1:
+                raise
+            # The system drops replies when a node closes a connection in which commands are unread. Alone a command has its reply.
+            self.leave()
+            self.send(*waiting[0])
+            reply, are_sent = self.receive(), False
         waiting.popleft()
         if reply[0] == 7:
             self.leave()
+            are_sent = False
+        if not are_sent:
             for kind, body in waiting:
                 self.send(kind, body)
         return reply

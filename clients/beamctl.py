@@ -16,7 +16,8 @@ tuples, lists and pids. After `call`, `ask` and `kill` the node has the module b
 in the same folder as this file.
 
 Status 0: the node did what was asked. 1: it refused, nothing came in time, or the connection or a file failed; the refusal's
-name is on standard error. 2: a wrong command line. 3: the function that was called raised an exception. The protocol is in
+name is on standard error. 2: a wrong command line. 3: the function that was called raised an exception. After `no reply within
+N seconds` the command may still be done; after `no first reply within N seconds` it wasn't sent. The protocol is in
 docs/PROTOCOL.md. Needs Python 3.10 and its standard library alone.
 """
 
@@ -30,7 +31,7 @@ import resource
 import struct
 import sys
 import time
-from collections.abc import Iterable, Iterator
+from collections.abc import Iterator, Sequence
 
 from beamclient import (
     FRAME_ERRORS, LONGEST_FRAME, PIPELINED, REFUSALS, Answer, Failed, Reply, Session, TermReader, answer, atom, integer, list_of,
@@ -39,7 +40,13 @@ from beamclient import (
 MOST_PROCESSES = 2**28 - 1
 HELPER = "beamctl_helper"
 HELPER_FILE = os.path.join(os.path.dirname(os.path.abspath(__file__)), HELPER + ".beam")
+SECONDS_FOR_A_REPLY = 10.0
 SECONDS_FOR_AN_ANSWER = 5.0
+# The greatest time that a process can wait for, apart from infinity.
+MOST_MILLISECONDS = 2**32 - 1
+TOO_LONG = "too long to show"
+# What the refusal of Steps says of a live process.
+STATES = {"Stopped": "held", "NotReady": "waiting", "Busy": "running"}
 STACK = 2**26
 
 
@@ -61,6 +68,17 @@ def seconds(text: str) -> float:
     if not 0 < value < math.inf:
         raise ValueError(text)
     return value
+
+
+def time_limit(text: str) -> float:
+    """Seconds, or infinity for `none` or 0."""
+    try:
+        value = math.inf if text == "none" else float(text)
+    except ValueError:
+        value = math.nan
+    if not value >= 0:
+        raise argparse.ArgumentTypeError(f"{text} is neither seconds nor none")
+    return value or math.inf
 
 
 def process_number(text: str) -> bytes:
@@ -199,39 +217,76 @@ def entry_label(path: str, name: str, arity: int) -> int:
 # ---- Commands
 
 
+class NotEnded(Failed):
+    """A process that hasn't ended in time."""
+
+
 class Client:
-    """A session, and what this program knows of the node."""
+    """A session, what this program knows of the node, and how long it waits for what a command wants, if --timeout says so:
+    infinity for no end, None if it doesn't."""
 
     def __init__(self, session: Session):
         self.session = session
+        self.limit: float | None = None
         self.files: dict[str, str] = {}
         self.has_helper = False
+
+    def set_limit(self, given: float | None) -> None:
+        """Takes what --timeout says."""
+        self.limit = given
+        limit = SECONDS_FOR_A_REPLY if given is None else given
+        self.session.timeout = None if limit == math.inf else limit
 
     def ask(self, kind: int, body: bytes) -> Answer:
         return answer(kind, self.session.ask(kind, body))
 
-    def view(self, number: bytes) -> dict:
-        return self.ask(16, number).value
+    def state(self, number: bytes) -> str:
+        """The state of a process, `ended` also for one that was never started. It asks for Steps of no rows, which changes nothing and
+        makes no view: that of a large state takes long, holds the node up meanwhile, and may be too long for a reply."""
+        try:
+            self.ask(8, number + bytes(4))
+        except Failed as fault:
+            if fault.error == REFUSALS[2]:
+                return "ended"
+            if fault.error not in STATES:
+                raise
+            return STATES[fault.error]
+        return "running"
+
+    def ended(self, number: bytes) -> dict:
+        """The view of a process that has ended; its reason is None if that is too long. Raises NoProcess if it was never started."""
+        try:
+            return self.ask(16, number).value
+        except Failed as fault:
+            if fault.error != FRAME_ERRORS[1]:
+                raise
+        return {"pid": pid_text(int.from_bytes(number, "big")), "state": "ended", "reason": None}
 
     def see_alive(self, number: bytes) -> str:
         """The state of a process that hasn't ended."""
-        if (seen := self.view(number))["state"] == "ended":
-            raise Failed("NoProcess", f"NoProcess: {seen['pid']} has ended")
-        return seen["state"]
+        if (state := self.state(number)) == "ended":
+            raise Failed("NoProcess", f"NoProcess: {self.ended(number)['pid']} has ended")
+        return state
 
-    def wait(self, number: bytes, limit: float | None) -> dict:
-        """The view of a process when it has ended. It looks again after pauses that grow to a second; in longer ones it ends
-        its session, so that others can be served."""
-        end = time.monotonic() + limit if limit else math.inf
+    def wait(self, number: bytes, limit: float) -> dict:
+        """The view of a process when it has ended. It asks again after pauses that grow to a second; in longer ones it ends
+        its session, so that others can be served. If its place is taken then, it tries again."""
+        end = time.monotonic() + limit
         pause = 0.002
-        while (seen := self.view(number))["state"] != "ended":
+        state = self.state(number)
+        while state != "ended":
             if time.monotonic() >= end:
-                raise Failed(f"{seen['pid']} hasn't ended within {limit:g} seconds")
+                raise NotEnded(f"{pid_text(int.from_bytes(number, 'big'))} hasn't ended within {limit:g} seconds")
             if pause > 0.1:
                 self.session.leave()
             time.sleep(max(0.0, min(pause, end - time.monotonic())))
             pause = min(pause * 1.5, 1.0)
-        return seen
+            try:
+                state = self.state(number)
+            except Failed as fault:
+                if fault.error != "NoPlace":
+                    raise
+        return self.ended(number)
 
     def load_helper(self) -> None:
         """Loads the helper module, if the node has no current code of it. Old code is removed first, unless a process lingers in it."""
@@ -251,10 +306,12 @@ class Client:
         answer(6, reply)
         return reply[1:5]
 
-    def value(self, name: str, given: list[bytes], limit: float | None) -> str:
+    def value(self, name: str, given: list[bytes], limit: float) -> str:
         """The value that a function of the helper module returns, in a process of its own. Raises Failed for an exception."""
         self.load_helper()
         reason = self.wait(self.start(atom(HELPER), atom(name), list_of(given)), limit)["reason"]
+        if reason is None:
+            raise Failed(FRAME_ERRORS[1])
         found = re.fullmatch(r"\{(returned|error|exit|throw),(.*)\}", reason, re.DOTALL)
         if found and found[1] == "returned":
             return found[2]
@@ -264,7 +321,9 @@ class Client:
     def native(self, name: str, *given: bytes, badarg: str = "badarg") -> str:
         """The value of a function of module erlang, called by a process of the node; badarg is what its badarg means."""
         try:
-            return self.value("call", [atom("erlang"), atom(name), list_of(list(given))], self.session.timeout)
+            return self.value("call", [atom("erlang"), atom(name), list_of(list(given))], self.session.timeout or math.inf)
+        except NotEnded:
+            raise self.session.no_reply() from None
         except Failed as fault:
             if fault.more == {"reason": "badarg"}:
                 raise Failed(badarg.split(":")[0], badarg) from None
@@ -283,19 +342,30 @@ class Client:
             low, high = (middle, high) if seen else (low, middle)
         return low
 
-    def views(self, numbers: Iterable[int]) -> Iterator[dict | None]:
-        """The views of processes; None for a process that was never started."""
+    def views(self, numbers: Sequence[int]) -> Iterator[dict | None]:
+        """The views of processes; None for a process that was never started. Of one whose view is too long it is the pid, with None for
+        the state. The node ends the session then, and those after it come over a new one."""
         frames = ((16, number.to_bytes(4, "big")) for number in numbers)
-        for reply in self.session.ask_all(frames):
+        for number, reply in zip(numbers, self.session.ask_all(frames, may_repeat=True)):
             try:
                 yield answer(16, reply).value
             except Failed as fault:
                 if fault.error == FRAME_ERRORS[1]:
-                    yield {"pid": "?", "state": "too long to show"}
+                    yield {"pid": pid_text(number), "state": None}
                 elif fault.error == REFUSALS[2]:
                     yield None
                 else:
                     raise
+
+    def look(self, numbers: Sequence[int]) -> list[tuple[int, dict]]:
+        """The processes that were started, with their views. Of one whose view is too long it has the pid, the state, and None for where
+        it is or why it ended."""
+        found = [(number, seen) for number, seen in zip(numbers, self.views(numbers)) if seen]
+        for number, seen in found:
+            if seen["state"] is None:
+                seen["state"] = self.state(number.to_bytes(4, "big"))
+                seen["reason" if seen["state"] == "ended" else "at"] = None
+        return found
 
 
 # Each command is a generator of answers, of the client and what the command line gave.
@@ -334,7 +404,7 @@ def atomic(client: Client, given):
 
 def call(client: Client, given):
     module, name = function(given.function)
-    value = client.value("call", [module, name, arguments(given.arguments)], client.session.timeout)
+    value = client.value("call", [module, name, arguments(given.arguments)], client.limit or math.inf)
     yield Answer(value, {"value": value})
 
 
@@ -344,10 +414,10 @@ def ask(client: Client, given):
     message = read.term if read.met_self else tuple_of(atom("$self"), read.term)
     if IS_PROCESS.match(given.to):
         client.see_alive(process_number(given.to))
-    limit = client.session.timeout or SECONDS_FOR_AN_ANSWER
-    milliseconds = min(round(limit * 1000), 2**40)
+    limit = client.limit or SECONDS_FOR_AN_ANSWER
+    milliseconds = atom("infinity") if limit == math.inf else integer(min(round(limit * 1000), MOST_MILLISECONDS))
     try:
-        value = client.value("ask", [receiver(given.to), message, integer(milliseconds)], limit + SECONDS_FOR_AN_ANSWER)
+        value = client.value("ask", [receiver(given.to), message, milliseconds], limit + SECONDS_FOR_AN_ANSWER)
     except Failed as fault:
         if fault.more == {"reason": "timeout"}:
             raise Failed(f"no answer from {given.to} within {limit:g} seconds") from None
@@ -359,8 +429,8 @@ def ask(client: Client, given):
 
 def wait(client: Client, given):
     for number in [process_number(text) for text in given.process]:
-        seen = client.wait(number, client.session.timeout)
-        yield Answer(f"{seen['pid']} ended {seen['reason']}", seen)
+        seen = client.wait(number, client.limit or math.inf)
+        yield Answer(f"{seen['pid']} ended {seen['reason'] or 'with a reason that is ' + TOO_LONG}", seen)
 
 
 def kill(client: Client, given):
@@ -410,8 +480,12 @@ def spot_text(client: Client, given) -> str:
 COLUMNS = [("PID", "pid"), ("STATE", "state"), ("MAILBOX", "mailbox"), ("TRANSIT", "transit"), ("AT", "at")]
 
 
+def cell(value: object) -> str:
+    return TOO_LONG if value is None else str(value)
+
+
 def table(columns: list[tuple[str, str]], seen: list[dict]) -> str:
-    rows = [[title for title, _ in columns], *([str(line.get(key, "")) for _, key in columns] for line in seen)]
+    rows = [[title for title, _ in columns], *([cell(line.get(key, "")) for _, key in columns] for line in seen)]
     widths = [max(map(len, column)) for column in zip(*rows)]
     return "\n".join("  ".join(map(str.ljust, row, widths)).rstrip() for row in rows)
 
@@ -424,22 +498,25 @@ def with_end(seen: dict) -> dict:
 def ps(client: Client, given):
     count = client.started()
     first = max(1, count - given.last + 1) if given.last else 1
-    seen = [seen for seen in client.views(range(first, count + 1)) if seen and (given.all or seen["state"] != "ended")]
+    seen = [seen for _, seen in client.look(range(first, count + 1)) if given.all or seen["state"] != "ended"]
     if first > 1:
         print(f"beamctl: {count} processes were started; these are of the last {given.last} (--last 0: of all)", file=sys.stderr)
     yield Answer(table(COLUMNS, [with_end(line) for line in seen]), seen)
 
 
-def places(seen: dict) -> list[str]:
-    return [seen["at"], *(frame["return"] for frame in seen["frames"])]
+def may_linger(seen: dict, instance: int) -> bool:
+    """Whether a live process's place or a frame's return place lies in that instance. They may, if they are too long to show."""
+    if seen["at"] is None:
+        return True
+    return any(place.endswith(f" instance {instance}") for place in [seen["at"], *(frame["return"] for frame in seen["frames"])])
 
 
 def lingers(client: Client, given):
-    """The processes whose place or a frame's return place lies in old code. Catch tags and places after timeouts aren't shown."""
+    """The processes that are in old code or return to it, and those that are too long to show. Catch tags and places after timeouts
+    aren't shown."""
     old = client.ask(17, utf8(given.module)).value["old"]
-    place = f" instance {old}"
-    live = (seen for seen in client.views(range(1, client.started() + 1)) if seen and "at" in seen) if old else []
-    seen = [line for line in live if any(at.endswith(place) for at in places(line))]
+    found = client.look(range(1, client.started() + 1)) if old else []
+    seen = [line for _, line in found if line["state"] != "ended" and may_linger(line, old)]
     yield Answer(table(COLUMNS, seen), seen)
 
 
@@ -451,7 +528,7 @@ def top(client: Client, given):
     turn = 0
     while True:
         asked = live + list(range(count + 1, count + PIPELINED + 1))
-        found = [(number, seen) for number, seen in zip(asked, client.views(asked)) if seen]
+        found = client.look(asked)
         count = max([count, *(number for number, _ in found)])
         found = [(number, seen) for number, seen in found if seen["state"] != "ended"]
         live = [number for number, _ in found]
@@ -513,7 +590,7 @@ COMMANDS = [
      [("--interval", {"type": seconds, "default": 1.0, "metavar": "SECONDS"}),
       ("--count", {"type": whole_number, "default": 0, "metavar": "N", "help": "looks (0: no end)"}),
       ("--lines", {"type": whole_number, "default": 20, "metavar": "N"}), LAST]),
-    ("lingers", lingers, "the processes that are in a module's old code, or return to it", [MODULE]),
+    ("lingers", lingers, "the processes that are in a module's old code or return to it, or are too long to show", [MODULE]),
     ("inspect", plain("inspect", "process"), "a process: registers, frames, mailbox", [PROCESS]),
     ("load", load, "make the files' modules current; what was current becomes old",
      [("file", {"metavar": "FILE", "nargs": "+"}), ("--strict", {"action": "store_true", "help": "refuse where there is old code"})]),
@@ -551,8 +628,9 @@ COMMANDS = [
 
 def add_options(parser: argparse.ArgumentParser, **more) -> None:
     parser.add_argument("--json", action="store_true", help="print each answer, or error, as a line of JSON", **more)
-    parser.add_argument("--timeout", type=seconds, metavar="SECONDS",
-                        help="how long to wait for each reply, and for what wait, call and ask wait for (ask: 5 if left out)", **more)
+    parser.add_argument("--timeout", type=time_limit, metavar="SECONDS",
+                        help="how long to wait for each reply (10 if left out), and for what wait, call and ask wait for (if left out: "
+                             "ask 5, wait and call without end); 0 or none: without end", **more)
 
 
 def add_commands(parser: argparse.ArgumentParser, **more) -> None:
@@ -586,7 +664,7 @@ def show_fault(fault: Failed, as_json: bool) -> None:
 
 def run(client: Client, given) -> int:
     """Runs one command, and answers its status. Raises WrongWords."""
-    client.session.timeout = given.timeout
+    client.set_limit(given.timeout)
     try:
         for found in given.run(client, given):
             show(found, given.json)
@@ -694,7 +772,7 @@ def main() -> int:
             stream.reconfigure(errors=errors)
     try:
         given = command_line().parse_args()
-        client = Client(Session(given.port, given.timeout))
+        client = Client(Session(given.port, SECONDS_FOR_A_REPLY))
         return run(client, given) if hasattr(given, "run") else prompt(client, given)
     except WrongWords as fault:
         print(f"{fault.usage}{fault}", file=sys.stderr)

@@ -11,6 +11,9 @@
 %% exception of the function that was called. After too_long, bad_kind, bad_command and errors of gen_tcp the session has
 %% ended. A process is its number or a pid; pid/1 is the pid of a number. A session occupies one client thread of the node.
 %%
+%% connect waits for a place at the node, and sends nothing before that does anything. So {error, timeout} of connect means that
+%% nothing was done, and all places may be taken; of another call, that it may still be done.
+%%
 %% steps, deliver, clock and timeout are for nodes without schedulers: here they are mostly not_ready, busy or backward_clock.
 -module(kanguriwe).
 -export([connect/1, connect/2, close/1]).
@@ -48,8 +51,18 @@ connect(Port) -> connect(Port, infinity).
 -spec connect(inet:port_number(), timeout()) -> answer(session()).
 connect(Port, Timeout) ->
     case gen_tcp:connect({127, 0, 0, 1}, Port, [binary, {packet, 4}, {active, false}, {nodelay, true}], Timeout) of
-        {ok, Socket} -> {ok, {Socket, Timeout}};
+        {ok, Socket} -> first_reply({Socket, Timeout});
         {error, Why} -> {error, Why}
+    end.
+
+%% A node takes a connection when it has a place for it. What was sent before waits in the system's buffers, and is done then, also if
+%% the client has given up. So the first command is one that does nothing, a Resume of process 0, which is always refused and enters
+%% nothing in the journal; no other command is sent before the refusal is there.
+first_reply(Session) ->
+    case resume(Session, 0) of
+        {error, Why} when Why =:= no_process; Why =:= journal_full; Why =:= no_memory -> {ok, Session};
+        {error, Why} -> close(Session), {error, Why};
+        {ok, _} -> close(Session), {error, bad_reply}
     end.
 
 -spec close(session()) -> ok.
@@ -182,23 +195,36 @@ load_helper(Session, File) ->
         {error, Why} -> {error, Why}
     end.
 
-%% The reason of a process when it has ended. It looks after pauses that grow to a second; each look is an entry of the journal.
+%% The reason of a process when it has ended. It asks after pauses that grow to a second, by Steps of no rows, which changes nothing
+%% and needs no view: that of a large state holds the node up, and one that is too long ends the session. It takes an entry of the
+%% journal only if the process can go on and no scheduler has it.
 -spec wait(session(), process(), timeout()) -> answer(term()).
 wait(Session, Process, Timeout) -> wait(Session, Process, ends(Timeout), 2).
 
 wait(Session, Process, End, Pause) ->
-    case inspect(Session, Process) of
-        {ok, Text} ->
-            case view(Text) of
-                #{state := ended, reason := Reason} -> {ok, Reason};
-                _ ->
-                    case left(End) of
-                        0 -> {error, timeout};
-                        Left ->
-                            timer:sleep(min(Pause, Left)),
-                            wait(Session, Process, End, min(1000, Pause * 3 div 2))
-                    end
+    case is_alive(Session, Process) of
+        true ->
+            case left(End) of
+                0 -> {error, timeout};
+                Left ->
+                    timer:sleep(min(Pause, Left)),
+                    wait(Session, Process, End, min(1000, Pause * 3 div 2))
             end;
+        false -> reason(Session, Process);
+        {error, Why} -> {error, Why}
+    end.
+
+is_alive(Session, Process) ->
+    case steps(Session, Process, 0) of
+        {error, no_process} -> false;
+        {error, Why} when Why =/= not_ready, Why =/= stopped, Why =/= busy -> {error, Why};
+        _ -> true
+    end.
+
+%% The reason of a process that has ended; no_process if it was never started.
+reason(Session, Process) ->
+    case inspect(Session, Process) of
+        {ok, Text} -> {ok, maps:get(reason, view(Text))};
         {error, Why} -> {error, Why}
     end.
 

@@ -26,6 +26,25 @@ cp "$root"/examples/t.{beam,S} .
 "$as" "$root/examples/v1/shop.S" shop.beam && "$as" "$root/examples/v2/shop.S" shop2.beam || exit 1
 "$as" "$root/examples/counter.S" counter.beam || exit 1
 printf '{module,erlang}.\n{exports,[]}.\n{attributes,[]}.\n{labels,1}.\n' >erlang.S && "$as" erlang.S erlang.beam || exit 1
+# hold(N, X) puts X into two places of a tuple, that into two of another, and so N times; it keeps the last tuple, and answers
+# {From, Question} with the question. leave(N, X) ends with that tuple as its reason.
+cat >grow.S <<'LISTING'
+{module,grow}. {exports,[{hold,2},{leave,2}]}. {attributes,[]}. {labels,10}.
+{function,hold,2,2}. {label,1}. {func_info,{atom,grow},{atom,hold},2}.
+{label,2}. {test,is_eq_exact,{f,6},[{x,0},{integer,0}]}. {allocate,1,2}. {move,{x,1},{y,0}}. {move,{integer,0},{x,1}}.
+{label,3}. {loop_rec,{f,5},{x,0}}. {test,is_tuple,{f,4},[{x,0}]}. {test,test_arity,{f,4},[{x,0},2]}. remove_message.
+{get_tuple_element,{x,0},1,{x,1}}. {get_tuple_element,{x,0},0,{x,0}}. send.
+{move,{y,0},{x,1}}. {move,{integer,0},{x,0}}. {call_last,2,{f,2},1}.
+{label,4}. {loop_rec_end,{f,3}}.
+{label,5}. {wait,{f,3}}.
+{label,6}. {gc_bif,'-',{f,0},2,[{x,0},{integer,1}],{x,0}}. {test_heap,3,2}. {put_tuple2,{x,1},{list,[{x,1},{x,1}]}}. {call_only,2,{f,2}}.
+{function,leave,2,8}. {label,7}. {func_info,{atom,grow},{atom,leave},2}.
+{label,8}. {test,is_eq_exact,{f,9},[{x,0},{integer,0}]}. {move,{x,1},{x,0}}. {call_ext_only,1,{extfunc,erlang,exit,1}}.
+{label,9}. {gc_bif,'-',{f,0},2,[{x,0},{integer,1}],{x,0}}. {test_heap,3,2}. {put_tuple2,{x,1},{list,[{x,1},{x,1}]}}. {call_only,2,{f,8}}.
+LISTING
+"$as" grow.S grow.beam || exit 1
+# Grown sixteen times these are 16 MB of text.
+leaf=$(printf 'a%.0s' {1..250})
 head -c 20 t.beam >cut.beam
 printf '\x1f\x8b\x08' >packed.beam
 head -c 8388608 /dev/zero >large.beam
@@ -55,6 +74,16 @@ start() {
 start
 
 ctl() { python3 "$root/clients/beamctl.py" --port "$port" "$@"; }
+
+# occupied SECONDS WORD..: the node's only place is taken for so long, and beamctl tries.
+occupied() {
+    local seconds=$1
+    shift
+    exec 9<>"/dev/tcp/127.0.0.1/$port"
+    (sleep "$seconds") 9<&9 &
+    exec 9>&-
+    ctl "$@"
+}
 
 # held PID: waits until the process is held.
 held() {
@@ -528,9 +557,18 @@ beamctl: an atom has at most 255 characters
 $ ctl versions $'\xff'
 beamctl: '\udcff' is no UTF-8
 (status 2)
-$ ctl --timeout 0 ps 2>&1 | tail -1
-beamctl: argument --timeout: invalid seconds value: '0'
+$ ctl --timeout -1 ps 2>&1 | tail -1
+beamctl: argument --timeout: -1 is neither seconds nor none
 (status 2)
+$ ctl --timeout soon ps 2>&1 | tail -1
+beamctl: argument --timeout: soon is neither seconds nor none
+(status 2)
+$ ctl top --interval 0 2>&1 | tail -1
+beamctl: argument --interval: invalid seconds value: '0'
+(status 2)
+$ ctl --timeout 0 versions nothing; ctl versions nothing --timeout none
+current none, old none
+current none, old none
 $ ctl unknown 2>&1 | cut -c 1-50 | tail -1
 beamctl: argument COMMAND: invalid choice: 'unknow
 (status 2)
@@ -568,6 +606,83 @@ true
 $ ctl call erlang:demonitor '[a]'
 beamctl: error: badarg
 (status 3)
+
+# ---- Processes that are too long to show: 45, and 51, which ends so; 46 is a short one
+$ ctl load grow.beam
+current 18, old none
+$ ctl spawn grow:hold "[16,$leaf]"
+<0.45.0>
+$ ctl spawn grow:hold '[0,small]'
+<0.46.0>
+$ ctl inspect 45
+beamctl: TooLong
+(status 1)
+$ ctl ask 45 hello
+hello
+$ ctl --timeout 0.2 wait 45
+beamctl: <0.45.0> hasn't ended within 0.2 seconds
+(status 1)
+$ ctl ps
+PID       STATE    MAILBOX  TRANSIT  AT
+<0.45.0>  waiting                    too long to show
+<0.46.0>  waiting  0        0        grow:hold/2 label 3 + 0 instance 18
+$ ctl --json ps --last 3 2>/dev/null | cut -c 1-106
+[{"pid": "<0.45.0>", "state": "waiting", "at": null}, {"pid": "<0.46.0>", "state": "waiting", "at": "grow:
+$ ctl top --count 1 | grep .
+2 processes, 2 waiting
+PID       RAN  STATE    MAILBOX  TRANSIT  AT
+<0.45.0>  0%   waiting                    too long to show
+<0.46.0>  0%   waiting  0        0        grow:hold/2 label 3 + 0 instance 18
+$ ctl register grown 45
+done
+$ ctl ask --timeout none grown hello
+hello
+$ ctl lingers grow
+PID  STATE  MAILBOX  TRANSIT  AT
+$ ctl load grow.beam
+current 19, old 18
+$ ctl lingers grow
+PID       STATE    MAILBOX  TRANSIT  AT
+<0.45.0>  waiting                    too long to show
+<0.46.0>  waiting  0        0        grow:hold/2 label 3 + 0 instance 18
+$ ctl --json lingers grow | cut -c 1-106
+[{"pid": "<0.45.0>", "state": "waiting", "at": null}, {"pid": "<0.46.0>", "state": "waiting", "at": "grow:
+$ ctl kill 45
+done
+$ ctl wait 45
+<0.45.0> ended killed
+$ ctl lingers grow
+PID       STATE    MAILBOX  TRANSIT  AT
+<0.46.0>  waiting  0        0        grow:hold/2 label 3 + 0 instance 18
+$ ctl spawn grow:leave "[16,$leaf]"
+<0.51.0>
+$ ctl wait 51
+<0.51.0> ended with a reason that is too long to show
+$ ctl --json wait 51
+{"pid": "<0.51.0>", "state": "ended", "reason": null}
+$ ctl kill 51
+beamctl: NoProcess: <0.51.0> has ended
+(status 1)
+$ ctl call grow:leave "[16,$leaf]"
+beamctl: TooLong
+(status 1)
+$ ctl ps --all --last 2
+beamctl: 52 processes were started; these are of the last 2 (--last 0: of all)
+PID       STATE  MAILBOX  TRANSIT  AT
+<0.51.0>  ended                    too long to show
+<0.52.0>  ended                    too long to show
+
+# ---- The only place is taken: what was given up isn't done later
+$ occupied 3 --timeout 0.2 load t.beam
+beamctl: no first reply within 0.2 seconds: nothing was sent that changes anything. All places may be taken
+(status 1)
+$ occupied 3 --timeout 0.2 --json load t.beam
+{"error": "NoPlace"}
+(status 1)
+$ occupied 1 versions t
+current 10, old 9
+$ occupied 1 --timeout none versions t
+current 10, old 9
 END_OF_LINES
 compare
 

@@ -5,9 +5,10 @@
 
 -define(IS(Wanted, Call), {??Call, fun() -> Call end, Wanted}).
 
-main([Port]) ->
-    {ok, Node} = kanguriwe:connect(list_to_integer(Port), 5000),
-    Found = [holds(Text, catch Call(), Wanted) || {Text, Call, Wanted} <- calls(Node)],
+main([Word]) ->
+    Port = list_to_integer(Word),
+    {ok, Node} = kanguriwe:connect(Port, 5000),
+    Found = [holds(Text, catch Call(), Wanted) || {Text, Call, Wanted} <- calls(Port, Node)],
     io:format("ctl_calls: ~b of ~b hold~n", [length([held || true <- Found]), length(Found)]),
     halt(case lists:all(fun(Held) -> Held end, Found) of true -> 0; false -> 1 end).
 
@@ -16,8 +17,10 @@ holds(Text, Found, Wanted) ->
     io:format("differs: ~s~nwanted: ~p~nfound: ~p~n", [Text, Wanted, Found]),
     false.
 
-calls(Node) ->
+calls(Port, Node) ->
     Pid = fun kanguriwe:pid/1,
+    %% Grown sixteen times these are 16 MB of text.
+    Leaf = list_to_atom(lists:duplicate(250, $a)),
     [?IS({ok, []}, kanguriwe:ps(Node)),
      ?IS({error, no_process}, kanguriwe:inspect(Node, 1)),
      ?IS({ok, {1, 0}}, kanguriwe:load(Node, "t.beam")),
@@ -90,6 +93,15 @@ calls(Node) ->
      ?IS({ok, kanguriwe:reference(1)}, kanguriwe:call(Node, erlang, make_ref, [])),
      ?IS({ok, true}, kanguriwe:call(Node, erlang, is_reference, [make_ref()])),
      ?IS({ok, kanguriwe:reference(2)}, kanguriwe:call(Node, erlang, monitor, [process, Pid(1)])),
+     ?IS({ok, {10, 0}}, kanguriwe:load(Node, "grow.beam")),
+     ?IS({ok, 23}, kanguriwe:spawn(Node, grow, hold, [16, Leaf])),
+     ?IS({ok, hello}, kanguriwe:ask(Node, 23, hello, 5000)),
+     ?IS({error, timeout}, kanguriwe:wait(Node, 23, 50)),
+     ?IS({ok, done}, kanguriwe:kill(Node, 23, kill)),
+     ?IS({ok, killed}, kanguriwe:wait(Node, 23, 5000)),
+     ?IS({error, no_process}, kanguriwe:wait(Node, 99, 5000)),
+     %% This session has the node's only place.
+     ?IS({error, timeout}, kanguriwe:connect(Port, 100)),
      ?IS({error, bad_command}, kanguriwe:set_break(Node, nowhere)),
      ?IS({error, closed}, kanguriwe:versions(Node, t)),
      ?IS(ok, kanguriwe:close(Node))].

@@ -1,9 +1,11 @@
 #!/usr/bin/env python3
-"""What clients/beamctl.py makes of replies: each refusal, frame error and fault of a file by its number, and replies that are
-no replies, at each command. A small server in this process gives them. Prints how many hold; status 1 names what doesn't."""
+"""What clients/beamctl.py makes of replies: each refusal, frame error and fault of a file by its number, replies that are no
+replies, and none at all, at each command and as the first reply of a connection. A small server in this process gives them.
+Prints how many hold; status 1 names what doesn't."""
 
 import contextlib
 import io
+import json
 import os
 import random
 import socket
@@ -21,10 +23,15 @@ FILE = os.path.join(ROOT, "examples", "t.beam")
 
 
 class Answers:
-    """A server whose answer to each frame is what `reply` gives of the frame's kind."""
+    """A server whose answer to each frame is what `reply` gives of the frame's kind; to the first one of a connection it is what
+    `first` gives of how many connections there were. None is no answer. `body` is that of the last frame. Where it `drops`, answers
+    that the system hasn't sent are lost when the server ends a connection, as they are where commands are unread."""
 
     def __init__(self):
         self.reply = lambda kind: b""
+        self.first = lambda connections: REFUSED
+        self.connections = 0
+        self.body, self.drops = b"", False
         self.listener = socket.create_server(("127.0.0.1", 0))
         self.port = self.listener.getsockname()[1]
         threading.Thread(target=self.serve, daemon=True).start()
@@ -32,12 +39,19 @@ class Answers:
     def serve(self):
         while True:
             connection, _ = self.listener.accept()
+            self.connections += 1
             with connection, contextlib.suppress(OSError), connection.makefile("rb") as frames:
-                while length := int.from_bytes(frames.read(4), "big"):
-                    answer = self.reply(frames.read(length)[0])
-                    connection.sendall(answer)
-                    if not whole(answer) or answer[4] == 7:
-                        break
+                goes_on = frames.read(len(FIRST)) == FIRST and self.give(connection, self.first(self.connections))
+                while goes_on and (length := int.from_bytes(frames.read(4), "big")):
+                    kind, *self.body = frames.read(length)
+                    goes_on = self.give(connection, self.reply(kind))
+                if self.drops:
+                    connection.setsockopt(socket.SOL_SOCKET, socket.SO_LINGER, struct.pack("ii", 1, 0))
+
+    def give(self, connection, answer):
+        """Whether the connection goes on after the answer."""
+        connection.sendall(answer or b"")
+        return answer is None or whole(answer) and answer[4] != 7
 
 
 def whole(answer: bytes) -> bool:
@@ -48,11 +62,11 @@ def frame(*body: int) -> bytes:
     return struct.pack(">I", len(body)) + bytes(body)
 
 
-def control(port: int, words: list[str], timeout: str) -> tuple[object, str]:
+def control(port: int, words: list[str], timeout: str | None) -> tuple[object, str]:
     """The status, and what is printed; a traceback, if there is one."""
     printed = io.StringIO()
     printed.reconfigure = lambda **_: None
-    sys.argv = ["beamctl.py", "--port", str(port), "--timeout", timeout, *words]
+    sys.argv = ["beamctl.py", "--port", str(port), *(["--timeout", timeout] if timeout else []), *words]
     with contextlib.redirect_stdout(printed), contextlib.redirect_stderr(printed):
         try:
             status = beamctl.main()
@@ -61,6 +75,9 @@ def control(port: int, words: list[str], timeout: str) -> tuple[object, str]:
     return status, printed.getvalue()
 
 
+# Resume of process 0, by which each connection has to begin.
+FIRST = frame(14, 0, 0, 0, 0)
+REFUSED = frame(6, 2)
 COMMANDS = [
     ["load", FILE], ["load", "--strict", FILE], ["atomic", FILE, FILE], ["delete", "t"], ["soft_purge", "t"], ["purge", "t"], ["versions", "t"],
     ["spawn", "t:sum", "[4]"], ["send", "1", "a"], ["steps", "1", "1"], ["deliver", "1"], ["clock", "1"], ["timeout", "1"],
@@ -108,8 +125,8 @@ def main() -> int:
 
     for words in COMMANDS:
         for number, name in REFUSALS.items():
-            # ps and top ask for processes until there is none.
-            if not (name == "NoProcess" and words[0] in ("ps", "top")):
+            # ps and top ask for processes until there is none, wait asks until the process has ended.
+            if not (name == "NoProcess" and words[0] in ("ps", "top") or name in beamctl.STATES and words[0] == "wait"):
                 check_text(words, frame(6, number), name)
     for (layer, number), name in FILE_FAULTS.items():
         check_text(["load", FILE], frame(6, 12, layer, number), f"BadFile: {name} ({layer},{number})")
@@ -128,8 +145,65 @@ def main() -> int:
                 kind, frame(beamctl_reply(kind), *random.randbytes(random.randrange(12))))
             found = control(server.port, words, "0.05")
             check(f"{words[0]} of {replies}", found[0] in (0, 1, 3), found)
+    for name, (found, wanted) in without_replies(server).items():
+        check(name, found == wanted, found)
+    for _ in range(20):
+        found = long_among_many(server)
+        check("ps of processes that are too long to show", found == (COUNT, list(LONG)), found)
     print(f"ctl_replies: {count - failed} of {count} hold")
     return int(failed > 0)
+
+
+NO_REPLY = "beamctl: no reply within 0.05 seconds: it may still be done\n"
+NO_PLACE = "beamctl: no first reply within 0.05 seconds: nothing was sent that changes anything. All places may be taken\n"
+
+
+def without_replies(server: Answers) -> dict[str, tuple[object, object]]:
+    """By what is tried: what comes where a reply, or the first one, doesn't come, and what has to come."""
+    checks = {}
+    server.reply = lambda kind: None
+    for words in COMMANDS:
+        checks[f"{words[0]} without a reply"] = control(server.port, words, "0.05"), (1, NO_REPLY)
+    checks["--json without a reply"] = control(server.port, ["--json", "ps"], "0.05"), (1, '{"error": "NoReply"}\n')
+    server.first = lambda connections: None
+    for words in COMMANDS:
+        checks[f"{words[0]} without a first reply"] = control(server.port, words, "0.05"), (1, NO_PLACE)
+    checks["--json without a first reply"] = control(server.port, ["--json", "ps"], "0.05"), (1, '{"error": "NoPlace"}\n')
+
+    server.reply = lambda kind: frame(5, 0, 0, 0, 1, 0, 0, 0, 2)
+    for reply in [*BROKEN, frame(7, 2), frame(0)]:
+        server.first = lambda connections: reply
+        status = 0 if reply[4:5] == b"\6" else 1
+        checks[f"a first reply {reply[:40].hex(' ')}"] = control(server.port, ["versions", "t"], "0.05")[0], status
+
+    # A process that waits, then two connections without a first reply, then it has ended.
+    begun = server.connections
+    server.first = lambda connections: None if 1 < connections - begun < 4 else REFUSED
+    server.reply = lambda kind: (
+        frame(6, 4) if server.connections == begun + 1 else REFUSED if kind == 8 else frame(4, *b"pid 1 ended normal\n"))
+    beamctl.SECONDS_FOR_A_REPLY = 0.05
+    checks["wait without a place meanwhile"] = control(server.port, ["wait", "1"], None), (0, "<0.1.0> ended normal\n")
+    return checks
+
+
+COUNT, LONG = 150, (1, 5, 70, 71, 72, 140)
+
+
+def of_many(server: Answers) -> bytes:
+    """The answer to Steps or Inspect where 150 processes wait, of which six are too long to show."""
+    number = int.from_bytes(server.body[:4], "big")
+    if number > COUNT:
+        return REFUSED
+    return frame(7, 1) if number in LONG else frame(4, *f"pid {number} waiting\nat a:b/0 label 1 + 0 instance 1\n".encode())
+
+
+def long_among_many(server: Answers) -> tuple[int, list[int]]:
+    """How many processes ps shows, and which of them as too long."""
+    server.first, server.drops = lambda connections: REFUSED, True
+    server.reply = lambda kind: frame(6, 4) if kind == 8 else of_many(server)
+    status, text = control(server.port, ["--json", "ps"], "5")
+    shown = json.loads(text) if status == 0 else []
+    return len(shown), [at for at, line in enumerate(shown, 1) if line["at"] is None]
 
 
 def beamctl_reply(kind: int) -> int:

@@ -155,7 +155,7 @@ return.
 END
 "$as" s.S s.beam
 time='[0-9]{4}-[0-9]{2}-[0-9]{2}T[0-9]{2}:[0-9]{2}:[0-9]{2}\.[0-9]{3}Z'
-module='beam_serve::[a-z]+'
+module='beam_serve::[a-z_]+'
 
 # serve WORD..: starts a node; port is where it listens.
 serve() {

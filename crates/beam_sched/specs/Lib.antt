@@ -1,5 +1,6 @@
 pub mod CommandAnswers
 pub mod Deadlines
+pub mod MadeRunnable
 pub mod RunQueues
 pub mod QueueStates
 pub mod NodeClock

@@ -1,4 +1,6 @@
 //! Which processes an accepted event makes runnable.
+ghost use Rattle.std.specs.Prelude.{◌≡◌};
+ghost use Rattle.beam_sched.specs.MadeRunnable.{made_runnable_by, receiver_of};
 
 use beam_debug::outcome::Outcome;
 use beam_image::Image;
@@ -20,7 +22,10 @@ pub enum MadeRunnable {
 }
 
 /// The receiver of a message, which may be any process if it is sent to a name.
-fn receiver(to: &Term) -> MadeRunnable {
+#[tactic(auto, using(crate::proofs::MadeRunnable::by_name))]
+fn receiver(to: &Term) -> MadeRunnable
+    ensures { result ≡ receiver_of to.now }
+{
     match to.as_pid() {
         Some(pid) => MadeRunnable::One(pid.id),
         None => MadeRunnable::Any,
@@ -29,7 +34,9 @@ fn receiver(to: &Term) -> MadeRunnable {
 
 impl MadeRunnable {
     /// Which processes an event may make runnable.
-    pub fn of(event: &DebugEvent<Image>) -> MadeRunnable {
+    pub fn of(event: &DebugEvent<Image>) -> MadeRunnable
+        ensures { result ≡ made_runnable_by event.now }
+    {
         match event {
             DebugEvent::Node(Event::Spawn { .. }) => MadeRunnable::Started,
             DebugEvent::Node(Event::Send { to, .. }) => receiver(to),
@@ -37,7 +44,19 @@ impl MadeRunnable {
             | DebugEvent::Resume { pid } => MadeRunnable::One(*pid),
             DebugEvent::Node(Event::Versions(_)) | DebugEvent::Inspect { .. } =>
                 MadeRunnable::Nobody,
-            _ => MadeRunnable::Any,
+            DebugEvent::Node(
+                Event::Load(_)
+                | Event::LoadStrict(_)
+                | Event::AtomicLoad { .. }
+                | Event::Delete(_)
+                | Event::SoftPurge(_)
+                | Event::Purge(_)
+                | Event::Steps { .. }
+                | Event::Clock { .. },
+            )
+            | DebugEvent::SetBreak(_)
+            | DebugEvent::ClearBreak(_)
+            | DebugEvent::StepOne { .. } => MadeRunnable::Any,
         }
     }
 

@@ -73,7 +73,8 @@ impl QueueStates {
 
     /// Sets the queue state of a process for which there is room.
     pub fn put(&mut self, pid: u32, state: QueueState)
-        ensures { pid < length self.old
+        ensures len { length self.new ≡ length self.old }
+        ensures state { pid < length self.old
             → (other : ℕ) → queue_state_of self.new other ≡ (if other == pid then state else queue_state_of self.old other) }
     {
         if let Some(place) = self.states.get_mut(pid as usize) {

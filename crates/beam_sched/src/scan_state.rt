@@ -75,6 +75,8 @@ impl ScanState {
         ensures after { self.new.after ≡ self.old.after }
         ensures changed { self.old.after ≢ 0 → self.new.is_changed ≡ self.old.is_changed }
         ensures retry_later { self.old.after ≢ 0 → self.new.retry ≡ self.old.retry }
+        ensures due { self.new.due ≡ None }
+        ensures all { self.old.after ≡ 0 → (self.new.is_changed ≡ false) × (self.new.retry ≡ None) }
     {
         self.due = None;
         if self.after == 0 {

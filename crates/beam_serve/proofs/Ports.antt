@@ -13,4 +13,5 @@ starting_is port m n (fault.File f) h = absurd h
 starting_is port m n (fault.Start refused) h = absurd h
 starting_is port m n fault.JournalFull h = absurd h
 starting_is port m n fault.Mismatch h = absurd h
+starting_is port m n fault.ProcessesOut h = absurd h
 starting_is port m n fault.Unwritten h = absurd h

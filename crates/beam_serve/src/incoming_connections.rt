@@ -45,6 +45,14 @@ impl<'a, R> IncomingConnections<'a, R> {
     }
 }
 
+/// Logs that the next connection has to wait, if each of several threads serves one now.
+fn log_places<R: Wait + Log>(rt: &R, acceptor: &Acceptor<'_>) {
+    match acceptor.endpoint().sockets.all_taken(rt) {
+        Some(count) if count > 1 => info!(rt; "{count} of {count} places are taken"),
+        _ => {}
+    }
+}
+
 /// Logs that a session failed: a warning with the refusal's name, and then, at info, the peer, the command after which it failed, and the
 /// operating system's error, if a stream failed.
 fn log_failure<R: Log>(rt: &R, peer: SocketAddr, error: &ServeError, os_error: Option<OsError>) {
@@ -89,6 +97,7 @@ impl<'a, R: Wait + Clock + Log> Incoming<Link<'a, R>> for IncomingConnections<'a
             info!(self.rt; "{peer}: connected");
             if let Some(link) = self.open(stream) {
                 self.peer = Some(peer);
+                log_places(self.rt, self.acceptor);
                 return Some(link);
             }
         }

@@ -44,7 +44,11 @@ fn filter(level: LogLevel) -> LevelFilter {
     }
 }
 
-/// A runtime that logs to standard error, up to a level.
-pub fn logged<R: Eprint + Clock>(rt: &R, level: LogLevel) -> Logged<&R, TimestampedStderr<&R>> {
-    Logged::new(rt, filter(level), TimestampedStderr(rt))
+/// A runtime that logs to the standard error of a console, with its time, up to a level.
+pub fn logged<'a, R, C: Eprint + Clock>(
+    rt: &'a R,
+    console: &'a C,
+    level: LogLevel,
+) -> Logged<&'a R, TimestampedStderr<&'a C>> {
+    Logged::new(rt, filter(level), TimestampedStderr(console))
 }

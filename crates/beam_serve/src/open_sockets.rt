@@ -66,6 +66,17 @@ impl OpenSockets {
         self.served.lock(rt).put(number, None);
     }
 
+    /// How many threads serve connections, if each of them serves one now.
+    pub fn all_taken<R: Wait>(&self, rt: &R) -> Option<usize> {
+        let served = self.served.lock(rt);
+        let count = served.streams.len();
+        if served.streams.iter().all(|stream| stream.is_some()) {
+            Some(count)
+        } else {
+            None
+        }
+    }
+
     /// Whether the sockets are shut.
     pub fn are_shut<R: Wait>(&self, rt: &R) -> bool {
         self.served.lock(rt).is_shut

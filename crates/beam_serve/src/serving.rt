@@ -1,5 +1,5 @@
 //! A node that serves a port: its scheduler threads, and the connections beside them.
-ghost use Rattle.std.specs.Prelude.{◌≡◌, ◌≢◌, ◌≤◌, IfErr};
+ghost use Rattle.std.specs.Prelude.{◌≡◌, ◌≢◌, ◌≤◌, min, IfErr, OnOk};
 ghost use Rattle.beam_journal.specs.Entering.{most_entries};
 ghost use Rattle.beam_tools.specs.Job.{IsOfPort};
 
@@ -63,9 +63,9 @@ fn contexts_of<'l, B: NodeBrand + QueueBrand>(
     }
 }
 
-/// Loads the files and starts the process of the line, and prints the address.
-fn start_up<'l, F: Files, B: NodeBrand + QueueBrand, R: Wait + Print + Log + AllocGlobal>(
-    rt: &R,
+/// Loads the files and starts the process of the line, and prints the address on the console.
+fn start_up<'l, F: Files, B: NodeBrand + QueueBrand, R: Wait + Log + AllocGlobal, C: Print>(
+    console: &C,
     alloc: Global,
     files: &mut F,
     desk: &mut SeatDesk<'_, B, R>,
@@ -75,7 +75,7 @@ fn start_up<'l, F: Files, B: NodeBrand + QueueBrand, R: Wait + Print + Log + All
     ensures fault { IfErr result (IsOfPort line.now.port) }
 {
     load_and_start(alloc, files, desk, line)?;
-    if println!(rt; "listening on {address}").is_err() {
+    if println!(console; "listening on {address}").is_err() {
         return Err(JobFault::Unwritten);
     }
     Ok(())
@@ -94,7 +94,8 @@ fn port_of(line: &Serve, address: SocketAddr) -> u16
 
 /// How many entries the journal can have.
 fn limit_of(line: &Serve) -> u32
-    ensures { result ≤ most_entries }
+    ensures most { result ≤ most_entries }
+    ensures limit { result ≡ min line.now.journal_limit most_entries }
 {
     if line.journal_limit < MOST_ENTRIES {
         line.journal_limit
@@ -116,6 +117,7 @@ fn options_of(line: &Serve) -> ServeOptions {
 
 /// The outcome of a node that ended for this reason.
 fn outcome<'l>(line: &Serve<'l>, address: SocketAddr, ended: Ended) -> Result<(), JobFault<'l>>
+    ensures done { OnOk result (ended ≡ Ended.Served) }
     ensures fault { IfErr result (IsOfPort line.now.port) }
 {
     match ended {
@@ -204,9 +206,11 @@ fn run<
     'l,
     F: Files,
     B: NodeBrand + QueueBrand + Send + Sync,
-    R: Threads + Wait + Clock + Print + Log + AllocGlobal + Sync,
+    R: Threads + Wait + Clock + Log + AllocGlobal + Sync,
+    C: Print,
 >(
     rt: &'a R,
+    console: &C,
     alloc: Global,
     shared: &'a Shared<B>,
     acceptor: &'a Acceptor<'a>,
@@ -223,7 +227,7 @@ fn run<
     };
     let mut desk = SeatDesk::new(rt, shared, context);
     let address = acceptor.endpoint().address;
-    match start_up(rt, alloc, files, &mut desk, address, line) {
+    match start_up(console, alloc, files, &mut desk, address, line) {
         Ok(()) => {
             serve_connections(rt, alloc, shared, acceptor, line, desk, contexts, parts);
             outcome(line, address, ended_of(rt, acceptor))
@@ -266,14 +270,16 @@ fn queues_of(line: &Serve) -> usize {
 }
 
 /// Serves the connections to a listener with a new node, and closes the node. `Mismatch` where the thread contexts aren't all of the
-/// node's.
+/// node's, `ProcessesOut` where a worker didn't commit a process that it had checked out.
 fn serve_node<
     'l,
     F: Files,
     B: NodeBrand + QueueBrand + Send + Sync,
-    R: Threads + Wait + Clock + Print + Log + AllocGlobal + Sync,
+    R: Threads + Wait + Clock + Log + AllocGlobal + Sync,
+    C: Print,
 >(
     rt: &R,
+    console: &C,
     alloc: Global,
     unbranded: UnbrandedKeeper,
     queues: queue::UnbrandedQueues,
@@ -293,13 +299,16 @@ fn serve_node<
     let shared = Shared::new(alloc, node);
     let acceptor = Acceptor::new(endpoint, line.connections);
     let ended = run(
-        rt, alloc, &shared, &acceptor, files, line, contexts, &mut parts,
+        rt, console, alloc, &shared, &acceptor, files, line, contexts, &mut parts,
     );
-    let is_closed = is_closed(rt, alloc, shared.into_node(), parts);
+    let node = shared.into_node();
+    let are_all_in = node.checked_out_count() == 0;
+    let is_closed = is_closed(rt, alloc, node, parts);
     match ended {
         Err(fault) => Err(fault),
-        Ok(()) if is_closed => Ok(()),
-        Ok(()) => Err(JobFault::Mismatch),
+        Ok(()) if !is_closed => Err(JobFault::Mismatch),
+        Ok(()) if !are_all_in => Err(JobFault::ProcessesOut),
+        Ok(()) => Ok(()),
     }
 }
 
@@ -309,11 +318,12 @@ fn net_failed<'l>(line: &Serve<'l>, error: &Error) -> JobFault<'l>
     JobFault::Net(line.port, OsError::of(error))
 }
 
-/// Listens on the port of 127.0.0.1, loads the files and starts the process of the line, prints the address, and serves the connections. As
-/// many connections are served at once as the line says, each by a thread with a thread context of its own; the next one waits to be
-/// accepted. A session that fails is logged as a warning, and the next connection is accepted. Where the listener fails, and with a full
-/// journal where the line asks for that, the connections that are served are shut, the workers end after the slice that they have, and the
-/// node is closed with all its thread contexts. A thread that can't be made is logged as a warning, and the others serve.
+/// Listens on the port of 127.0.0.1, loads the files and starts the process of the line, prints the address on the console, and serves the
+/// connections. What it logs goes to the console's error output, with the console's time. As many connections are served at once as the
+/// line says, each by a thread with a thread context of its own; the next one waits to be accepted. A session that fails is logged as a
+/// warning, and the next connection is accepted. Where the listener fails, and with a full journal where the line asks for that, the
+/// connections that are served are shut, the workers end after the slice that they have, and the node is closed with all its thread
+/// contexts. A thread that can't be made is logged as a warning, and the others serve.
 ///
 /// - `File` where a file isn't loaded, `Start` and `LongName` where the process isn't started: no connection is accepted then;
 /// - `Net` where listening or accepting fails;
@@ -326,11 +336,10 @@ pub fn serve<
         + Wait
         + Clock
         + rt::Files
-        + Print
-        + Eprint
         + AllocGlobal
         + Sync,
->(rt: &R, line: &Serve<'l>) -> Result<(), JobFault<'l>>
+    C: Print + Eprint + Clock + Sync,
+>(rt: &R, console: &C, line: &Serve<'l>) -> Result<(), JobFault<'l>>
     ensures fault { IfErr result (IsOfPort line.now.port) }
 {
     let Ok(unbranded) = UnbrandedKeeper::new(rt.alloc()) else {
@@ -359,9 +368,10 @@ pub fn serve<
         sockets: &sockets,
         address,
     };
-    let log = logged(rt, line.log);
-    serve_node::<FileSystem<'_, R>, Brand, _>(
+    let log = logged(rt, console, line.log);
+    serve_node::<FileSystem<'_, R>, Brand, _, _>(
         &log,
+        console,
         rt.alloc(),
         unbranded,
         queues,

@@ -104,6 +104,13 @@ impl<B: NodeBrand> Node<B> {
         let _entries = self.journal.entries();
     }
 
+    /// How many processes are checked out: handed out, and not committed since.
+    pub fn checked_out_count(&self) -> usize
+        ensures { result ≡ length self.now.checked_out }
+    {
+        self.checked_out.len()
+    }
+
     pub(crate) fn into_journal(self) -> Journal
         ensures { result.entries ≡ self.journal }
     {

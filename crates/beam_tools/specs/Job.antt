@@ -54,6 +54,7 @@ job_message (fault.Start refused) = start_message refused
 job_message fault.LongName = codes "beamnode: serve: TooLong\n"
 job_message fault.JournalFull = codes "beamnode: serve: JournalFull\n"
 job_message fault.Mismatch = codes "beamnode: serve: Mismatch\n"
+job_message fault.ProcessesOut = codes "beamnode: serve: ProcessesOut\n"
 job_message fault.Unwritten = codes "beamnode: output: WriteFailed\n"
 job_message fault.NoMemory = codes "beamnode: NoMemory\n"
 

@@ -49,6 +49,8 @@ pub enum JobFault<'a> {
     JournalFull,
     /// The seats that came back aren't all of the node's, each once.
     Mismatch,
+    /// A process is still checked out when the node is to be closed.
+    ProcessesOut,
     /// The address can't be written on the output.
     Unwritten,
     /// Memory was refused.
@@ -108,6 +110,7 @@ fn tell_fault<E: Errors>(fault: &JobFault<'_>, errors: &mut E)
         JobFault::LongName => errors.tell(b"beamnode: serve: TooLong\n"),
         JobFault::JournalFull => errors.tell(b"beamnode: serve: JournalFull\n"),
         JobFault::Mismatch => errors.tell(b"beamnode: serve: Mismatch\n"),
+        JobFault::ProcessesOut => errors.tell(b"beamnode: serve: ProcessesOut\n"),
         JobFault::Unwritten => errors.tell(b"beamnode: output: WriteFailed\n"),
         JobFault::NoMemory => errors.tell(b"beamnode: NoMemory\n"),
     }

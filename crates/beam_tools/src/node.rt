@@ -47,7 +47,7 @@ fn is_normal(reason: &Term) -> bool
 // A term as Erlang text.
 fn printed<'a>(alloc: Global, term: &Term) -> Result<Vec<u8>, RunFault<'a>>
     ensures text { IfOk result (λ text. text.items ≡ text_of term.now) }
-    ensures memory { IsOkUnless result Fault.NoMemory }
+    ensures memory { IsOkUnless result RunFault.NoMemory }
 {
     let mut text = Vec::new(alloc);
     match print_erl(term, &mut text) {
@@ -106,7 +106,7 @@ fn run<'a, F: Files>(
 ) -> Result<Term, RunFault<'a>>
     ensures value { IfOk result (λ v. ComesTo (F.contents files.old) (call_line line.now) (Ended normal v)) }
     ensures fault { IfErr result (RunSays (F.contents files.old) (call_line line.now)) }
-    ensures unprinted { IfErr result (λ f. f ≢ Fault.Unwritten) }
+    ensures unprinted { IfErr result (λ f. f ≢ RunFault.Unwritten) }
     ensures wrong { IfErr result (λ f. status_of f ≡ 2 → files.new ≡ files.old) }
 {
     match call(alloc, line, files) {

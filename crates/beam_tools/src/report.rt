@@ -62,7 +62,7 @@ impl Wrong<'_> {
 
 /// Writes that a run of the program fails at a file, and why.
 pub fn tell_file<E: Errors>(program: Program, file: &FileFault<'_>, errors: &mut E)
-    ensures { E.told errors.new ≡ append_known (E.told errors.old) (message_of program (Fault.File file.now)) }
+    ensures { E.told errors.new ≡ append_known (E.told errors.old) (message_of program (RunFault.File file.now)) }
 {
     tell_three(
         program.name().as_bytes(),
@@ -74,7 +74,7 @@ pub fn tell_file<E: Errors>(program: Program, file: &FileFault<'_>, errors: &mut
 }
 
 fn tell_wrong<E: Errors>(program: Program, wrong: &Wrong<'_>, errors: &mut E)
-    ensures { E.told errors.new ≡ append_known (E.told errors.old) (message_of program (Fault.Wrong wrong.now)) }
+    ensures { E.told errors.new ≡ append_known (E.told errors.old) (message_of program (RunFault.Wrong wrong.now)) }
 {
     tell_three(
         program.name().as_bytes(),
@@ -87,7 +87,7 @@ fn tell_wrong<E: Errors>(program: Program, wrong: &Wrong<'_>, errors: &mut E)
 }
 
 fn tell_unwritten<E: Errors>(program: Program, errors: &mut E)
-    ensures { E.told errors.new ≡ append_known (E.told errors.old) (message_of program Fault.Unwritten) }
+    ensures { E.told errors.new ≡ append_known (E.told errors.old) (message_of program RunFault.Unwritten) }
 {
     tell_two(
         program.name().as_bytes(),
@@ -97,7 +97,7 @@ fn tell_unwritten<E: Errors>(program: Program, errors: &mut E)
 }
 
 fn tell_no_memory<E: Errors>(program: Program, errors: &mut E)
-    ensures { E.told errors.new ≡ append_known (E.told errors.old) (message_of program Fault.NoMemory) }
+    ensures { E.told errors.new ≡ append_known (E.told errors.old) (message_of program RunFault.NoMemory) }
 {
     tell_two(program.name().as_bytes(), b": NoMemory\n", errors);
 }

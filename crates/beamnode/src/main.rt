@@ -49,7 +49,7 @@ fn main(rt: HostRuntime) -> ExitCode {
         match job(&rt, &words) {
             Job::Done(status) => status,
             Job::Pipe => job_status(&words, pipe(&rt), &mut rt.stderr()),
-            Job::Serve(line) => job_status(&words, serve(&rt, &line), &mut rt.stderr()),
+            Job::Serve(line) => job_status(&words, serve(&rt, &rt, &line), &mut rt.stderr()),
         }
     };
     ExitCode::from(on_thread(&rt, Program::Node, AnyStatus, work, &mut errors))

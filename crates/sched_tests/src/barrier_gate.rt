@@ -96,7 +96,7 @@ impl<'a, R: Wait + time::Clock> BarrierGate<'a, R> {
                 break;
             }
         }
-        Some(Unfinished::Late("so many slices to be checked out", self.needed))
+        Some(Unfinished::Late("slices to be checked out, in number", self.needed))
     }
 
     /// Waits until the gate is opened. Returns what didn't come in time, if it wasn't.

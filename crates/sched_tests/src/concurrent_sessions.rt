@@ -324,7 +324,7 @@ fn session_text(
 ) -> Result<String, Fail> {
     if ended_session.is_late {
         return Err(Unfinished::Late(
-            "so many sessions to end",
+            "sessions to end, in number",
             ended_session.client.waits_for,
         ).fail());
     }

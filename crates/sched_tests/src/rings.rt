@@ -56,6 +56,15 @@ fn links(alloc: Global) -> Scenario {
     Scenario::ending(alloc, first, LINKS)
 }
 
+/// Processes wait, and then each is sent a message. They have no deadlines, so a worker waits without a limit.
+fn sent_to_waiting(alloc: Global) -> Scenario {
+    let first = Commands::new(alloc)
+        .load(HEAR)
+        .spawn_many(3, "h", "hear", &[]);
+    let then = Commands::new(alloc).send_to_each(3, 7);
+    Scenario::once_all_wait(first, then, 3)
+}
+
 /// The code of a process is purged while it is checked out for the second time.
 fn purged(alloc: Global) -> Scenario {
     let first = Commands::new(alloc).load(CALLER);
@@ -94,6 +103,14 @@ fn a_worker_stops_at_a_break_spot(rt: HostRuntime) -> Result<(), Fail> {
 fn a_deadline_passes(rt: HostRuntime) -> Result<(), Fail> {
     let played = play_here(&rt, 1, sleeper(rt.alloc()))?;
     assert_eq!(rt; (played.counts.timeouts, played.replays), (1, true));
+    Ok(())
+}
+
+#[test]
+fn a_message_wakes_one_that_waits(rt: HostRuntime) -> Result<(), Fail> {
+    let seen = "pid 1 ended [7]\npid 2 ended [7]\npid 3 ended [7]\n";
+    let (played, is_seen) = play_seen(&rt, 1, sent_to_waiting(rt.alloc()), seen)?;
+    assert!(rt; is_seen && played.replays);
     Ok(())
 }
 

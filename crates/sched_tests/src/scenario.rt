@@ -17,11 +17,13 @@ use std::test::Fail;
 use std::time;
 use std::time::Duration;
 
-/// What a scenario waits for at its end.
+/// What a scenario waits for.
 #[derive(Clone, Copy)]
 pub enum Wanted {
     /// Nothing.
     Nothing,
+    /// That each of the processes from 1 to this number waits.
+    Waits(u32),
     /// The end of each of the processes from 1 to this number. Those that are held are resumed.
     Ends(u32),
     /// The end of a process.
@@ -40,8 +42,11 @@ pub struct Scenario {
     pub first: Commands,
     /// The number of the slice from which on slices are held, and how many have to be checked out until they are let go.
     pub held: (u32, u32),
-    /// Commands that are given once these slices are checked out, 1 ms apart.
+    /// What is awaited, once these slices are checked out, before the commands of `then`.
+    pub before: Wanted,
+    /// Commands that are given afterwards, 1 ms apart.
     pub then: Commands,
+    /// What is awaited at the end.
     pub wanted: Wanted,
     /// Whether the workers are stopped once `wanted` has come.
     pub stops: bool,
@@ -55,6 +60,7 @@ impl Drop for Scenario {
             limit: _limit,
             first: _first,
             held: _held,
+            before: _before,
             then: _then,
             wanted: _wanted,
             stops: _stops,
@@ -70,6 +76,7 @@ impl Scenario {
             limit: MOST_ENTRIES,
             first,
             held: (0, 0),
+            before: Wanted::Nothing,
             then: Commands::new(alloc),
             wanted: Wanted::Ends(ends),
             stops: false,
@@ -84,8 +91,23 @@ impl Scenario {
             limit: MOST_ENTRIES,
             first,
             held,
+            before: Wanted::Nothing,
             then,
             wanted: Wanted::Ends(ends),
+            stops: false,
+            is_by_slices: false,
+        }
+    }
+
+    /// A scenario of these commands, and of others, 1 ms apart, once each of the processes from 1 to `count` waits. Each of these ends.
+    pub fn once_all_wait(first: Commands, then: Commands, count: u32) -> Scenario {
+        Scenario {
+            limit: MOST_ENTRIES,
+            first,
+            held: (0, 0),
+            before: Wanted::Waits(count),
+            then,
+            wanted: Wanted::Ends(count),
             stops: false,
             is_by_slices: false,
         }
@@ -97,6 +119,7 @@ impl Scenario {
             limit: MOST_ENTRIES,
             first,
             held: (0, 0),
+            before: Wanted::Nothing,
             then: Commands::new(alloc),
             wanted,
             stops: true,
@@ -140,6 +163,18 @@ fn has_ended(node: &Debugger, pid: u32) -> bool {
     }
 }
 
+fn is_waiting(node: &Debugger, pid: u32) -> bool {
+    match node.process(pid) {
+        Some(process) => process.is_waiting(),
+        None => false,
+    }
+}
+
+/// Whether the processes 1 to `count` wait.
+fn are_waiting(node: &Debugger, count: u32) -> bool {
+    (1..=count).all(|pid| is_waiting(node, pid))
+}
+
 /// Whether the processes 1 to `count` have ended.
 fn have_ended(node: &Debugger, count: u32) -> bool {
     (1..=count).all(|pid| has_ended(node, pid))
@@ -155,6 +190,7 @@ impl Wanted {
     fn has_come(self, node: &Debugger, entered: u32, report: Tally) -> bool {
         match self {
             Wanted::Nothing => true,
+            Wanted::Waits(count) => are_waiting(node, count),
             Wanted::Ends(count) => have_ended(node, count),
             Wanted::End(pid) => has_ended(node, pid),
             Wanted::Entries(count) => entered >= count,
@@ -162,10 +198,11 @@ impl Wanted {
         }
     }
 
-    /// The failure of a scenario in which `wanted` doesn't come.
+    /// The failure of a scenario in which it doesn't come.
     fn late(self) -> Unfinished {
         match self {
             Wanted::Nothing => Unfinished::Late("nothing", 0),
+            Wanted::Waits(count) => Unfinished::Late("processes to wait, in number", count),
             Wanted::Ends(count) => Unfinished::Late("the end of processes, in number", count),
             Wanted::End(pid) => Unfinished::Late("the process of this number to end", pid),
             Wanted::Entries(count) => Unfinished::Late("entries of the journal, in number", count),
@@ -212,14 +249,11 @@ impl<'a, B: NodeBrand + QueueBrand, R: Wait + time::Clock> ScenarioRunner<'a, B,
     }
 
     /// Whether `wanted` has come, and a process that is held, if there is one.
-    fn look(&self) -> (bool, Option<u32>) {
+    fn look(&self, wanted: Wanted) -> (bool, Option<u32>) {
         let tally = self.gate.report().tally;
         let locked = self.shared.node().lock(self.rt);
         let node = locked.node();
-        let has_come = self
-            .scenario
-            .wanted
-            .has_come(node.debugger(), node.entered(), tally);
+        let has_come = wanted.has_come(node.debugger(), node.entered(), tally);
         (has_come, first_held(node.debugger(), self.scenario.ends()))
     }
 
@@ -235,9 +269,9 @@ impl<'a, B: NodeBrand + QueueBrand, R: Wait + time::Clock> ScenarioRunner<'a, B,
     }
 
     /// Waits for `wanted`. Returns what didn't come, if it didn't.
-    fn wait(&mut self) -> Option<Unfinished> {
+    fn wait(&mut self, wanted: Wanted) -> Option<Unfinished> {
         for _ in 0..u32::MAX {
-            let (has_come, held) = self.look();
+            let (has_come, held) = self.look(wanted);
             if has_come {
                 return None;
             }
@@ -248,7 +282,7 @@ impl<'a, B: NodeBrand + QueueBrand, R: Wait + time::Clock> ScenarioRunner<'a, B,
                 break;
             }
         }
-        Some(self.scenario.wanted.late())
+        Some(wanted.late())
     }
 
     /// Gives the commands, up to the wait at the end. Returns why not all were given, if they weren't.
@@ -269,6 +303,11 @@ impl<'a, B: NodeBrand + QueueBrand, R: Wait + time::Clock> ScenarioRunner<'a, B,
         if late.is_some() {
             return late;
         }
+        let before = self.scenario.before;
+        let late = self.wait(before);
+        if late.is_some() {
+            return late;
+        }
         let is_given = self
             .scenario
             .then
@@ -282,7 +321,8 @@ impl<B: NodeBrand + QueueBrand, R: Wait + time::Clock> ForegroundTask for Scenar
         self.unfinished = self.begin(started.workers);
         self.gate.open();
         if self.unfinished.is_none() {
-            self.unfinished = self.wait();
+            let wanted = self.scenario.wanted;
+            self.unfinished = self.wait(wanted);
         }
         // A failure is reported even if a process never ends.
         if self.scenario.stops || self.unfinished.is_some() {

@@ -86,7 +86,7 @@ impl<B: NodeBrand + QueueBrand, R: Wait + time::Clock + Log + AllocGlobal> RowSe
             }
         }
         self.unfinished = Unfinished::Late(
-            "so many of the processes to end or be held",
+            "processes to end or be held, in number",
             self.row.processes,
         );
         false

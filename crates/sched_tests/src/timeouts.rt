@@ -1,8 +1,9 @@
 //! Waits that end by their deadlines, whatever else there is to do.
 use crate::commands::Argument::{Integer, Pid, Pids};
 use crate::commands::{Argument, Commands};
-use crate::listings::{GO, SLEEP, WAIT};
-use crate::scenario::Scenario;
+use crate::listings::{GO, OVER, SLEEP, WAIT};
+use crate::queues::endless;
+use crate::scenario::{Scenario, Wanted};
 use crate::shared::play_here;
 use std::alloc::Global;
 use std::process::Abort;
@@ -67,6 +68,58 @@ fn ahead(alloc: Global) -> Scenario {
     Scenario::ending(alloc, first.spawn("s", "sleep", &[Integer(100)]), 2)
 }
 
+/// Processes sleep for half an hour, and for one and two hours more. Then the clock is set to one, two and three hours. The worker would
+/// wait for half an hour if these commands didn't wake it.
+fn set_past_deadlines(alloc: Global) -> Scenario {
+    let first = Commands::new(alloc)
+        .load(SLEEP)
+        .spawn("s", "sleep", &[Integer(1_800_000)])
+        .spawn("s", "sleep", &[Integer(5_400_000)])
+        .spawn("s", "sleep", &[Integer(9_000_000)]);
+    let then = Commands::new(alloc)
+        .clock(HOUR)
+        .clock(2 * HOUR)
+        .clock(3 * HOUR);
+    Scenario::once_all_wait(first, then, 3)
+}
+
+/// The first process is held at a break spot, and the second one sleeps for 20 ms.
+fn behind_a_held_one(alloc: Global) -> Scenario {
+    let first = Commands::new(alloc)
+        .load(OVER)
+        .load(SLEEP)
+        .set_break("e", 4)
+        .spawn("e", "hold", &[])
+        .spawn("s", "sleep", &[Integer(20)]);
+    Scenario::until(alloc, first, Wanted::End(2))
+}
+
+/// Slices count as milliseconds. The first process never ends and never waits, so the worker's queue is never empty. Two others sleep, for
+/// 20 and for 100 slices: the second deadline comes after the scan that finds the first one.
+fn beside_one_that_computes(alloc: Global) -> Scenario {
+    let first = endless(alloc, 1)
+        .load(SLEEP)
+        .spawn("s", "sleep", &[Integer(20)])
+        .spawn("s", "sleep", &[Integer(100)]);
+    let mut scenario = Scenario::until(alloc, first, Wanted::End(3));
+    scenario.is_by_slices = true;
+    scenario
+}
+
+/// Slices count as milliseconds. The first process never ends and never waits. While its first slice is held, a command starts a second
+/// process, which is enqueued, and another command executes its rows up to a sleep of 50 slices. The worker takes it from the queue within
+/// its next 16 takes, and can't check it out, since it sleeps.
+fn executed_while_enqueued(alloc: Global) -> Scenario {
+    let then = Commands::new(alloc)
+        .spawn("s", "sleep", &[Integer(50)])
+        .steps(2, 10);
+    let mut scenario = Scenario::with_barrier(endless(alloc, 1).load(SLEEP), (1, 1), then, 0);
+    scenario.wanted = Wanted::End(2);
+    scenario.stops = true;
+    scenario.is_by_slices = true;
+    scenario
+}
+
 /// As many waits of a scenario as wanted end by their deadlines, and its journal leads to the views of the processes at the end.
 fn timed_out<R: Threads + Wait + Clock + Sync + Abort + AllocGlobal>(
     rt: &R,
@@ -117,4 +170,24 @@ fn a_deadline_passes_after_the_clock_was_set_with_one_worker(rt: HostRuntime) ->
 #[test]
 fn a_deadline_passes_after_the_clock_was_set_with_two_workers(rt: HostRuntime) -> Result<(), Fail> {
     timed_out(&rt, 2, ahead(rt.alloc()), 2)
+}
+
+#[test]
+fn a_clock_that_is_set_ends_a_wait(rt: HostRuntime) -> Result<(), Fail> {
+    timed_out(&rt, 1, set_past_deadlines(rt.alloc()), 3)
+}
+
+#[test]
+fn a_deadline_passes_behind_a_held_process(rt: HostRuntime) -> Result<(), Fail> {
+    timed_out(&rt, 1, behind_a_held_one(rt.alloc()), 1)
+}
+
+#[test]
+fn a_deadline_passes_beside_one_that_computes(rt: HostRuntime) -> Result<(), Fail> {
+    timed_out(&rt, 1, beside_one_that_computes(rt.alloc()), 2)
+}
+
+#[test]
+fn one_that_a_command_ran_is_found_again(rt: HostRuntime) -> Result<(), Fail> {
+    timed_out(&rt, 1, executed_while_enqueued(rt.alloc()), 1)
 }

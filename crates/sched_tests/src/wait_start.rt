@@ -8,16 +8,19 @@ use crate::played::JournalCounts;
 use crate::stage::{closed, staged};
 use crate::test_deadline::{REFUSED, TestDeadline, Unfinished};
 use beam_debug::debugger::Debugger;
+use beam_debug::outcome::Outcome;
 use beam_journal::journal::MOST_ENTRIES;
 use beam_queue as queue;
 use beam_queue::QueueBrand;
 use beam_receipts::brand::NodeBrand;
 use beam_receipts::keeper::UnbrandedKeeper;
 use beam_sched::clock::Clock;
-use beam_sched::gate::NoGate;
+use beam_sched::gate::Gate;
+use beam_sched::journal_threshold::JournalThreshold;
 use beam_sched::schedulers::{ForegroundTask, StartedThreads, run_schedulers};
 use beam_sched::shared::Shared;
 use beam_sched::thread_context::ThreadContext;
+use beam_term::Term;
 use std::alloc::Global;
 use std::marker::Brand;
 use std::process::Abort;
@@ -39,6 +42,11 @@ impl ManualClock {
     fn put(&self, time: u64) {
         self.time.store(time, Ordering::SeqCst);
     }
+
+    /// Sets the time, unless it is later already.
+    fn advance(&self, time: u64) {
+        let _ = self.time.fetch_max(time, Ordering::SeqCst);
+    }
 }
 
 impl Clock for ManualClock {
@@ -49,7 +57,30 @@ impl Clock for ManualClock {
     }
 }
 
-/// The state of a process, as far as this test needs it.
+/// The time at which the first slice comes back.
+const BACK: u64 = 200;
+
+/// A gate that sets the clock to `BACK` once the rows of a slice were run, unless it is later already.
+#[derive(Drop)]
+struct ClockGate<'a> {
+    clock: &'a ManualClock,
+}
+
+impl Gate for ClockGate<'_> {
+    fn out(&self, _pid: u32) {}
+
+    fn back(&self, _pid: u32) {
+        self.clock.advance(BACK);
+    }
+
+    fn ran(&self, _pid: u32, _outcome: &Outcome) {}
+
+    fn ended(&self, _pid: u32, _reason: &Term) {}
+
+    fn filled(&self, _threshold: JournalThreshold) {}
+}
+
+/// The state of a process, as far as these tests need it.
 #[derive(Clone, Copy, PartialEq, Eq)]
 enum ProcessState {
     Waiting,
@@ -73,8 +104,8 @@ const SETTLED: u64 = 4;
 /// How often the worker reads the clock at 299.
 const EARLY: u64 = 60;
 
-/// Starts a process that waits for 100 ms, on a node that has been idle for 200 ms. Checks the state of the process 99 ms later, and
-/// whether it ends 100 ms later.
+/// Starts a process that waits for 100 ms, with a slice that comes back at 200. Checks the state of the process 99 ms later, and whether it
+/// ends 100 ms later.
 #[derive(Drop)]
 struct WaitTest<'a, B: NodeBrand + QueueBrand, R> {
     rt: &'a R,
@@ -83,6 +114,8 @@ struct WaitTest<'a, B: NodeBrand + QueueBrand, R> {
     clock: &'a ManualClock,
     context: ThreadContext<B>,
     commands: Commands,
+    /// The time at which the commands are given.
+    begins: u64,
     /// The state of the process 99 ms later.
     early: ProcessState,
     /// Why the test didn't come to its end.
@@ -125,7 +158,7 @@ impl<B: NodeBrand + QueueBrand, R: Wait + time::Clock> WaitTest<'_, B, R> {
 
     /// Plays the test. Returns why it didn't come to its end, if it didn't.
     fn play(&mut self) -> Option<Unfinished> {
-        self.clock.put(200);
+        self.clock.put(self.begins);
         let is_given = self
             .commands
             .give(self.rt, self.shared, &mut self.context, Duration::ZERO);
@@ -135,7 +168,7 @@ impl<B: NodeBrand + QueueBrand, R: Wait + time::Clock> WaitTest<'_, B, R> {
         if !self.wait_for(ProcessState::Waiting) {
             return Some(Unfinished::Late("the process of this number to wait", 1));
         }
-        if !self.is_read_at(200, SETTLED) || !self.is_read_at(299, EARLY) {
+        if !self.is_read_at(BACK, SETTLED) || !self.is_read_at(299, EARLY) {
             return Some(Unfinished::Late("the clock to be read before this time", 300));
         }
         self.early = self.process_state();
@@ -174,6 +207,7 @@ fn run<'a, B: NodeBrand + QueueBrand + Send + Sync, R: Threads + Wait + time::Cl
     contexts: Vec<ThreadContext<B>>,
     context: ThreadContext<B>,
     commands: Commands,
+    begins: u64,
 ) -> (Vec<ThreadContext<B>>, ProcessState, Option<Unfinished>) {
     let mut waits = WaitTest {
         rt,
@@ -182,10 +216,12 @@ fn run<'a, B: NodeBrand + QueueBrand + Send + Sync, R: Threads + Wait + time::Cl
         clock,
         context,
         commands,
+        begins,
         early: ProcessState::Otherwise,
         unfinished: None,
     };
-    let mut contexts = run_schedulers(rt, alloc, shared, &NoGate, clock, contexts, &mut waits);
+    let gate = ClockGate { clock };
+    let mut contexts = run_schedulers(rt, alloc, shared, &gate, clock, contexts, &mut waits);
     let WaitTest {
         context,
         early,
@@ -203,6 +239,7 @@ fn wait_once<B: NodeBrand + QueueBrand + Send + Sync, R: Threads + Wait + time::
     unbranded: UnbrandedKeeper,
     queues: queue::UnbrandedQueues,
     commands: Commands,
+    begins: u64,
 ) -> Result<WaitResult, Fail>
     requires node { unbranded ≡ B.table }
     requires queues { queues ≡ B.deques }
@@ -213,7 +250,9 @@ fn wait_once<B: NodeBrand + QueueBrand + Send + Sync, R: Threads + Wait + time::
     };
     let (node, workers, context, _) = staged::<B>(alloc, unbranded, queues, MOST_ENTRIES, 1)?;
     let shared = Shared::new(alloc, node);
-    let (contexts, early, unfinished) = run(rt, alloc, &shared, &clock, workers, context, commands);
+    let (contexts, early, unfinished) = run(
+        rt, alloc, &shared, &clock, workers, context, commands, begins,
+    );
     let (journal, _) = closed(alloc, shared.into_node(), contexts)?;
     let (_, moments) = JournalCounts::of(&journal).moments;
     Ok(WaitResult {
@@ -226,6 +265,7 @@ fn wait_once<B: NodeBrand + QueueBrand + Send + Sync, R: Threads + Wait + time::
 fn wait_here<R: Threads + Wait + time::Clock + Sync>(
     rt: &R,
     alloc: Global,
+    begins: u64,
 ) -> Result<WaitResult, Fail> {
     let unbranded = UnbrandedKeeper::new(alloc)?;
     let queues = queue::UnbrandedQueues::new(alloc, 2)?;
@@ -233,12 +273,15 @@ fn wait_here<R: Threads + Wait + time::Clock + Sync>(
         .load(SLEEP)
         .spawn("s", "sleep", &[Integer(100)]);
     commands.made()?;
-    wait_once::<Brand, R>(rt, alloc, unbranded, queues, commands)
+    wait_once::<Brand, R>(rt, alloc, unbranded, queues, commands, begins)
 }
 
-#[test]
-fn a_wait_begins_at_its_moment(rt: HostRuntime) -> Result<(), Fail> {
-    let waited = wait_here(&rt, rt.alloc())?;
+/// The process waits from 200 to 300, and no other time is entered, if the commands are given at `begins`.
+fn waits_from_200<R: Threads + Wait + time::Clock + Sync + Abort + AllocGlobal>(
+    rt: &R,
+    begins: u64,
+) -> Result<(), Fail> {
+    let waited = wait_here(rt, rt.alloc(), begins)?;
     if let Some(unfinished) = waited.unfinished {
         return Err(unfinished.fail());
     }
@@ -247,4 +290,16 @@ fn a_wait_begins_at_its_moment(rt: HostRuntime) -> Result<(), Fail> {
         (true, 200_300)
     );
     Ok(())
+}
+
+/// The node was idle until 200.
+#[test]
+fn a_wait_begins_at_its_moment(rt: HostRuntime) -> Result<(), Fail> {
+    waits_from_200(&rt, 200)
+}
+
+/// The process began to compute at 0.
+#[test]
+fn a_wait_begins_when_its_slice_comes_back(rt: HostRuntime) -> Result<(), Fail> {
+    waits_from_200(&rt, 0)
 }

@@ -22,8 +22,8 @@ invariant_of-self c =
     let keeps : KeepsName p q = subst (KeepsName p) (sym is) (said c.args.self.now c.args.index p (λ p. KeepsName p (with_name_and_transit p.name p.transit c.args.process)) there c.requires.keeps) in
     let same : q.monitors ≡ c.args.process.monitors = ap (λ (q : Process). q.monitors) is ∙ having_monitors p.name p.transit c.args.process in (
       keeps_indexed _ c.self.inside.agenda c.set.new.self ps c.args.self.now c.args.index p q c.entry_of.result c.self.view_is c.requires.within c.index_mut-place.ensures.value keeps c.entry_of.ensures c.set.ensures c.self.invariant.0,
-      puts_monitored c.self.inside.complete c.add_all-self-inside.result c.self.inside.monitor_index c.add_all-self-inside.new.monitor_index ps c.args.index c.args.pid q c.requires.located c.add_all-self-inside.ensures.kept
-          (λ e. let k = rw c.monitors.ensures at (c.add_all-self-inside.ensures.keyed e) in (k.0, subst (AreKeyed c.add_all-self-inside.new.monitor_index c.args.pid) (sym same) k.1)) c.self.invariant.1,
+      puts_monitored c.self.inside.complete c.add_all-self-inside.result c.self.inside.monitor_index c.add_all-self-inside.new.index ps c.args.index c.args.pid q c.requires.located c.add_all-self-inside.ensures.kept
+          (λ e. let k = rw c.monitors.ensures at (c.add_all-self-inside.ensures.keyed e) in (k.0, subst (AreKeyed c.add_all-self-inside.new.index c.args.pid) (sym same) k.1)) c.self.invariant.1,
     )
 
 pub returns : goal.returns
