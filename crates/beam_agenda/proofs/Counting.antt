@@ -1,17 +1,14 @@
 -- The list above a list of numbers that changes.
-use Rattle.std.proofs.Common.{◌≡◌, ℕ, zero, suc, ◌+◌, ◌-◌, ◌*◌, ◌/◌, ◌%◌, ◌<◌, ◌≤◌, Bool, true, false, nat_eq, List, [], ◌∷◌, ◌++◌, length, take, get_or, slice_get, refl, sym, ap, subst, ◌∙◌, length-take, length-append, arith}
+use Rattle.std.proofs.Common.{◌≡◌, ℕ, zero, suc, ◌+◌, ◌-◌, ◌*◌, ◌/◌, ◌%◌, ◌<◌, ◌≤◌, Bool, true, false, nat_eq, List, [], ◌∷◌, ◌++◌, length, take, get_or, slice_get, refl, sym, ap, subst, ◌∙◌, length-take, length-append, arith, get_or-take, take_all, Some, None, option_map}
+use Rattle.std.specs.List.{count_by}
 use Rattle.std.proofs.Math.ListN.{set, length-set}
 use Rattle.std.proofs.lemmas.Bool.Decides.{nat_tests}
-use Rattle.std.proofs.lemmas.List.{get_or-take, take_all, drop-take}
+use Rattle.std.proofs.lemmas.List.{drop-take}
 use Rattle.std.proofs.lemmas.Option.{slice_get-get_or, slice_get_past}
-use Rattle.std.specs.List.{count_by}
-use Rattle.std.specs.Prelude.{Some, None, option_map}
 use Rattle.beam_agenda.specs.declared.flags.Above.{Above}
 use Rattle.beam_agenda.specs.declared.flags.Above.TheVariants.{Top, Level}
 use Rattle.beam_agenda.specs.FlagLevels.{LevelsAgree}
-use Rattle.beam_agenda.specs.FlagSizes.{length-groups}
-use Rattle.beam_agenda.specs.Groups.{is_set, groups, all_groups}
-use Rattle.beam_agenda.specs.Positions.{first_position, position_from}
+use Rattle.beam_agenda.specs.Prelude.{length-groups, is_set, groups, all_groups, first_position, position_from}
 use Rattle.beam_agenda.proofs.Groups.{one_if, set_false, group_small, group_has, groups-set, groups-set_same, groups-append, groups-more, in_group, position_by_groups}
 use Rattle.beam_agenda.proofs.Positions.{position_here, position_later, position_past, position_near, position_far}
 use mathlib.Core.Bool.{beq, not}

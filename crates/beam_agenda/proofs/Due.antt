@@ -1,11 +1,7 @@
 -- The first time that is due, found by the pairs.
-use Rattle.std.proofs.Common.{◌≡◌, ℕ, zero, suc, ◌+◌, ◌*◌, ◌/◌, ◌%◌, ◌<◌, ◌≤◌, ◌⊎◌, ◌||◌, nat_le, Bool, true, false, cond, List, [], ◌∷◌, length, drop, get_or, slice_get, refl, sym, ap, subst, ◌∙◌, inl, inr, add-one, arith}
+use Rattle.std.proofs.Common.{◌≡◌, ℕ, zero, suc, ◌+◌, ◌*◌, ◌/◌, ◌%◌, ◌<◌, ◌≤◌, ◌⊎◌, ◌||◌, nat_le, Bool, true, false, cond, List, [], ◌∷◌, length, drop, get_or, slice_get, refl, sym, ap, subst, ◌∙◌, inl, inr, add-one, arith, Option, Some, None, option_map}
 use Rattle.std.proofs.lemmas.Option.{slice_get-get_or}
-use Rattle.std.specs.Prelude.{Option, Some, None, option_map}
-use Rattle.beam_agenda.specs.Entries.{earlier, is_due_by}
-use Rattle.beam_agenda.specs.Pairs.{pairs}
-use Rattle.beam_agenda.specs.Positions.{first_position, position_from}
-use Rattle.beam_agenda.specs.TimeSizes.{length-pairs}
+use Rattle.beam_agenda.specs.Prelude.{earlier, is_due_by, pairs, first_position, position_from, length-pairs}
 use Rattle.beam_agenda.proofs.Pairing.{double, two_times, double_half, suc_double_half, drop-pairs, parity, nat_le_true, nat_le_false}
 use Rattle.beam_agenda.proofs.Positions.{position_later, position_within}
 

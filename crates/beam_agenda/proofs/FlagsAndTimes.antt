@@ -1,15 +1,9 @@
 -- Entries made of numbers and times.
-use Rattle.std.proofs.Common.{◌≡◌, ℕ, zero, suc, ◌+◌, ◌<◌, ◌≤◌, Bool, true, false, cond, nat_le, List, [], ◌∷◌, ◌++◌, length, drop, slice_get, refl, sym, ap, subst, ◌∙◌, length-append, arith}
+use Rattle.std.proofs.Common.{◌≡◌, ℕ, zero, suc, ◌+◌, ◌<◌, ◌≤◌, Bool, true, false, cond, nat_le, List, [], ◌∷◌, ◌++◌, length, drop, slice_get, refl, sym, ap, subst, ◌∙◌, length-append, arith, Option, Some, None, option_map, IfSome}
 use Rattle.std.proofs.Math.ListN.{set}
 use Rattle.std.specs.Int.{from_bool}
-use Rattle.std.specs.Prelude.{Option, Some, None, option_map, IfSome}
 use Rattle.beam_agenda.specs.declared.entry.AgendaEntry.{AgendaEntry}
-use Rattle.beam_agenda.specs.Entries.{earlier, is_due_by}
-use Rattle.beam_agenda.specs.First.{first_of, first_ready, least_time, with_position, least_due}
-use Rattle.beam_agenda.specs.Groups.{is_set}
-use Rattle.beam_agenda.specs.Least.{least_of}
-use Rattle.beam_agenda.specs.FlagsAndTimes.{entries_of, Covers}
-use Rattle.beam_agenda.specs.Positions.{first_position, position_from}
+use Rattle.beam_agenda.specs.Prelude.{earlier, is_due_by, first_of, first_ready, least_time, with_position, least_due, is_set, least_of, entries_of, Covers, first_position, position_from}
 use Rattle.beam_agenda.proofs.Pairing.{nat_le_false, earlier_none, earlier_of_three}
 use Rattle.beam_agenda.proofs.Positions.{add_none, all_within}
 

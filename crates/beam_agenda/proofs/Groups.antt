@@ -1,15 +1,13 @@
 -- The groups of a list of numbers that changes.
-use Rattle.std.proofs.Common.{◌≡◌, ℕ, zero, suc, ◌+◌, ◌-◌, ◌*◌, ◌/◌, ◌<◌, ◌≤◌, Bool, true, false, cond, List, [], ◌∷◌, ◌++◌, length, take, drop, get_or, refl, sym, ap, subst, ◌∙◌, ⊎_elim, length-drop, length-take, length-append, arith}
+use Rattle.std.proofs.Common.{◌≡◌, ℕ, zero, suc, ◌+◌, ◌-◌, ◌*◌, ◌/◌, ◌<◌, ◌≤◌, Bool, true, false, cond, List, [], ◌∷◌, ◌++◌, length, take, drop, get_or, refl, sym, ap, subst, ◌∙◌, ⊎_elim, length-drop, length-take, length-append, arith, get_or-take, get_or-drop, drop-set-lt, take_all, drop-drop, Option, Some, None, option_map}
+use Rattle.std.specs.List.{count_by}
 use Rattle.std.proofs.Math.ListN.{set}
 use Rattle.std.proofs.Math.Seq.{take-set-lt}
 use Rattle.std.proofs.lemmas.Bool.{cases_lt}
 use Rattle.std.proofs.lemmas.Bool.Decides.{nat_tests}
-use Rattle.std.proofs.lemmas.List.{get_or-take, get_or-drop, take-set-le, drop-set-lt, drop-set-add, take_all, drop_all, take-append-le, drop-append-le, drop-drop, set-get_or, nil_from_length}
+use Rattle.std.proofs.lemmas.List.{take-set-le, drop-set-add, drop_all, take-append-le, drop-append-le, set-get_or, nil_from_length}
 use Rattle.std.proofs.lemmas.List.Sums.{count_by-le-length, get_or-le-sum_by, sum_by-set, sum_by_push, sum_by-cons}
-use Rattle.std.specs.List.{count_by}
-use Rattle.std.specs.Prelude.{Option, Some, None, option_map}
-use Rattle.beam_agenda.specs.Groups.{is_set, groups}
-use Rattle.beam_agenda.specs.Positions.{first_position, position_from}
+use Rattle.beam_agenda.specs.Prelude.{is_set, groups, first_position, position_from}
 use Rattle.beam_agenda.proofs.Positions.{first_near, first_far, add_twice}
 
 abbrev pub one_if : Bool → ℕ

@@ -1,13 +1,10 @@
 -- The list above a list that changes.
-use Rattle.std.proofs.Common.{◌≡◌, ℕ, ◌-◌, ◌*◌, ◌/◌, ◌%◌, ◌<◌, ◌≤◌, List, [], ◌∷◌, ◌++◌, length, get_or, slice_get, sym, ap, subst, ◌∙◌, length-append, arith}
+use Rattle.std.proofs.Common.{◌≡◌, ℕ, ◌-◌, ◌*◌, ◌/◌, ◌%◌, ◌<◌, ◌≤◌, List, [], ◌∷◌, ◌++◌, length, get_or, slice_get, sym, ap, subst, ◌∙◌, length-append, arith, Option, Some}
 use Rattle.std.proofs.Math.ListN.{set, length-set}
 use Rattle.std.proofs.lemmas.Option.{slice_get-get_or}
-use Rattle.std.specs.Prelude.{Option, Some}
 use Rattle.beam_agenda.specs.declared.times.Above.{Above}
-use Rattle.beam_agenda.specs.Entries.{earlier}
-use Rattle.beam_agenda.specs.Pairs.{pairs}
+use Rattle.beam_agenda.specs.Prelude.{earlier, pairs, length-pairs}
 use Rattle.beam_agenda.specs.TimeLevels.{LevelsAgree}
-use Rattle.beam_agenda.specs.TimeSizes.{length-pairs}
 use Rattle.beam_agenda.proofs.Pairing.{double, double_half, suc_double_half, pairs-set, pairs-append_even, pairs-append_odd}
 
 -- the list above a list of two entries or more

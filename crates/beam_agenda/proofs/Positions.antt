@@ -1,8 +1,7 @@
 -- The first element of a list that passes a test.
-use Rattle.std.proofs.Common.{◌≡◌, ℕ, zero, suc, ◌+◌, ◌<◌, Bool, true, false, cond, List, [], ◌∷◌, length, take, drop, slice_get, refl, sym, ap, ◌∙◌, length-drop, arith}
-use Rattle.std.proofs.lemmas.List.{drop-take, drop-drop}
-use Rattle.std.specs.Prelude.{Option, Some, None, option_map, IfSome}
-use Rattle.beam_agenda.specs.Positions.{first_position, position_from}
+use Rattle.std.proofs.Common.{◌≡◌, ℕ, zero, suc, ◌+◌, ◌<◌, Bool, true, false, cond, List, [], ◌∷◌, length, take, drop, slice_get, refl, sym, ap, ◌∙◌, length-drop, arith, drop-drop, Option, Some, None, option_map, IfSome}
+use Rattle.std.proofs.lemmas.List.{drop-take}
+use Rattle.beam_agenda.specs.Prelude.{first_position, position_from}
 
 pub first_position_within : {X : Type 0} → (test : X → Bool) (xs : List X) (n : ℕ) → first_position test xs ≡ Some n → n < length xs
 first_position_within test [] n h = absurd (cc)

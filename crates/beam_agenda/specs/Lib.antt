@@ -9,3 +9,4 @@ pub mod FlagsAndTimes
 pub mod Positions
 pub mod TimeLevels
 pub mod TimeSizes
+pub mod Prelude

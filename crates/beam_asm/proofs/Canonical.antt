@@ -1,27 +1,19 @@
 -- In a listing that a file spells, each line has the operand 0.
-use Rattle.std.proofs.Common.{◌≡◌, ℕ, zero, suc, ◌+◌, Bool, true, false, cond, List, [], ◌∷◌, length, Result, Ok, Err, refl, ap, subst, ◌∙◌, inl, inr}
-use Rattle.std.specs.Prelude.{◌⊎◌, map}
+use Rattle.std.proofs.Common.{◌≡◌, ℕ, zero, suc, ◌+◌, Bool, true, false, cond, List, [], ◌∷◌, length, Result, Ok, refl, ap, subst, ◌∙◌, inl, inr, ◌⊎◌, map}
 use Rattle.std.specs.List.{All}
-use Rattle.beam_term.specs.TermValue.{TermValue, IsTerm}
+use Rattle.beam_lemmas.proofs.Steps.{bind_ok}
 use Rattle.beam_model.specs.declared.function.Import.{Import}
 use Rattle.beam_model.specs.declared.instruction.Operand.{Operand}
 use Rattle.beam_model.specs.declared.instruction.Instruction.{Instruction}
 use Rattle.beam_model.specs.declared.opcode.Opcode.{Opcode}
-use Rattle.beam_model.specs.declared.opcode.Opcode.TheVariants as op
-use Rattle.beam_model.specs.Form.{form_at}
-use Rattle.beam_model.specs.Tables.{atom_of_index}
-use Rattle.beam_model.specs.CodeChunk.{CodeParts, CodeFault, is_end, listed_operands, opcode_at, operands_at, instruction_after_opcode, instructions_at, word_at, expected_at, code_of}
-use Rattle.beam_model.specs.Opcodes.{kinds_of}
-use Rattle.beam_model.specs.File.{FileFault, form_fault, table_fault, code_fault, in_layer, Parts, parts_of_form, listing_of_parts, listing_of_form, listing_of_file, ◌>>=◌}
-use Rattle.beam_model.specs.Listing.{Listing}
-use Rattle.beam_model.specs.Loads.{IsLoadable}
-use Rattle.beam_model.specs.Assembly.{numbering_of, HasFile, without_line_number, without_line_numbers}
+use Rattle.beam_model.specs.Prelude.{form_at, atom_of_index, CodeParts, CodeFault, listed_operands, opcode_at, operands_at, instruction_after_opcode, instructions_at, word_at, expected_at, code_of, kinds_of, FileFault, form_fault, table_fault, code_fault, in_layer, Parts, parts_of_form, listing_of_parts, listing_of_form, listing_of_file, Listing, IsLoadable, numbering_of, HasFile, without_line_number, without_line_numbers}
+use Rattle.beam_term.specs.Prelude.{TermValue, IsTerm}
+use Rattle.beam_model.specs.CodeChunk.{is_end}
+use Rattle.beam_model.specs.File.{◌>>=◌}
 use Rattle.beam_etf.proofs.RoundTrip.{written_back}
+use Rattle.beam_code.proofs.RoundTrip.{listed_once}
+use Rattle.beam_disasm.proofs.Files.{layer_is}
 use Rattle.beam_asm.proofs.FileAgain.{file_again}
-
-bind_ok : {A B F : Type 0} (r : Result A F) (f : A → Result B F) (y : B) → (r >>= f) ≡ Ok y → (x : A) × (r ≡ Ok x) × (f x ≡ Ok y)
-bind_ok (Ok x) f y e = (x, refl, e)
-bind_ok (Err d) f y e = absurd cc
 
 abbrev done : {A F : Type 0} → A → Result A F
 done x = Ok x
@@ -32,10 +24,6 @@ ok_is x y e = cc
 ends_or_not : (b : Bool) (r : Result (List Instruction) CodeFault) (is : List Instruction) → cond b (Ok []) r ≡ Ok is → ([] ≡ is) ⊎ (r ≡ Ok is)
 ends_or_not true r is e = inl (ok_is [] is e)
 ends_or_not false r is e = inr e
-
-listed_once : (o : Opcode) (os : List Operand) → listed_operands o (listed_operands o os) ≡ listed_operands o os
-listed_once op.Line os = refl
-listed_once _ os = refl
 
 abbrev listed_instruction : Opcode → List Operand → Instruction
 listed_instruction o os = record { opcode = o; operands = listed_operands o os }
@@ -85,10 +73,6 @@ code_canonical atoms imports literals code p e =
     let made : record { label_count = l.0; function_count = n.0; instructions = i.0 } ≡ p = ok_is {F = CodeFault} (record { label_count = l.0; function_count = n.0; instructions = i.0 }) p i.2 in
     subst (λ (q : CodeParts). map without_line_number q.instructions ≡ q.instructions) made (all_canonical atoms imports literals code (length code) 20 i.0 i.1)
 
-from_layer : {A F : Type 0} (fault : F → FileFault) (r : Result A F) (x : A) → in_layer fault r ≡ Ok x → r ≡ Ok x
-from_layer fault (Ok y) x e = ap (λ z. done z) (ok_is y x e)
-from_layer fault (Err f) x e = absurd cc
-
 abbrev listing_done : Parts → List ℕ → CodeParts → Result Listing FileFault
 listing_done p name code = Ok (record { name = name; exports = p.tables.exports; label_count = code.label_count; function_count = code.function_count; instructions = code.instructions })
 
@@ -100,7 +84,7 @@ parts_canonical p l e =
     let c = bind_ok read (λ code. listing_done p a.0 code) l a.2 in
     let made = listing_of p a.0 c.0 in
     let same : map without_line_number c.0.instructions ≡ c.0.instructions =
-    code_canonical p.tables.atoms p.tables.imports p.tables.literals p.code c.0 (from_layer code_fault (code_of p.tables.atoms p.tables.imports p.tables.literals p.code) c.0 c.1) in
+    code_canonical p.tables.atoms p.tables.imports p.tables.literals p.code c.0 (layer_is code_fault (code_of p.tables.atoms p.tables.imports p.tables.literals p.code) c.0 c.1) in
     let once : without_line_numbers made ≡ made = ap (λ (is : List Instruction). with made is) same in
     subst (λ (m : Listing). without_line_numbers m ≡ m) (ok_is {F = FileFault} made l c.2) once
   where

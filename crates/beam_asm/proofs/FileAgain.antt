@@ -1,32 +1,23 @@
 -- The file of a listing spells the listing.
-use Rattle.std.proofs.Common.{◌≡◌, ℕ, ◌^◌, ◌<◌, ◌≤◌, Bool, true, false, cond, List, [], ◌∷◌, ◌++◌, length, Option, Some, None, Result, Ok, Err, refl, sym, ap, ◌∙◌, inr, arith, length-append}
-use Rattle.std.specs.Prelude.{◌&&◌, map, fold, slice_get, option_map, option_and_then, codes}
+use Rattle.std.proofs.Common.{◌≡◌, ℕ, ◌^◌, ◌<◌, ◌≤◌, Bool, true, false, cond, List, [], ◌∷◌, ◌++◌, length, Option, Some, None, Result, Ok, Err, refl, sym, ap, ◌∙◌, inr, arith, length-append, ◌&&◌, map, fold, slice_get, option_map, codes}
 use Rattle.std.specs.Result.{result_ok}
-use Rattle.std.specs.List.{All, list_any, list_all}
+use Rattle.std.specs.List.{list_any, list_all, All}
 use Rattle.std.proofs.lemmas.List.Elements.{All-nil, All-cons}
+use Rattle.std.proofs.lemmas.Bool.{and_parts}
+use Rattle.beam_lemmas.proofs.Options.{chained, mapped}
 use Rattle.byteorder.specs.Endian.{big_bytes}
-use Rattle.beam_term.specs.TermValue.{TermValue, int_term, atom_term, reference_term, pid_term, nil_term, pair_term, tuple_term}
 use Rattle.beam_model.specs.declared.function.Function.{Function}
 use Rattle.beam_model.specs.declared.instruction.Argument.{Argument}
-use Rattle.beam_model.specs.declared.instruction.Argument.TheVariants as argument
 use Rattle.beam_model.specs.declared.instruction.Operand.{Operand}
-use Rattle.beam_model.specs.declared.instruction.Operand.TheVariants as operand
 use Rattle.beam_model.specs.declared.instruction.Instruction.{Instruction}
 use Rattle.beam_model.specs.declared.opcode.Opcode.{Opcode}
+use Rattle.beam_model.specs.Prelude.{form_body, form_bytes, form_at, read_again, Tables, TableFault, TableChunks, tables_bytes, tables_at, form_with, required_chunk, found, atom_of_index, IsReadBack, tables_again, CodeParts, code_of, parts_of_form, listing_of_parts, listing_of_form, listing_of_file, Listing, label_by, same_text, kinds_of, Stage, start, first_label, informed, body, body_label, next_stage, after_first_label, within_body, after_body_label, function_at, functions_from, functions_of, are_functions_lawful, all_operands, is_within, are_labels_lawful, are_heads_lawful, are_exports_lawful, are_natives_known, are_limits_met, IsLoadable, Numbering, noted, with_term, with_argument, with_operand, with_instruction, numbering_of, code_bytes, tables_with, file_with, file_of, HasFile, without_line_number, without_line_numbers, are_few_atoms, are_short_atoms, Form}
+use Rattle.beam_term.specs.Prelude.{TermValue, int_term, atom_term, reference_term, pid_term, nil_term, pair_term, tuple_term}
+use Rattle.beam_model.specs.declared.instruction.Argument.TheVariants as argument
+use Rattle.beam_model.specs.declared.instruction.Operand.TheVariants as operand
 use Rattle.beam_model.specs.declared.opcode.Opcode.TheVariants as op
-use Rattle.beam_model.specs.Form.{Form, form_body, form_bytes, form_at}
-use Rattle.beam_model.specs.FormLaws.{read_again}
-use Rattle.beam_model.specs.Tables.{Tables, TableFault, TableChunks, tables_bytes, tables_at, form_with, required_chunk, found, atom_of_index}
-use Rattle.beam_model.specs.TablesLaws.{IsReadBack, tables_again}
-use Rattle.beam_model.specs.CodeChunk.{CodeParts, is_end, code_of}
-use Rattle.beam_model.specs.File.{parts_of_form, listing_of_parts, listing_of_form, listing_of_file}
-use Rattle.beam_model.specs.Listing.{Listing, label_by}
-use Rattle.beam_model.specs.SameText.{same_text}
-use Rattle.beam_model.specs.Opcodes.{kinds_of}
-use Rattle.beam_model.specs.Loadable.{Stage, start, first_label, informed, body, body_label, next_stage, after_first_label, within_body, after_body_label, function_at, functions_from, functions_of, are_functions_lawful, all_operands, is_within, are_labels_lawful, are_heads_lawful, are_exports_lawful, are_natives_known, are_limits_met}
-use Rattle.beam_model.specs.Loads.{IsLoadable}
-use Rattle.beam_model.specs.Assembly.{Numbering, noted, with_term, with_argument, with_operand, with_instruction, numbering_of, code_bytes, code_parts, tables_with, file_with, file_of, HasFile, without_line_number, without_line_numbers}
-use Rattle.beam_model.specs.Assembly.{are_few_atoms, are_short_atoms}
+use Rattle.beam_model.specs.CodeChunk.{is_end}
+use Rattle.beam_model.specs.Assembly.{code_parts}
 use Rattle.beam_check.specs.declared.error.CheckError.{CheckError}
 use Rattle.beam_check.specs.declared.error.CheckError.TheVariants as checks
 use Rattle.beam_asm.specs.declared.error.AsmError.TheVariants.{Check}
@@ -85,10 +76,6 @@ name_again l = ap found (first_atom l)
 
 -- ---- instructions of a loadable listing
 
-pub split_and : (a b : Bool) → (a && b) ≡ true → (a ≡ true) × (b ≡ true)
-split_and true b e = (refl, e)
-split_and false b e = absurd cc
-
 label_is_no_end : {X : Type 0} (o : Opcode) (os : List Operand) (x : X) (s : X) → option_map (λ n. x) (label_by o os) ≡ Some s → is_end o ≡ false
 label_is_no_end op.IntCodeEnd os x s e = absurd cc
 label_is_no_end _ os x s e = refl
@@ -116,19 +103,15 @@ none_left : {A B : Type 0} (f : A → B) (o : Option A) (y : B) → option_map f
 none_left f (Some x) y e = (x, refl)
 none_left f None y e = absurd cc
 
-stepped : {A B : Type 0} (f : A → Option B) (o : Option A) (y : B) → option_and_then f o ≡ Some y → (x : A) × (o ≡ Some x) × (f x ≡ Some y)
-stepped f (Some x) y e = (x, refl, e)
-stepped f None y e = absurd cc
-
 abbrev pub kinds_kept : Instruction → Bool
 kinds_kept i = all_operands is_within (kinds_of i.opcode) i.operands
 
 all_writable : (name : List ℕ) (is : List Instruction) (stage : Stage) (fs : List Function) → functions_from name stage is ≡ Some fs → list_all kinds_kept is ≡ true → All IsWritable is
 all_writable name [] stage fs e k = All-nil IsWritable
 all_writable name (i ∷ is) stage fs e k =
-    let s = stepped (λ next. option_map (λ gs. function_at stage i ++ gs) (functions_from name next is)) (next_stage name stage i) fs e in
+    let s = chained (λ next. option_map (λ gs. function_at stage i ++ gs) (functions_from name next is)) (next_stage name stage i) fs e in
     let t = none_left (λ gs. function_at stage i ++ gs) (functions_from name s.0 is) fs s.2 in
-    let w = split_and (kinds_kept i) (list_all kinds_kept is) k in
+    let w = and_parts (kinds_kept i) (list_all kinds_kept is) k in
     All-cons IsWritable i is (is_no_end name stage i s.0 s.1, w.0) (all_writable name is s.0 t.0 t.1 w.1)
 
 has_functions : (count : ℕ) (o : Option (List Function)) → are_functions_lawful count o ≡ true → (fs : List Function) × (o ≡ Some fs)
@@ -165,10 +148,6 @@ result_is : (r : Result TableChunks TableFault) (chunks : TableChunks) → resul
 result_is (Ok c) chunks e = let same : c ≡ chunks = cc in ap fine same
 result_is (Err f) chunks e = absurd cc
 
-mapped : {A B : Type 0} (f : A → B) (o : Option A) (y : B) → option_map f o ≡ Some y → (x : A) × (o ≡ Some x) × (f x ≡ y)
-mapped f (Some x) y e = (x, refl, cc)
-mapped f None y e = absurd cc
-
 -- the chunks and the code of a file
 pub record HasParts (n : Numbering) (l : Listing) (bytes : List ℕ) : Type 0 where
   pub chunks : TableChunks
@@ -180,7 +159,7 @@ pub record HasParts (n : Numbering) (l : Listing) (bytes : List ℕ) : Type 0 wh
 pub has_parts : (n : Numbering) (l : Listing) (bytes : List ℕ) → file_with n l ≡ Some bytes → HasParts n l bytes
 unfolding file_with
 has_parts n l bytes made =
-    let c = stepped (λ chunks. option_map (λ code. form_bytes (form_with chunks code)) (code_bytes n (code_parts l))) (result_ok (tables_bytes (tables_with n l.exports))) bytes made in
+    let c = chained (λ chunks. option_map (λ code. form_bytes (form_with chunks code)) (code_bytes n (code_parts l))) (result_ok (tables_bytes (tables_with n l.exports))) bytes made in
     let d = mapped (λ code. form_bytes (form_with c.0 code)) (code_bytes n (code_parts l)) bytes c.2 in
     record { chunks = c.0; code = d.0; tables = result_is (tables_bytes (tables_with n l.exports)) c.0 c.1; coded = d.1; formed = d.2 }
 

@@ -1,8 +1,6 @@
 -- Why a listing isn't assembled.
 use Rattle.std.specs.Prelude.{◌≡◌, ◌⊎◌, ℕ, true, false, List, Option, Some, None, Result, Ok, Err}
-use Rattle.beam_model.specs.Listing.{Listing}
-use Rattle.beam_model.specs.Loads.{IsLoadable}
-use Rattle.beam_model.specs.Assembly.{are_few_atoms, are_short_atoms, HasFile}
+use Rattle.beam_model.specs.Prelude.{Listing, IsLoadable, are_few_atoms, are_short_atoms, HasFile}
 use Rattle.beam_check.specs.declared.error.CheckError.{CheckError}
 use Rattle.beam_check.specs.declared.error.CheckError.TheVariants.{LimitExceeded, NoMemory}
 use Rattle.beam_check.specs.Fault.{StandsIn, number_of as check_number}

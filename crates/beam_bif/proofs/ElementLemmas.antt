@@ -1,8 +1,8 @@
 -- Lemmas on the elements of a list that a loop goes down.
 use Rattle.std.proofs.Common.{◌≡◌, ℕ, ◌+◌, List, [], ◌∷◌, ◌++◌, length, Option, Some, None, refl, ap, append_assoc, arith}
 use Rattle.std.specs.Option.{option_map}
-use Rattle.beam_term.specs.TermValue.{TermValue}
-use Rattle.beam_model.specs.Native.{put_before}
+use Rattle.beam_model.specs.Prelude.{put_before}
+use Rattle.beam_term.specs.Prelude.{TermValue}
 
 pub put_before-append : (xs : List TermValue) (x : TermValue) (o : Option (List TermValue))
     → option_map (λ ys. (xs ++ x ∷ []) ++ ys) o ≡ option_map (λ ys. xs ++ ys) (put_before x o)

@@ -1,15 +1,14 @@
 -- Lemmas on integers in their range: quotients, and shifts by many places.
-use Rattle.std.proofs.Common.{◌≡◌, ℕ, suc, zero, ◌*◌, ◌^◌, ◌/◌, ◌<◌, ◌≤◌, ◌==◌, min, if◌then◌else◌, ℤ, pos, negsuc, ◌≤ℤ◌, ◌<ℤ◌, neg_ℤ, ◌*ℤ◌, ◌⊎◌, inl, inr, arith, ap, refl, ◌∙◌, Result, Err, lit<, to_z, of_z, w64, FitsSigned}
-use Rattle.std.proofs.Math.Nat.{div-eq_of_lt, div-le_self, pow-le-pow_right}
+use Rattle.std.proofs.Common.{◌≡◌, ℕ, suc, zero, ◌*◌, ◌^◌, ◌/◌, ◌<◌, ◌≤◌, ◌==◌, min, if◌then◌else◌, ℤ, pos, negsuc, ◌≤ℤ◌, ◌<ℤ◌, neg_ℤ, ◌*ℤ◌, ◌⊎◌, inl, inr, arith, ap, refl, ◌∙◌, Result, Err, lit<, to_z, of_z, w64, FitsSigned, int_div, unsigned_abs}
+use Rattle.std.proofs.Math.Nat.{div-eq_of_lt, pow-le-pow_right, div-le_self}
 use Rattle.std.proofs.lemmas.Int.{ints, quot_is, to_z-of_z}
 use Rattle.std.proofs.lemmas.Bool.Decides.{nat_tests}
-use Rattle.std.specs.Prelude.{int_div, unsigned_abs}
 use Rattle.std.specs.Int.{int_shr}
 use lib.Signed.{mag_shr}
-use Rattle.beam_term.specs.TermValue.{IsSmall, TermValue}
-use Rattle.beam_model.specs.Native.{limited}
+use Rattle.beam_model.specs.Prelude.{limited}
 use Rattle.beam_model.specs.declared.exception.Fault.{Fault}
 use Rattle.beam_model.specs.declared.exception.Fault.TheVariants.{SystemLimit, Badarith}
+use Rattle.beam_term.specs.Prelude.{IsSmall, TermValue}
 
 -- an integer outside the range is refused with system_limit
 pub limited_beyond : (n : ℤ) → (pos (2 ^ 59) ≤ℤ n) ⊎ (n <ℤ neg_ℤ (pos (2 ^ 59))) → Err SystemLimit ≡ limited n

@@ -1,10 +1,9 @@
 -- Terms that are made, by their depth and size.
 use Rattle.std.proofs.Common.{◌≡◌, ◌^◌, ◌<◌, ◌≤◌, ◌⊎◌, true, List, length, Ok, Err, refl, arith}
 use Rattle.std.proofs.lemmas.Bool.Decides.{nat_tests}
-use Rattle.beam_term.specs.TermValue.{TermValue, int_term, atom_term, reference_term, pid_term, nil_term, pair_term, tuple_term, tuple_of, depth_of, IsTerm}
-use Rattle.beam_term.specs.Elements.{count_of-terms_of}
-use Rattle.beam_model.specs.Native.{has_lawful_size, limited_term}
+use Rattle.beam_model.specs.Prelude.{has_lawful_size, limited_term}
 use Rattle.beam_model.specs.declared.exception.Fault.TheVariants.{SystemLimit}
+use Rattle.beam_term.specs.Prelude.{TermValue, int_term, atom_term, reference_term, pid_term, nil_term, pair_term, tuple_term, tuple_of, depth_of, IsTerm, count_of-terms_of}
 
 lawful_size : (t : TermValue) → IsTerm t → has_lawful_size t ≡ true
 lawful_size (tuple_term items) h = grind (arith, nat_tests, h.in_range.0)

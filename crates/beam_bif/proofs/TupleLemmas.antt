@@ -1,11 +1,9 @@
 -- Lemmas on tuples as the lists of their elements.
-use Rattle.std.proofs.Common.{◌≡◌, ℕ, zero, suc, ◌+◌, ◌<◌, ◌≤◌, ℤ, pos, negsuc, ◌≤ℤ◌, ◌<ℤ◌, ◌⊎◌, List, length, get_or, Result, Ok, Err, refl, ap, arith, rules, add-one, nat_lt, Bool, true, if◌then◌else◌}
-use Rattle.std.specs.Prelude.{slice_set}
-use Rattle.beam_term.specs.TermValue.{TermValue, int_term, tuple_of, list_of}
-use Rattle.beam_term.specs.Elements.{elements_of-terms_of, count_of-terms_of}
-use Rattle.beam_model.specs.Native.{or_badarg, element_of, set_element_of, tuple_size_of, list_of_tuple, limited_term}
+use Rattle.std.proofs.Common.{◌≡◌, ℕ, zero, suc, ◌+◌, ◌<◌, ◌≤◌, ℤ, pos, negsuc, ◌≤ℤ◌, ◌<ℤ◌, ◌⊎◌, List, length, get_or, Result, Ok, Err, refl, ap, arith, rules, add-one, nat_lt, Bool, true, if◌then◌else◌, slice_set}
+use Rattle.beam_model.specs.Prelude.{or_badarg, element_of, set_element_of, tuple_size_of, list_of_tuple, limited_term}
 use Rattle.beam_model.specs.declared.exception.Fault.{Fault}
 use Rattle.beam_model.specs.declared.exception.Fault.TheVariants.{Badarg}
+use Rattle.beam_term.specs.Prelude.{TermValue, int_term, tuple_of, list_of, elements_of-terms_of, count_of-terms_of}
 use Rattle.std.proofs.lemmas.Int.{ints}
 use Rattle.std.proofs.lemmas.Option.{slice_get_read, slice_get_past}
 use Rattle.std.proofs.lemmas.Bool.Decides.{nat_tests}

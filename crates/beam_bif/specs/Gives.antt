@@ -1,11 +1,11 @@
 -- The result of a native's call against its definition.
 use Rattle.std.specs.Prelude.{◌≡◌, Result, Ok, Err, IsErrAnd}
-use Rattle.beam_term.specs.TermValue.{TermValue}
 use Rattle.beam_model.specs.declared.exception.Exception.{Exception}
+use Rattle.beam_model.specs.Prelude.{class_of, value_of}
+use Rattle.beam_term.specs.Prelude.{TermValue}
 use Rattle.beam_bif.specs.declared.error.BifError.{BifError}
 use Rattle.beam_bif.specs.declared.error.BifError.TheVariants as bif_error
 use Rattle.beam_bif.specs.declared.error.NativeError.{NativeError}
-use Rattle.beam_model.specs.Exception.{class_of, value_of}
 use Rattle.beam_bif.specs.declared.error.NativeError.TheVariants.{NoMemory, Raised}
 
 -- the result is this outcome, unless memory was refused

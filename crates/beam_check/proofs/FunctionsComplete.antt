@@ -1,6 +1,5 @@
 -- The functions of a listing are found by its stages.
-use Rattle.std.proofs.Common.{◌≡◌, ◌≢◌, ℕ, true, List, [], ◌∷◌, ◌++◌, Some, refl, ap, ◌∙◌, append_assoc}
-use Rattle.std.specs.Prelude.{Option, None, option_map}
+use Rattle.std.proofs.Common.{◌≡◌, ◌≢◌, ℕ, true, List, [], ◌∷◌, ◌++◌, Some, refl, ap, ◌∙◌, append_assoc, Option, None, option_map}
 use Rattle.std.specs.List.{All}
 use Rattle.std.proofs.lemmas.List.Elements.{All-head, All-tail}
 use Rattle.std.proofs.lemmas.Slice.Eq.{bytes_eq-Decides}
@@ -8,10 +7,8 @@ use Rattle.beam_model.specs.declared.function.Function.{Function}
 use Rattle.beam_model.specs.declared.instruction.Operand.{Operand}
 use Rattle.beam_model.specs.declared.instruction.Instruction.{Instruction}
 use Rattle.beam_model.specs.declared.opcode.Opcode.{Opcode}
+use Rattle.beam_model.specs.Prelude.{same_text, Stage, start, first_label, informed, body, body_label, after_first_label, within_body, after_body_label, next_stage, function_at, functions_from, label, func_info, IsLine, IsInBody, IsFunction, AreFunctions}
 use Rattle.beam_model.specs.declared.opcode.Opcode.TheVariants as op
-use Rattle.beam_model.specs.SameText.{same_text}
-use Rattle.beam_model.specs.Loadable.{Stage, start, first_label, informed, body, body_label, after_first_label, within_body, after_body_label, next_stage, function_at, functions_from}
-use Rattle.beam_model.specs.Heads.{label, func_info, IsLine, IsInBody, IsFunction, AreFunctions}
 
 -- an instruction with which no function begins
 passes : (name : List ℕ) (s next : Stage) (i : Instruction) (rest : List Instruction) → next_stage name s i ≡ Some next → function_at s i ≡ []

@@ -1,31 +1,18 @@
 -- The stages find functions only where these stand in the code.
-use Rattle.std.proofs.Common.{◌≡◌, ◌⊎◌, inl, inr, ℕ, Bool, true, false, List, [], ◌∷◌, ◌++◌, Some, refl, sym, ap, subst, ◌∙◌, append_assoc}
-use Rattle.std.specs.Prelude.{Option, None, option_map, option_and_then, unwrap_or, if◌then◌else◌}
+use Rattle.std.proofs.Common.{◌≡◌, ◌⊎◌, inl, inr, ℕ, Bool, true, false, List, [], ◌∷◌, ◌++◌, Some, refl, sym, ap, subst, ◌∙◌, append_assoc, Option, None, option_map, unwrap_or, if◌then◌else◌}
 use Rattle.std.specs.List.{All}
 use Rattle.std.proofs.lemmas.List.Elements.{All-nil, All-cons}
 use Rattle.std.proofs.lemmas.Slice.Eq.{bytes_eq-Decides}
-use Rattle.beam_term.specs.TermValue.{int_term, atom_term, reference_term, pid_term, nil_term, pair_term, tuple_term}
+use Rattle.beam_lemmas.proofs.Options.{chained, mapped}
 use Rattle.beam_model.specs.declared.function.Function.{Function}
-use Rattle.beam_model.specs.declared.instruction.Argument.TheVariants as argument
 use Rattle.beam_model.specs.declared.instruction.Operand.{Operand}
-use Rattle.beam_model.specs.declared.instruction.Operand.TheVariants as operand
 use Rattle.beam_model.specs.declared.instruction.Instruction.{Instruction}
 use Rattle.beam_model.specs.declared.opcode.Opcode.{Opcode}
+use Rattle.beam_model.specs.Prelude.{label_by, label_of, same_text, Stage, start, first_label, informed, body, body_label, atom_in, number_in, informed_from, informed_by, after_first_label, within_body, after_body_label, next_stage, function_at, functions_from, label, func_info, IsLine, IsInBody, IsFunction, AreFunctions}
+use Rattle.beam_term.specs.Prelude.{int_term, atom_term, reference_term, pid_term, nil_term, pair_term, tuple_term}
+use Rattle.beam_model.specs.declared.instruction.Argument.TheVariants as argument
+use Rattle.beam_model.specs.declared.instruction.Operand.TheVariants as operand
 use Rattle.beam_model.specs.declared.opcode.Opcode.TheVariants as op
-use Rattle.beam_model.specs.Listing.{label_by, label_of}
-use Rattle.beam_model.specs.SameText.{same_text}
-use Rattle.beam_model.specs.Loadable.{Stage, start, first_label, informed, body, body_label, atom_in, number_in, informed_from, informed_by, after_first_label, within_body, after_body_label, next_stage, function_at, functions_from}
-use Rattle.beam_model.specs.Heads.{label, func_info, IsLine, IsInBody, IsFunction, AreFunctions}
-
--- ---- options
-
-stepped : {A B : Type 0} (f : A → Option B) (o : Option A) (y : B) → option_and_then f o ≡ Some y → (x : A) × (o ≡ Some x) × (f x ≡ Some y)
-stepped f (Some x) y e = (x, refl, e)
-stepped f None y e = absurd cc
-
-mapped : {A B : Type 0} (f : A → B) (o : Option A) (y : B) → option_map f o ≡ Some y → (x : A) × (o ≡ Some x) × (f x ≡ y)
-mapped f (Some x) y e = (x, refl, cc)
-mapped f None y e = absurd cc
 
 -- ---- label instructions have a number
 
@@ -308,7 +295,7 @@ told name (informed f a) [] fs are e = absurd cc
 told name body [] fs are e = no_body name fs [] (no_functions name fs e)
 told name body_label [] fs are e = inl (no_body name fs [] (no_functions name fs e))
 told name s (i ∷ code) fs are e =
-    let n = stepped (λ next. option_map (λ gs. function_at s i ++ gs) (functions_from name next code)) (next_stage name s i) fs e in
+    let n = chained (λ next. option_map (λ gs. function_at s i ++ gs) (functions_from name next code)) (next_stage name s i) fs e in
     let t = mapped (λ gs. function_at s i ++ gs) (functions_from name n.0 code) fs n.2 in
     subst (λ (gs : List Function). Told name s gs (i ∷ code)) t.2 (step name s n.0 i t.0 code are.0 n.1 (told name n.0 code t.0 are.1 t.1))
 

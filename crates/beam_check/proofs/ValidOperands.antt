@@ -1,13 +1,10 @@
 -- One pass over the operands tests exactly what the three rules demand of them.
-use Rattle.std.proofs.Common.{◌≡◌, ℕ, Bool, ◌&&◌, true, false, List, [], ◌∷◌, length, refl, ap, sym, ◌∙◌}
-use Rattle.std.specs.Prelude.{◌==◌, nat_lt}
+use Rattle.std.proofs.Common.{◌≡◌, ℕ, Bool, ◌&&◌, true, false, List, [], ◌∷◌, length, refl, ap, sym, ◌∙◌, ◌==◌, nat_lt}
 use Rattle.std.specs.List.{list_all, zip}
 use Rattle.beam_model.specs.declared.instruction.Instruction.{Instruction}
 use Rattle.beam_model.specs.declared.instruction.Operand.{Operand}
 use Rattle.beam_model.specs.declared.opcode.Kind.{Kind}
-use Rattle.beam_model.specs.Listing.{Listing}
-use Rattle.beam_model.specs.Opcodes.{kinds_of}
-use Rattle.beam_model.specs.Loadable.{defined_labels, are_new, is_known, is_within, all_operands, are_targets, are_labels_lawful, are_natives_known, are_limits_met}
+use Rattle.beam_model.specs.Prelude.{Listing, kinds_of, defined_labels, are_new, is_known, is_within, all_operands, are_targets, are_labels_lawful, are_natives_known, are_limits_met}
 use Rattle.beam_check.specs.LabelSet.{is_target, are_marked_targets}
 use Rattle.beam_check.proofs.LabelTests.{Tells, all_targets_same}
 use Rattle.beam_check.specs.ValidOperands.{are_valid, are_operands_valid}

@@ -1,28 +1,20 @@
 -- A listing can be loaded exactly where it is well-formed.
-use Rattle.std.proofs.Common.{◌≡◌, ℕ, Bool, true, false, List, [], ◌∷◌, length, Some, refl, sym, ap, ◌∙◌, arith}
-use Rattle.std.specs.Prelude.{Option, None, ◌&&◌, ◌==◌, map, unwrap_or}
+use Rattle.std.proofs.Common.{◌≡◌, ℕ, Bool, true, false, List, [], ◌∷◌, length, Some, refl, sym, ap, ◌∙◌, arith, Option, None, ◌&&◌, ◌==◌, map, unwrap_or, eqb-true}
 use Rattle.std.specs.List.{list_all, zip}
-use Rattle.std.proofs.lemmas.Bool.{eqb-true}
+use Rattle.std.proofs.lemmas.Bool.{and_parts, and_from}
+use Rattle.beam_lemmas.proofs.Tests.{itself}
 use Rattle.beam_model.specs.declared.function.Function.{Function}
-use Rattle.beam_model.specs.declared.instruction.Argument.TheVariants as argument
 use Rattle.beam_model.specs.declared.instruction.Operand.{Operand}
-use Rattle.beam_model.specs.declared.instruction.Operand.TheVariants as operand
 use Rattle.beam_model.specs.declared.instruction.Instruction.{Instruction}
 use Rattle.beam_model.specs.declared.opcode.Opcode.{Opcode}
-use Rattle.beam_model.specs.declared.opcode.Opcode.TheVariants as op
 use Rattle.beam_model.specs.declared.opcode.Kind.{Kind}
+use Rattle.beam_model.specs.Prelude.{Listing, kinds_of, are_labels_lawful, are_heads_lawful, are_exports_lawful, are_natives_known, are_limits_met, are_functions_lawful, functions_of, signature_of, exported_signature, are_signatures_new, is_entry_of, is_number_operand, is_within, all_operands, IsLoadable, label, AreFunctions, IsWellFormed}
+use Rattle.beam_model.specs.declared.instruction.Argument.TheVariants as argument
+use Rattle.beam_model.specs.declared.instruction.Operand.TheVariants as operand
+use Rattle.beam_model.specs.declared.opcode.Opcode.TheVariants as op
 use Rattle.beam_model.specs.declared.opcode.Kind.TheVariants as kind
-use Rattle.beam_model.specs.Listing.{Listing}
-use Rattle.beam_model.specs.Opcodes.{kinds_of}
-use Rattle.beam_model.specs.Loadable.{are_labels_lawful, are_heads_lawful, are_exports_lawful, are_natives_known, are_limits_met, are_functions_lawful, functions_of, signature_of, exported_signature, are_signatures_new, is_entry_of, is_number_operand, is_within, all_operands}
-use Rattle.beam_model.specs.Loads.{IsLoadable}
-use Rattle.beam_model.specs.Heads.{label, AreFunctions, IsWellFormed}
 use Rattle.beam_check.proofs.FunctionsComplete.{functions_complete}
 use Rattle.beam_check.proofs.FunctionsSound.{IsNumbered, AreNumbered, functions_sound}
-
-split_and : (a b : Bool) → (a && b) ≡ true → (a ≡ true) × (b ≡ true)
-split_and true b e = (refl, e)
-split_and false b e = absurd cc
 
 -- ---- labels have numbers
 
@@ -40,13 +32,13 @@ numbered_operand (operand.List as') e = absurd cc
 
 counted : (os : List Operand) → all_operands is_within (kind.Number ∷ []) os ≡ true → (1 ≡ length os) × (list_all (λ (p : Kind × Operand). is_within p.0 p.1) (zip (kind.Number ∷ []) os) ≡ true)
 counted os e =
-    let s = split_and (1 == length os) (list_all (λ (p : Kind × Operand). is_within p.0 p.1) (zip (kind.Number ∷ []) os)) e in
+    let s = and_parts (1 == length os) (list_all (λ (p : Kind × Operand). is_within p.0 p.1) (zip (kind.Number ∷ []) os)) e in
     (eqb-true 1 (length os) s.0, s.1)
 
 numbered_label : (os : List Operand) → all_operands is_within (kind.Number ∷ []) os ≡ true → (n : ℕ) × (made op.Label os ≡ label n)
 numbered_label [] e = absurd (omega (arith, (counted [] e).0))
 numbered_label (o ∷ []) e =
-    let n = numbered_operand o (split_and (is_number_operand o) true (counted (o ∷ []) e).1).0 in
+    let n = numbered_operand o (and_parts (is_number_operand o) true (counted (o ∷ []) e).1).0 in
     (n.0, ap (λ (p : Operand). made op.Label (p ∷ [])) n.1)
 numbered_label (o ∷ p ∷ os) e = absurd (omega (arith, (counted (o ∷ p ∷ os) e).0))
 
@@ -60,7 +52,7 @@ within i = all_operands is_within (kinds_of i.opcode) i.operands
 numbered : (code : List Instruction) → list_all within code ≡ true → AreNumbered code
 numbered [] e = tt
 numbered (i ∷ code) e =
-    let s = split_and (within i) (list_all within code) e in
+    let s = and_parts (within i) (list_all within code) e in
     (numbered_by i.opcode i.operands s.0, numbered code s.1)
 
 -- ---- heads
@@ -74,15 +66,8 @@ record Lawful (count : ℕ) (o : Option (List Function)) : Type 0 where
 lawful : (count : ℕ) (o : Option (List Function)) → are_functions_lawful count o ≡ true → Lawful count o
 lawful count None e = absurd cc
 lawful count (Some fs) e =
-    let s = split_and (length fs == count) (are_signatures_new [] (map signature_of fs)) e in
+    let s = and_parts (length fs == count) (are_signatures_new [] (map signature_of fs)) e in
     record { functions = fs; found = refl; counted = eqb-true (length fs) count s.0; distinct = s.1 }
-
-equal_counts : (n : ℕ) → (n == n) ≡ true
-equal_counts n = grind arith
-
-both_true : (a b : Bool) → a ≡ true → b ≡ true → (a && b) ≡ true
-both_true true b e f = f
-both_true false b e f = absurd cc
 
 -- ---- all of it
 
@@ -110,7 +95,7 @@ well_formed l e =
     let h = lawful l.function_count (functions_of l) p.heads in
     let entries : list_all (is_entry_of (unwrap_or (functions_of l) [])) l.exports ≡ list_all (is_entry_of h.functions) l.exports =
     ap (λ (o : Option (List Function)). list_all (is_entry_of (unwrap_or o [])) l.exports) h.found in
-    let x = split_and (list_all (is_entry_of (unwrap_or (functions_of l) [])) l.exports) (are_signatures_new [] (map exported_signature l.exports)) p.exports in
+    let x = and_parts (list_all (is_entry_of (unwrap_or (functions_of l) [])) l.exports) (are_signatures_new [] (map exported_signature l.exports)) p.exports in
     record {
       labels = p.labels;
       functions = h.functions;
@@ -127,10 +112,10 @@ well_formed l e =
 pub loadable : (l : Listing) → IsWellFormed l → IsLoadable l
 loadable l w =
     let found : functions_of l ≡ Some w.functions = functions_complete l.name w.functions l.instructions w.are_functions in
-    let count : (length w.functions == l.function_count) ≡ true = rw w.count (equal_counts l.function_count) in
-    let heads : are_heads_lawful l ≡ true = ap (are_functions_lawful l.function_count) found ∙ both_true (length w.functions == l.function_count) (are_signatures_new [] (map signature_of w.functions)) count w.distinct in
+    let count : (length w.functions == l.function_count) ≡ true = rw w.count (itself l.function_count) in
+    let heads : are_heads_lawful l ≡ true = ap (are_functions_lawful l.function_count) found ∙ and_from (length w.functions == l.function_count) (are_signatures_new [] (map signature_of w.functions)) count w.distinct in
     let entries : list_all (is_entry_of (unwrap_or (functions_of l) [])) l.exports ≡ true = ap (λ (o : Option (List Function)). list_all (is_entry_of (unwrap_or o [])) l.exports) found ∙ w.entries in
-    let exports : are_exports_lawful l ≡ true = both_true (list_all (is_entry_of (unwrap_or (functions_of l) [])) l.exports) (are_signatures_new [] (map exported_signature l.exports)) entries w.exports in
+    let exports : are_exports_lawful l ≡ true = and_from (list_all (is_entry_of (unwrap_or (functions_of l) [])) l.exports) (are_signatures_new [] (map exported_signature l.exports)) entries w.exports in
     (together (are_labels_lawful l) (are_heads_lawful l) (are_exports_lawful l) (are_natives_known l) (are_limits_met l) w.labels heads exports w.natives w.limits, w.framed)
 
 pub heads_lawful : (l : Listing) → IsWellFormed l → are_heads_lawful l ≡ true

@@ -3,8 +3,8 @@ use Rattle.std.proofs.Common.{[], ◌∷◌, codes, refl}
 use Rattle.std.specs.List.{All}
 use Rattle.std.proofs.lemmas.List.Elements.{All-nil, All-cons}
 use Rattle.beam_model.specs.declared.instruction.Instruction.{Instruction}
+use Rattle.beam_model.specs.Prelude.{label, func_info, IsLine, IsInBody, IsFunction, AreFunctions}
 use Rattle.beam_model.specs.declared.opcode.Opcode.TheVariants as op
-use Rattle.beam_model.specs.Heads.{label, func_info, IsLine, IsInBody, IsFunction, AreFunctions}
 
 abbrev line : Instruction
 line = record { opcode = op.Line; operands = [] }

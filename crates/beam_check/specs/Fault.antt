@@ -1,8 +1,6 @@
 -- The fault of a listing: the first one that stands there, in the order of their numbers.
 use Rattle.std.specs.Prelude.{◌≡◌, ℕ, if◌then◌else◌, Option, Some, None}
-use Rattle.beam_model.specs.Listing.{Listing}
-use Rattle.beam_model.specs.Loadable.{are_labels_lawful, are_heads_lawful, are_exports_lawful, are_natives_known, are_limits_met}
-use Rattle.beam_model.specs.Framed.{IsFramed}
+use Rattle.beam_model.specs.Prelude.{Listing, are_labels_lawful, are_heads_lawful, are_exports_lawful, are_natives_known, are_limits_met, IsFramed}
 use Rattle.beam_check.specs.declared.error.CheckError.{CheckError}
 use Rattle.beam_check.specs.declared.error.CheckError.TheVariants.{BadLabel, BadHead, BadExport, UnknownBif, LimitExceeded, FrameMismatch, NoMemory}
 

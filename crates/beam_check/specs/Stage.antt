@@ -1,5 +1,5 @@
 -- What the code's stages stand for.
-use Rattle.beam_model.specs.Loadable.{Stage as TheStage, start, first_label, informed, body, body_label}
+use Rattle.beam_model.specs.Prelude.{Stage as TheStage, start, first_label, informed, body, body_label}
 use Rattle.beam_check.specs.declared.functions.Stage.{Stage}
 use Rattle.beam_check.specs.declared.functions.Stage.TheVariants.{Start, FirstLabel, Informed, Body, BodyLabel}
 

@@ -3,9 +3,7 @@ use Rattle.std.specs.Prelude.{ℕ, Bool, ◌&&◌}
 use Rattle.beam_model.specs.declared.instruction.Operand.{Operand}
 use Rattle.beam_model.specs.declared.instruction.Instruction.{Instruction}
 use Rattle.beam_model.specs.declared.opcode.Kind.{Kind}
-use Rattle.beam_model.specs.Listing.{Listing}
-use Rattle.beam_model.specs.Opcodes.{kinds_of}
-use Rattle.beam_model.specs.Loadable.{is_known, is_within, all_operands, are_labels_lawful, are_natives_known, are_limits_met}
+use Rattle.beam_model.specs.Prelude.{Listing, kinds_of, is_known, is_within, all_operands, are_labels_lawful, are_natives_known, are_limits_met}
 use Rattle.beam_check.specs.LabelSet.{is_target}
 
 abbrev pub is_valid : (ℕ → Bool) → Kind → Operand → Bool

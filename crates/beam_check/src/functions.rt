@@ -1,13 +1,13 @@
 //! The functions of a listing, one after the other.
 ghost use Rattle.std.specs.Prelude.{◌≡◌, ◌++◌, option_map, IfOk};
-ghost use Rattle.std.specs.Option.{option_copied};
-ghost use Rattle.beam_model.specs.Loadable.{atom_of_term, atom_in, number_in, next_stage, at_start, after_first_label, after_func_info, within_body, after_body_label, informed_by, functions_of, functions_from, function_at, may_end};
+ghost use Rattle.beam_model.specs.Loadable.{atom_of_term, next_stage, at_start, after_first_label, after_func_info, within_body, after_body_label, informed_by, functions_of, functions_from, function_at, may_end};
 ghost use Rattle.beam_check.specs.Stage.{shown};
 
 use beam_model::function::Function;
-use beam_model::instruction::{Argument, Instruction, Operand};
+use beam_model::instruction::{Instruction, Operand};
 use beam_model::listing::Listing;
 use beam_model::opcode::Opcode;
+use beam_model::operand_value::{atom_in, number_in};
 use beam_term::{Atom, TermError};
 use std::alloc::{AllocError, Global};
 
@@ -19,26 +19,6 @@ pub enum Stage<'a> {
     Informed(&'a Atom, u32),
     Body,
     BodyLabel,
-}
-
-/// The atom that an operand is.
-pub fn atom_in(operand: &Operand) -> Option<&Atom>
-    ensures { option_copied result ≡ atom_in operand.now }
-{
-    match operand {
-        Operand::One(Argument::Term(term)) => term.as_atom(),
-        _ => None,
-    }
-}
-
-/// The number that an operand is.
-fn number_in(operand: &Operand) -> Option<u32>
-    ensures { result ≡ number_in operand.now }
-{
-    match operand {
-        Operand::One(Argument::Number(number)) => Some(*number),
-        _ => None,
-    }
 }
 
 fn informed_by<'a>(owner: &Atom, operands: &'a [Operand]) -> Option<Stage<'a>>

@@ -4,11 +4,11 @@ ghost use Rattle.std.specs.List.{list_all, zip};
 ghost use Rattle.beam_model.specs.Opcodes.{kinds_of};
 ghost use Rattle.beam_model.specs.Loadable.{is_argument_within, is_number_operand, is_arity, is_frame_size, is_label_operand, is_atom_operand, is_register_operand, is_source_operand, is_import_operand, is_list_operand, is_within, all_operands, are_limits_met};
 
-use crate::functions::atom_in;
 use beam_genop::kinds;
 use beam_model::instruction::{Argument, Instruction, Operand};
 use beam_model::listing::Listing;
 use beam_model::opcode::Kind;
+use beam_model::operand_value::atom_in;
 
 fn is_argument_within(argument: &Argument) -> bool
     ensures { result ≡ is_argument_within argument.now }

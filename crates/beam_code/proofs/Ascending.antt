@@ -1,13 +1,11 @@
 -- Labels that stand in the order of their numbers, listed from the first instruction to the last.
-use Rattle.std.proofs.Common.{◌≡◌, ℕ, zero, suc, ◌+◌, ◌<◌, ◌≤◌, Bool, true, false, cond, ltb, eqb, List, [], ◌∷◌, ◌++◌, length, get_or, drop, map, Option, Some, None, refl, sym, ap, subst, ◌∙◌, append_assoc, arith}
-use Rattle.std.specs.Prelude.{nat_eq, option_map}
+use Rattle.std.proofs.Common.{◌≡◌, ℕ, zero, suc, ◌+◌, ◌<◌, ◌≤◌, Bool, true, false, cond, ltb, eqb, List, [], ◌∷◌, ◌++◌, length, get_or, drop, map, Option, Some, None, refl, sym, ap, subst, ◌∙◌, append_assoc, arith, nat_eq, option_map, ltb-false, lt-ltb, le-ltb, eqb-true, eq-eqb, ne_eqb, append-nil}
 use Rattle.std.specs.Map.{lookup}
-use Rattle.std.proofs.lemmas.Bool.{ltb-false, lt-ltb, le-ltb, eqb-true, eqb-false, eq-eqb, ne_eqb}
-use Rattle.std.proofs.lemmas.List.{append-nil, drop_more, drop_all}
+use Rattle.std.proofs.lemmas.Bool.{eqb-false}
+use Rattle.std.proofs.lemmas.List.{drop_more, drop_all}
 use Rattle.beam_model.specs.declared.instruction.Instruction.{Instruction}
-use Rattle.beam_model.specs.Listing.{is_this_number, label_of}
-use Rattle.beam_code.specs.Bytes.{byte_after, AreAscending}
-use Rattle.beam_code.specs.Ascending.{bound_after, with_label, ascending_from}
+use Rattle.beam_model.specs.Prelude.{is_this_number, label_of}
+use Rattle.beam_code.specs.Prelude.{byte_after, AreAscending, bound_after, with_label, ascending_from}
 
 abbrev Labels : Type 0
 Labels = List (ℕ × ℕ)

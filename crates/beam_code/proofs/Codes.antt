@@ -1,40 +1,22 @@
 -- A Code chunk is read exactly from the bytes that spell it.
-use Rattle.std.proofs.Common.{◌≡◌, ◌≢◌, ℕ, zero, suc, ◌+◌, ◌-◌, ◌<◌, ◌≤◌, Bool, true, false, cond, ltb, List, [], ◌∷◌, ◌++◌, length, take, drop, Option, Some, None, Result, Ok, Err, refl, sym, ap, subst, ◌∙◌, append_assoc, arith}
-use Rattle.std.specs.Prelude.{◌==◌, find, slice_get}
-use Rattle.std.proofs.lemmas.Bool.{ltb-false, le-ltb, eqb-true}
-use Rattle.std.proofs.lemmas.List.{drop_at, drop-drop, take-append-drop, length-take, length-drop, length-append}
+use Rattle.std.proofs.Common.{◌≡◌, ◌≢◌, ℕ, zero, suc, ◌+◌, ◌-◌, ◌<◌, ◌≤◌, Bool, true, false, cond, ltb, List, [], ◌∷◌, ◌++◌, length, take, drop, Option, Some, None, Result, Ok, Err, refl, sym, ap, subst, ◌∙◌, append_assoc, arith, ◌==◌, find, slice_get, ltb-false, le-ltb, eqb-true, drop_at, drop-drop, take-append-drop, length-take, length-drop, length-append}
+use Rattle.beam_lemmas.proofs.Steps.{bind_ok, guard_true, guard_false}
 use Rattle.byteorder.specs.Endian.{big_number}
 use Rattle.byteorder.specs.Numbers.{big_from-take, big_from-append}
 use Rattle.beam_model.specs.declared.compact.CompactOperand.{CompactOperand}
 use Rattle.beam_model.specs.declared.instruction.Operand.{Operand}
 use Rattle.beam_model.specs.declared.instruction.Instruction.{Instruction}
 use Rattle.beam_model.specs.declared.opcode.Opcode.{Opcode}
-use Rattle.beam_model.specs.declared.opcode.Opcode.TheVariants as op
 use Rattle.beam_model.specs.declared.opcode.Kind.{Kind}
-use Rattle.beam_model.specs.Opcodes.{number_of, kinds_of, opcode_of, opcodes}
-use Rattle.beam_model.specs.Compact.{OperandFault, ◌>>=◌, operand_at}
-use Rattle.beam_model.specs.CompactForm.{IsSpelling}
-use Rattle.beam_model.specs.CodeChunk.{CodeParts, CodeFault, truncated, bad_operand, meaning_of, position_after, spelled_at, or_bad_operand, meant_at, operands_at, or_unsupported_opcode, opcode_in, opcode_at, is_end, listed_operands, instruction_after_opcode, instructions_at, word_at, expected_at, code_of}
-use Rattle.beam_model.specs.Tables.{Tables}
+use Rattle.beam_model.specs.Prelude.{number_of, kinds_of, opcode_of, opcodes, OperandFault, operand_at, IsSpelling, CodeParts, CodeFault, bad_operand, meaning_of, position_after, spelled_at, or_bad_operand, meant_at, operands_at, or_unsupported_opcode, opcode_in, opcode_at, listed_operands, instruction_after_opcode, instructions_at, word_at, expected_at, code_of, Tables, InSequence, IsOperand, AreOperands, IsInstruction, IsCode}
+use Rattle.beam_model.specs.declared.opcode.Opcode.TheVariants as op
+use Rattle.beam_model.specs.Compact.{◌>>=◌}
+use Rattle.beam_model.specs.CodeChunk.{truncated, is_end}
 use Rattle.beam_operand.proofs.ReadingComplete.{operand_spelled}
 use Rattle.beam_operand.proofs.ReadingSound.{operand_sound}
-use Rattle.beam_model.specs.Sequence.{InSequence}
 use Rattle.beam_model.specs.ChunkForm.{IsWord}
-use Rattle.beam_model.specs.CodeForm.{IsOperand, AreOperands, IsInstruction, IsCode}
 
 -- ---- steps of reading
-
-pub bind_ok : {A B : Type 0} (r : Result A CodeFault) (f : A → Result B CodeFault) (y : B) → (r >>= f) ≡ Ok y → (x : A) × (r ≡ Ok x) × (f x ≡ Ok y)
-bind_ok (Ok x) f y e = (x, refl, e)
-bind_ok (Err d) f y e = absurd cc
-
-guard_ok : {A : Type 0} (b : Bool) (d : CodeFault) (r : Result A CodeFault) (y : A) → cond b (Err d) r ≡ Ok y → (b ≡ false) × (r ≡ Ok y)
-guard_ok true d r y e = absurd cc
-guard_ok false d r y e = (refl, e)
-
-guard_true : {A : Type 0} (b : Bool) (d : CodeFault) (r : Result A CodeFault) (y : A) → cond b r (Err d) ≡ Ok y → (b ≡ true) × (r ≡ Ok y)
-guard_true true d r y e = (refl, e)
-guard_true false d r y e = absurd cc
 
 abbrev pub done : {A : Type 0} → A → Result A CodeFault
 done x = Ok x
@@ -165,7 +147,7 @@ operands_read t code (kind ∷ kinds) (o ∷ os) front rest at e (one, others, p
 
 -- ---- opcodes
 
-opcode_again : (o : Opcode) → opcode_of (number_of o) ≡ Some o
+pub opcode_again : (o : Opcode) → opcode_of (number_of o) ≡ Some o
 opcode_again op.Label = refl
 opcode_again _ = refl
 
@@ -286,7 +268,7 @@ instructions_read t code (suc limit) (i ∷ is) body rest at e (front, others, p
 word_told : (code : List ℕ) (at n : ℕ) → word_at code at ≡ Ok n → Between (IsWord n) code at (at + 4)
 unfolding word_at
 word_told code at n e =
-    let g = guard_ok (ltb (length code) (at + 4)) truncated _ n e in
+    let g = guard_false (ltb (length code) (at + 4)) truncated _ n e in
     let long : at + 4 ≤ length code = ltb-false _ _ g.0 in
     let is : big_number 4 (drop at code) ≡ n = ok_is (big_number 4 (drop at code)) n g.1 in
     record {

@@ -1,23 +1,17 @@
 -- The instruction at each position of a chunk, where each start is the byte at which an instruction begins.
-use Rattle.std.proofs.Common.{◌≡◌, ◌≢◌, ℕ, ◌+◌, ◌-◌, ◌<◌, ◌≤◌, Bool, true, false, cond, ltb, List, ◌++◌, length, get_or, take, drop, Ok, refl, sym, ap, subst, ◌∙◌, arith}
-use Rattle.std.specs.Prelude.{Some, map, slice_get, unwrap_or}
-use Rattle.std.proofs.lemmas.Bool.{ltb-true, ltb-false, lt-ltb}
-use Rattle.std.proofs.lemmas.List.{length-append, length-drop, length-map, get_or_past}
+use Rattle.std.proofs.Common.{◌≡◌, ◌≢◌, ℕ, ◌+◌, ◌-◌, ◌<◌, ◌≤◌, Bool, true, false, cond, ltb, List, ◌++◌, length, get_or, take, drop, Ok, refl, sym, ap, subst, ◌∙◌, arith, Some, map, slice_get, unwrap_or, ltb-true, ltb-false, lt-ltb, length-append, length-drop}
+use Rattle.std.proofs.lemmas.List.{length-map, get_or_past}
 use Rattle.std.proofs.Math.ListN.{get_or-map}
 use Rattle.std.proofs.Math.Seq.{take-append_seam}
 use Rattle.std.proofs.lemmas.Option.{unwrap_or-slice_get, get_or_from_slice_get}
+use Rattle.beam_lemmas.proofs.Steps.{bind_ok}
 use Rattle.beam_model.specs.declared.instruction.Operand.{Operand}
 use Rattle.beam_model.specs.declared.instruction.Instruction.{Instruction}
 use Rattle.beam_model.specs.declared.opcode.Opcode.{Opcode}
+use Rattle.beam_model.specs.Prelude.{kinds_of, opcode_of, opcode_in, opcode_at, operands_at, listed_operands, instruction_after_opcode, IsInstruction, end_of_code, Tables}
 use Rattle.beam_model.specs.declared.opcode.Opcode.TheVariants as op
-use Rattle.beam_model.specs.Opcodes.{kinds_of, opcode_of}
-use Rattle.beam_model.specs.CodeChunk.{opcode_in, opcode_at, operands_at, listed_operands, instruction_after_opcode}
-use Rattle.beam_model.specs.CodeForm.{IsInstruction}
-use Rattle.beam_model.specs.Fetch.{end_of_code}
-use Rattle.beam_model.specs.Tables.{Tables}
-use Rattle.beam_code.specs.Bytes.{CodeBytes, standing_at, read_or_end, instructions_in, start_of, end_of, raw_in, Spans, AreStarts}
-use Rattle.beam_code.specs.Operands.{operands_from}
-use Rattle.beam_code.proofs.Codes.{bind_ok, done, ok_is, known_is, opcode_in_is, instruction_told}
+use Rattle.beam_code.specs.Prelude.{CodeBytes, standing_at, read_or_end, instructions_in, start_of, end_of, raw_in, Spans, AreStarts, operands_from}
+use Rattle.beam_code.proofs.Codes.{done, ok_is, known_is, opcode_in_is, instruction_told}
 use Rattle.beam_code.proofs.ReadingLayout.{stands}
 
 -- ---- instructions

@@ -1,33 +1,32 @@
 -- Operands that are read where they stand.
-use Rattle.std.proofs.Common.{◌≡◌, ◌≢◌, ℕ, zero, suc, ◌+◌, ◌-◌, ◌^◌, ◌<◌, ◌≤◌, Bool, true, false, cond, ltb, List, [], ◌∷◌, length, get_or, drop, Option, Some, None, Result, Ok, Err, refl, sym, ap, subst, ◌∙◌, arith}
-use Rattle.std.specs.Prelude.{IsSome, map, option_map, slice_get}
-use Rattle.std.proofs.lemmas.Bool.{ltb-true, ltb-false}
-use Rattle.std.proofs.lemmas.List.{drop_all, length-append, length-drop, length-map}
-use Rattle.beam_term.specs.TermValue.{TermValue, atom_term}
+use Rattle.std.proofs.Common.{◌≡◌, ◌≢◌, ℕ, zero, suc, ◌+◌, ◌-◌, ◌^◌, ◌<◌, ◌≤◌, Bool, true, false, cond, ltb, List, [], ◌∷◌, length, get_or, drop, Option, Some, None, Result, Ok, Err, refl, sym, ap, subst, ◌∙◌, arith, IsSome, map, option_map, slice_get, ltb-true, ltb-false, length-append, length-drop}
+use Rattle.std.proofs.lemmas.List.{drop_all, length-map}
+use Rattle.std.proofs.lemmas.Option.{same_Some}
+use Rattle.beam_lemmas.proofs.Steps.{bind_ok}
 use Rattle.beam_model.specs.declared.compact.CompactTag.{CompactTag}
-use Rattle.beam_model.specs.declared.compact.CompactTag.TheVariants as tag
 use Rattle.beam_model.specs.declared.compact.Compact.{Compact}
-use Rattle.beam_model.specs.declared.compact.Compact.TheVariants as compact
 use Rattle.beam_model.specs.declared.compact.CompactOperand.{CompactOperand}
-use Rattle.beam_model.specs.declared.compact.CompactOperand.TheVariants as compact_operand
 use Rattle.beam_model.specs.declared.function.Import.{Import}
 use Rattle.beam_model.specs.declared.instruction.Argument.{Argument}
-use Rattle.beam_model.specs.declared.instruction.Argument.TheVariants as argument
 use Rattle.beam_model.specs.declared.instruction.Operand.{Operand}
-use Rattle.beam_model.specs.declared.instruction.Operand.TheVariants as operand
 use Rattle.beam_model.specs.declared.opcode.Kind.{Kind}
+use Rattle.beam_model.specs.Prelude.{OperandFault, value_at, compact_tag, atom_or_nil, is_one, number_at, members_at, compact_list_at, extended_of, single_of_tag, single_at, as_operand, operand_of_tag, operand_at, CodeFault, argument_of, argument_of_source, argument_of_member, import_of_index, meaning_of, spelled_at, or_bad_operand, meant_at, operands_at}
+use Rattle.beam_term.specs.Prelude.{TermValue, atom_term}
+use Rattle.beam_model.specs.declared.compact.CompactTag.TheVariants as tag
+use Rattle.beam_model.specs.declared.compact.Compact.TheVariants as compact
+use Rattle.beam_model.specs.declared.compact.CompactOperand.TheVariants as compact_operand
+use Rattle.beam_model.specs.declared.instruction.Argument.TheVariants as argument
+use Rattle.beam_model.specs.declared.instruction.Operand.TheVariants as operand
 use Rattle.beam_model.specs.declared.opcode.Kind.TheVariants as kind
-use Rattle.beam_model.specs.Compact.{OperandFault, ◌>>=◌, value_at, compact_tag, atom_or_nil, is_one, number_at, members_at, compact_list_at, extended_of, single_of_tag, single_at, as_operand, operand_of_tag, operand_at}
-use Rattle.beam_model.specs.CodeChunk.{CodeFault, argument_of, argument_of_source, argument_of_member, import_of_index, meaning_of, spelled_at, or_bad_operand, meant_at, operands_at}
+use Rattle.beam_model.specs.Compact.{◌>>=◌}
 use Rattle.beam_operand.specs.declared.error.OperandError.{OperandError}
 use Rattle.beam_operand.specs.declared.error.OperandError.TheVariants.{NoMemory}
 use Rattle.beam_operand.specs.Faults.{Fails}
 use Rattle.beam_operand.proofs.Fronts.{is_memory}
-use Rattle.beam_operand.proofs.Prefix.{bind_ok as bind_read, ok_is as read_is}
+use Rattle.beam_operand.proofs.Prefix.{ok_is as read_is}
 use Rattle.beam_operand.proofs.Reading.{prefix_single}
-use Rattle.beam_code.specs.Bytes.{CodeBytes}
-use Rattle.beam_code.specs.Operands.{is_argument_next, is_import_next, operands_from, read_or_none, AreRead, meant_in, argument_in, argument_at, index_in, index_at}
-use Rattle.beam_code.proofs.Codes.{bind_ok, done, ok_is, wanted_is, behind_is}
+use Rattle.beam_code.specs.Prelude.{CodeBytes, is_argument_next, is_import_next, operands_from, read_or_none, AreRead, meant_in, argument_in, argument_at, index_in, index_at}
+use Rattle.beam_code.proofs.Codes.{done, ok_is, wanted_is, behind_is}
 
 -- ---- what stands at a byte
 
@@ -159,8 +158,8 @@ one_is (Err f) x rest e = absurd cc
 no_list : (bytes : List ℕ) (x : Compact) (rest : List ℕ) → compact_list_at bytes ≡ Ok (compact_operand.One x, rest) → ⊥
 unfolding compact_list_at
 no_list bytes x rest e =
-    let n = bind_read (number_at bytes) (λ (count : ℕ × List ℕ). members_at count.0 count.1 >>= λ members. Ok (compact_operand.List members.0, members.1)) (compact_operand.One x, rest) e in
-    let m = bind_read (members_at n.0.0 n.0.1) (λ (members : List Compact × List ℕ). Ok (compact_operand.List members.0, members.1)) (compact_operand.One x, rest) n.2 in
+    let n = bind_ok (number_at bytes) (λ (count : ℕ × List ℕ). members_at count.0 count.1 >>= λ members. Ok (compact_operand.List members.0, members.1)) (compact_operand.One x, rest) e in
+    let m = bind_ok (members_at n.0.0 n.0.1) (λ (members : List Compact × List ℕ). Ok (compact_operand.List members.0, members.1)) (compact_operand.One x, rest) n.2 in
     let same : (compact_operand.List m.0.0, m.0.1) ≡ (compact_operand.One x, rest) = read_is {F = OperandFault} (compact_operand.List m.0.0, m.0.1) (compact_operand.One x, rest) m.2 in
     let kinds : compact_operand.List m.0.0 ≡ compact_operand.One x = ap (λ (p : CompactOperand × List ℕ). p.0) same in
     cc (kinds)
@@ -172,7 +171,7 @@ extended_is false bytes r x rest e = one_is r x rest e
 single_is_of : (t : CompactTag) (first : ℕ) (bytes : List ℕ) (x : Compact) (rest : List ℕ) → operand_of_tag t first bytes ≡ Ok (compact_operand.One x, rest) → single_of_tag t first bytes ≡ Ok (x, rest)
 unfolding operand_of_tag single_of_tag
 single_is_of tag.Extended first bytes x rest e =
-    let v = bind_read (value_at first bytes) (λ v. cond (is_one v.0) (compact_list_at v.1) (as_operand (extended_of v.0 v.1))) (compact_operand.One x, rest) e in
+    let v = bind_ok (value_at first bytes) (λ v. cond (is_one v.0) (compact_list_at v.1) (as_operand (extended_of v.0 v.1))) (compact_operand.One x, rest) e in
     let value = v.1 in
     rw value (extended_is (is_one v.0.0) v.0.1 (extended_of v.0.0 v.0.1) x rest v.2)
 single_is_of tag.Number first bytes x rest e = one_is (single_of_tag tag.Number first bytes) x rest e
@@ -394,17 +393,14 @@ import_next c (k ∷ kinds) at h read =
     by_first (kind.Native n) ks g = refl
     by_first _ ks g = absurd cc
 
-some_is : {A : Type 0} (x y : A) → Some x ≡ Some y → x ≡ y
-some_is x y e = cc
-
 pub argument_follows : (c : CodeBytes) (kinds : List Kind) (at : ℕ) → is_argument_next kinds ≡ true → AreRead c kinds at → (a : Argument) (next : ℕ) → argument_at c at ≡ Some (a, next)
     → Follows c kinds at (operand.One a) next
 argument_follows c kinds at h read a next e =
     let n = argument_next c kinds at h read in
-    subst (λ (p : Argument × ℕ). Follows c kinds at (operand.One p.0) p.1) (some_is (n.0, n.1) (a, next) (sym n.2 ∙ e)) n.3
+    subst (λ (p : Argument × ℕ). Follows c kinds at (operand.One p.0) p.1) (same_Some (n.0, n.1) (a, next) (sym n.2 ∙ e)) n.3
 
 pub import_follows : (c : CodeBytes) (kinds : List Kind) (at : ℕ) → is_import_next kinds ≡ true → AreRead c kinds at → (n next : ℕ) → index_at c at ≡ Some (n, next)
     → (i : Import) × (slice_get c.tables.imports n ≡ Some i) × Follows c kinds at (operand.Import i) next
 import_follows c kinds at h read n next e =
     let m = import_next c kinds at h read in
-    subst (λ (p : ℕ × ℕ). (i : Import) × (slice_get c.tables.imports p.0 ≡ Some i) × Follows c kinds at (operand.Import i) p.1) (some_is (m.0, m.2) (n, next) (sym m.4 ∙ e)) (m.1, m.3, m.5)
+    subst (λ (p : ℕ × ℕ). (i : Import) × (slice_get c.tables.imports p.0 ≡ Some i) × Follows c kinds at (operand.Import i) p.1) (same_Some (m.0, m.2) (n, next) (sym m.4 ∙ e)) (m.1, m.3, m.5)

@@ -1,7 +1,6 @@
 -- Reading members, operands and instructions one after the other, as loops do.
-use Rattle.std.proofs.Common.{◌≡◌, ℕ, suc, ◌+◌, ◌-◌, ◌<◌, ◌≤◌, Bool, true, false, cond, List, [], ◌∷◌, ◌++◌, length, get_or, drop, Option, Some, None, Result, Ok, Err, refl, sym, ap, ◌∙◌, append_assoc, arith}
-use Rattle.std.proofs.lemmas.List.{append-nil, length-append, drop_more, drop_all}
-use Rattle.std.specs.Prelude.{option_map}
+use Rattle.std.proofs.Common.{◌≡◌, ℕ, suc, ◌+◌, ◌-◌, ◌<◌, ◌≤◌, Bool, true, false, cond, List, [], ◌∷◌, ◌++◌, length, get_or, drop, Option, Some, None, Result, Ok, Err, refl, sym, ap, ◌∙◌, append_assoc, arith, append-nil, length-append, option_map}
+use Rattle.std.proofs.lemmas.List.{drop_more, drop_all}
 use Rattle.beam_model.specs.declared.compact.Compact.{Compact}
 use Rattle.beam_model.specs.declared.function.Import.{Import}
 use Rattle.beam_model.specs.declared.instruction.Argument.{Argument}
@@ -9,13 +8,13 @@ use Rattle.beam_model.specs.declared.instruction.Operand.{Operand}
 use Rattle.beam_model.specs.declared.instruction.Instruction.{Instruction}
 use Rattle.beam_model.specs.declared.opcode.Opcode.{Opcode}
 use Rattle.beam_model.specs.declared.opcode.Kind.{Kind}
+use Rattle.beam_model.specs.Prelude.{CodeFault, in_front, argument_of_member, members_of, meant_at, operands_at, opcode_at, instruction_after_opcode, instructions_at}
 use Rattle.beam_model.specs.Compact.{◌>>=◌}
-use Rattle.beam_term.specs.TermValue.{TermValue}
-use Rattle.beam_model.specs.CodeChunk.{CodeFault, in_front, argument_of_member, members_of, meant_at, operands_at, opcode_at, is_end, instruction_after_opcode, instructions_at}
+use Rattle.beam_term.specs.Prelude.{TermValue}
+use Rattle.beam_model.specs.CodeChunk.{is_end}
 use Rattle.beam_code.specs.declared.error.CodeError.{CodeError}
 use Rattle.beam_code.specs.declared.error.CodeError.TheVariants.{UnsupportedOpcode, BadOperand, Truncated, NoMemory}
-use Rattle.beam_code.specs.Faults.{Fails}
-use Rattle.beam_code.specs.Shared.{put_last}
+use Rattle.beam_code.specs.Prelude.{Fails, put_last}
 
 -- ---- members of a list
 

@@ -1,43 +1,27 @@
 -- An operand that is spelled with the numbers of its atoms, imports and literals means itself.
-use Rattle.std.proofs.Common.{◌≡◌, ℕ, suc, ◌+◌, ◌^◌, ◌<◌, Bool, true, false, cond, ltb, List, [], ◌∷◌, get_or, Option, Some, None, Result, Ok, Err, refl, sym, ap, subst, ◌∙◌, arith, add-one}
-use Rattle.std.specs.Prelude.{◌&&◌, slice_get, position, option_map, option_and_then}
+use Rattle.std.proofs.Common.{◌≡◌, ℕ, suc, ◌+◌, ◌^◌, ◌<◌, Bool, true, false, cond, ltb, List, [], ◌∷◌, get_or, Option, Some, None, Result, Ok, Err, refl, sym, ap, subst, ◌∙◌, arith, add-one, slice_get, position, option_map, ltb-true, eqb-true}
 use Rattle.std.specs.Result.{result_ok}
-use Rattle.std.proofs.lemmas.Bool.{ltb-true, eqb-true}
 use Rattle.std.proofs.lemmas.List.Quantifiers.{position-Some}
 use Rattle.std.proofs.lemmas.Option.{slice_get-get_or}
-use Rattle.std.proofs.lemmas.Slice.Eq.{bytes_eq-Decides}
-use Rattle.beam_term.specs.TermValue.{TermValue, int_term, atom_term, reference_term, pid_term, nil_term, pair_term, tuple_term}
-use Rattle.beam_term.specs.Order.{term_eq}
-use Rattle.beam_term.specs.OrderLaws.{term_eq_decides}
+use Rattle.std.proofs.lemmas.Bool.{and_parts}
+use Rattle.beam_lemmas.proofs.SameText.{text_is}
+use Rattle.beam_lemmas.proofs.Options.{chained, mapped}
 use Rattle.beam_model.specs.declared.compact.Compact.{Compact}
-use Rattle.beam_model.specs.declared.compact.Compact.TheVariants as compact
 use Rattle.beam_model.specs.declared.compact.CompactOperand.{CompactOperand}
-use Rattle.beam_model.specs.declared.compact.CompactOperand.TheVariants as compact_operand
 use Rattle.beam_model.specs.declared.function.Import.{Import}
 use Rattle.beam_model.specs.declared.instruction.Argument.{Argument}
-use Rattle.beam_model.specs.declared.instruction.Argument.TheVariants as argument
 use Rattle.beam_model.specs.declared.instruction.Operand.{Operand}
-use Rattle.beam_model.specs.declared.instruction.Operand.TheVariants as operand
 use Rattle.beam_model.specs.declared.opcode.Kind.{Kind}
+use Rattle.beam_model.specs.Prelude.{same_text, OperandFault, spelling, HasNumbers, HaveNumbers, HasOperandNumbers, argument_of_atom, argument_of_source, argument_of, argument_of_member, members_of, meaning_of, is_number_operand, is_arity, is_frame_size, is_label_operand, is_atom_operand, is_source_operand, is_register_operand, is_within, Numbering, same_import, word, atom_index, import_index, literal_index, compact_term, compact_argument, compact_before, compact_arguments, compact_of, operand_bytes}
+use Rattle.beam_term.specs.Prelude.{TermValue, int_term, atom_term, reference_term, pid_term, nil_term, pair_term, tuple_term, term_eq, term_eq_decides}
+use Rattle.beam_model.specs.declared.compact.Compact.TheVariants as compact
+use Rattle.beam_model.specs.declared.compact.CompactOperand.TheVariants as compact_operand
+use Rattle.beam_model.specs.declared.instruction.Argument.TheVariants as argument
+use Rattle.beam_model.specs.declared.instruction.Operand.TheVariants as operand
 use Rattle.beam_model.specs.declared.opcode.Kind.TheVariants as kind
-use Rattle.beam_model.specs.SameText.{same_text}
-use Rattle.beam_model.specs.Compact.{OperandFault, spelling, HasNumbers, HaveNumbers, HasOperandNumbers}
-use Rattle.beam_model.specs.CodeChunk.{argument_of_atom, argument_of_source, argument_of, argument_of_member, members_of, meaning_of}
-use Rattle.beam_model.specs.Loadable.{is_number_operand, is_arity, is_frame_size, is_label_operand, is_atom_operand, is_source_operand, is_register_operand, is_within}
-use Rattle.beam_model.specs.Assembly.{Numbering, same_import, word, atom_index, import_index, literal_index, compact_term, compact_argument, compact_before, compact_arguments, compact_of, operand_bytes}
 
 abbrev some : {A : Type 0} → A → Option A
 some x = Some x
-
--- ---- options
-
-pub mapped : {A B : Type 0} (f : A → B) (o : Option A) (y : B) → option_map f o ≡ Some y → (x : A) × (o ≡ Some x) × (f x ≡ y)
-mapped f (Some x) y e = (x, refl, cc)
-mapped f None y e = absurd cc
-
-pub chained : {A B : Type 0} (f : A → Option B) (o : Option A) (y : B) → option_and_then f o ≡ Some y → (x : A) × (o ≡ Some x) × (f x ≡ Some y)
-chained f (Some x) y e = (x, refl, e)
-chained f None y e = absurd cc
 
 -- ---- numbers
 
@@ -61,19 +45,12 @@ placed same decides xs x place e =
     let q = position-Some (same x) xs place x e in
     slice_get-get_or xs place x q.0 ∙ ap (λ y. some y) (sym (decides x (get_or xs place x) q.1))
 
-text_decides : (s t : List ℕ) → same_text s t ≡ true → s ≡ t
-text_decides s t e = (bytes_eq-Decides s t).0 e
-
-split_and : (a b : Bool) → (a && b) ≡ true → (a ≡ true) × (b ≡ true)
-split_and true b e = (refl, e)
-split_and false b e = absurd cc
-
 import_decides : (i j : Import) → same_import i j ≡ true → i ≡ j
 import_decides i j e =
-    let s = split_and (same_text i.«module» j.«module») _ e in
-    let f = split_and (same_text i.function j.function) _ s.1 in
-    let m = text_decides i.«module» j.«module» s.0 in
-    let n = text_decides i.function j.function f.0 in
+    let s = and_parts (same_text i.«module» j.«module») _ e in
+    let f = and_parts (same_text i.function j.function) _ s.1 in
+    let m = text_is i.«module» j.«module» s.0 in
+    let n = text_is i.function j.function f.0 in
     let a = eqb-true i.arity j.arity f.1 in
     λ k. record { «module» = m k; function = n k; arity = a k }
 
@@ -82,7 +59,7 @@ atom_again n text index e =
     let p = chained (λ place. word (place + 1)) (position (same_text text) n.atoms) index e in
     let w = word_is (p.0 + 1) index p.2 in
     let next : suc p.0 ≡ index = sym (add-one p.0) ∙ w.0 in
-    let there : slice_get n.atoms p.0 ≡ Some text = placed same_text text_decides n.atoms text p.0 p.1 in
+    let there : slice_get n.atoms p.0 ≡ Some text = placed same_text text_is n.atoms text p.0 p.1 in
     let at : argument_of_atom n.atoms (suc p.0) ≡ Some (argument.Term (atom_term text)) = ap (option_map (λ t. argument.Term (atom_term t))) there in
     (ap (argument_of_atom n.atoms) (sym next) ∙ at, w.1)
 

@@ -1,12 +1,9 @@
 -- From the answer of a reading to the instructions that a Code chunk spells.
-use Rattle.std.proofs.Common.{◌≡◌, ℕ, List, Result, Ok, Err, refl, sym, subst, ◌∙◌}
-use Rattle.std.specs.Prelude.{IfOk, MatchResult}
-use Rattle.beam_model.specs.Tables.{Tables}
-use Rattle.beam_model.specs.CodeChunk.{CodeParts, CodeFault, code_of}
-use Rattle.beam_model.specs.CodeForm.{IsCode}
+use Rattle.std.proofs.Common.{◌≡◌, ℕ, List, Result, Ok, Err, refl, sym, subst, ◌∙◌, IfOk, MatchResult}
+use Rattle.beam_model.specs.Prelude.{Tables, CodeParts, CodeFault, code_of, IsCode}
 use Rattle.beam_code.specs.declared.error.CodeError.{CodeError}
 use Rattle.beam_code.specs.declared.error.CodeError.TheVariants.{UnsupportedOpcode, BadOperand, Truncated, NoMemory}
-use Rattle.beam_code.specs.Faults.{Fails, Gives}
+use Rattle.beam_code.specs.Prelude.{Fails, Gives}
 use Rattle.beam_code.proofs.Codes.{ok_is, code_told, code_read}
 
 -- a reading that has a result has no fault, so an error is NoMemory

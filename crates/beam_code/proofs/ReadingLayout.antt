@@ -1,15 +1,13 @@
 -- Reading instructions and where they stand, as the loop does.
-use Rattle.std.proofs.Common.{◌≡◌, ℕ, zero, suc, ◌+◌, ◌<◌, ◌≤◌, true, false, List, [], ◌∷◌, ◌++◌, length, get_or, drop, Ok, inl, inr, refl, sym, ap, ◌∙◌, arith}
-use Rattle.std.specs.Prelude.{◌⊎◌, map, nat_eq}
+use Rattle.std.proofs.Common.{◌≡◌, ℕ, zero, suc, ◌+◌, ◌<◌, ◌≤◌, true, false, List, [], ◌∷◌, ◌++◌, length, get_or, drop, Ok, inl, inr, refl, sym, ap, ◌∙◌, arith, ◌⊎◌, map, nat_eq, length-append}
 use Rattle.std.specs.Map.{lookup}
-use Rattle.std.proofs.lemmas.List.{length-append, length-map, map-append, get_or_push, get_or_past}
+use Rattle.std.proofs.lemmas.List.{length-map, map-append, get_or_push, get_or_past}
 use Rattle.beam_model.specs.declared.instruction.Instruction.{Instruction}
 use Rattle.beam_model.specs.declared.opcode.Opcode.{Opcode}
-use Rattle.beam_model.specs.CodeChunk.{opcode_at, is_end, instruction_after_opcode}
-use Rattle.beam_model.specs.Tables.{Tables}
+use Rattle.beam_model.specs.Prelude.{opcode_at, instruction_after_opcode, Tables}
+use Rattle.beam_model.specs.CodeChunk.{is_end}
 use Rattle.beam_code.specs.declared.instruction.ChunkLayout.{ChunkLayout}
-use Rattle.beam_code.specs.Bytes.{standing_at, read_or_end, instructions_in, byte_after, AreAscending, Spans}
-use Rattle.beam_code.specs.ChunkLayout.{HasLayout}
+use Rattle.beam_code.specs.Prelude.{standing_at, read_or_end, instructions_in, byte_after, AreAscending, Spans, HasLayout}
 use Rattle.beam_code.proofs.Codes.{end_is}
 
 -- ---- one more at the end

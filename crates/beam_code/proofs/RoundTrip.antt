@@ -1,24 +1,21 @@
 -- A Code chunk that was written is read again.
-use Rattle.std.proofs.Common.{◌≡◌, ℕ, zero, suc, ◌+◌, ◌-◌, ◌*◌, ◌<◌, ◌≤◌, Bool, true, false, ltb, eqb, List, [], ◌∷◌, ◌++◌, length, drop, Option, Some, None, Result, Ok, refl, sym, ap, subst, ◌∙◌, append_assoc, arith, length-append}
-use Rattle.std.specs.Prelude.{◌&&◌, slice_get, option_map, map}
-use Rattle.std.specs.List.{All, list_all, zip}
-use Rattle.std.proofs.lemmas.Bool.{le-ltb, eqb-true}
-use Rattle.std.proofs.lemmas.List.{drop_at, drop-drop}
+use Rattle.std.proofs.Common.{◌≡◌, ℕ, zero, suc, ◌+◌, ◌-◌, ◌*◌, ◌<◌, ◌≤◌, true, false, ltb, eqb, List, [], ◌∷◌, ◌++◌, length, drop, Option, Some, None, Result, Ok, refl, sym, ap, subst, ◌∙◌, append_assoc, arith, length-append, slice_get, option_map, map, le-ltb, eqb-true, drop_at, drop-drop}
+use Rattle.std.specs.List.{list_all, All, zip}
 use Rattle.std.proofs.lemmas.List.Elements.{All-head, All-tail}
+use Rattle.std.proofs.lemmas.Bool.{and_parts}
+use Rattle.beam_lemmas.proofs.Options.{mapped}
 use Rattle.byteorder.specs.Endian.{big_number, big_bytes}
 use Rattle.byteorder.specs.Numbers.{big_number-reads_back}
 use Rattle.beam_model.specs.declared.instruction.Operand.{Operand}
 use Rattle.beam_model.specs.declared.instruction.Instruction.{Instruction}
 use Rattle.beam_model.specs.declared.opcode.Kind.{Kind}
 use Rattle.beam_model.specs.declared.opcode.Opcode.{Opcode}
+use Rattle.beam_model.specs.Prelude.{number_of, kinds_of, operand_at, CodeParts, CodeFault, spelled_at, meant_at, operands_at, or_unsupported_opcode, opcode_in, opcode_at, listed_operands, instruction_after_opcode, instructions_at, word_at, expected_at, code_of, all_operands, is_within, Numbering, both, operand_bytes, operands_bytes, instruction_bytes, instructions_bytes, greatest_opcode, word, words_bytes, code_bytes, without_line_number}
 use Rattle.beam_model.specs.declared.opcode.Opcode.TheVariants as op
-use Rattle.beam_model.specs.Opcodes.{number_of, kinds_of, opcode_of}
-use Rattle.beam_model.specs.Compact.{operand_at}
-use Rattle.beam_model.specs.CodeChunk.{CodeParts, CodeFault, spelled_at, meant_at, operands_at, or_unsupported_opcode, opcode_in, opcode_at, is_end, listed_operands, instruction_after_opcode, instructions_at, word_at, expected_at, code_of}
-use Rattle.beam_model.specs.Loadable.{all_operands, is_within}
-use Rattle.beam_model.specs.Assembly.{Numbering, both, operand_bytes, operands_bytes, instruction_bytes, instructions_bytes, greatest_opcode, word, words_bytes, code_bytes, without_line_number}
+use Rattle.beam_model.specs.CodeChunk.{is_end}
 use Rattle.beam_operand.proofs.RoundTrip.{operand_again}
-use Rattle.beam_code.proofs.Meaning.{mapped, word_is, operand_spelled}
+use Rattle.beam_code.proofs.Meaning.{word_is, operand_spelled}
+use Rattle.beam_code.proofs.Codes.{opcode_again}
 
 -- these bytes stand in the code from a position to the end
 record Stands (code : List ℕ) (at : ℕ) (bytes : List ℕ) : Type 0 where
@@ -69,21 +66,17 @@ AllWithin [] (o ∷ os) = ⊥
 AllWithin (k ∷ ks) [] = ⊥
 AllWithin (k ∷ ks) (o ∷ os) = (is_within k o ≡ true) × AllWithin ks os
 
-split_and : (a b : Bool) → (a && b) ≡ true → (a ≡ true) × (b ≡ true)
-split_and true b e = (refl, e)
-split_and false b e = absurd cc
-
 within_all : (ks : List Kind) (os : List Operand) → length ks ≡ length os → list_all (λ p. is_within p.0 p.1) (zip ks os) ≡ true → AllWithin ks os
 within_all [] [] same e = tt
 within_all [] (o ∷ os) same e = absurd (omega arith)
 within_all (k ∷ ks) [] same e = absurd (omega arith)
 within_all (k ∷ ks) (o ∷ os) same e =
-    let s = split_and (is_within k o) (list_all (λ p. is_within p.0 p.1) (zip ks os)) e in
+    let s = and_parts (is_within k o) (list_all (λ p. is_within p.0 p.1) (zip ks os)) e in
     (s.0, within_all ks os (omega arith) s.1)
 
 all_within : (ks : List Kind) (os : List Operand) → all_operands is_within ks os ≡ true → AllWithin ks os
 all_within ks os e =
-    let s = split_and (eqb (length ks) (length os)) (list_all (λ p. is_within p.0 p.1) (zip ks os)) e in
+    let s = and_parts (eqb (length ks) (length os)) (list_all (λ p. is_within p.0 p.1) (zip ks os)) e in
     within_all ks os (eqb-true _ _ s.0) s.1
 
 operands_there : (n : Numbering) (ks : List Kind) (os : List Operand) (bytes rest code : List ℕ) (at : ℕ) → AllWithin ks os → operands_bytes n os ≡ Some bytes → Stands code at (bytes ++ rest)
@@ -113,13 +106,9 @@ listed_within : (o : Opcode) (os : List Operand) → AllWithin (kinds_of o) os �
 listed_within op.Line os w = (refl, tt)
 listed_within _ os w = w
 
-listed_once : (o : Opcode) (os : List Operand) → listed_operands o (listed_operands o os) ≡ listed_operands o os
+pub listed_once : (o : Opcode) (os : List Operand) → listed_operands o (listed_operands o os) ≡ listed_operands o os
 listed_once op.Line os = refl
 listed_once _ os = refl
-
-opcode_again : (o : Opcode) → opcode_of (number_of o) ≡ Some o
-opcode_again op.Label = refl
-opcode_again _ = refl
 
 opcode_there : (o : Opcode) (bytes code : List ℕ) (at : ℕ) → Stands code at (number_of o ∷ bytes) → opcode_at code at ≡ Ok o
 unfolding opcode_at

@@ -1,23 +1,18 @@
 -- Instructions whose operands are read into a list that they share.
-use Rattle.std.proofs.Common.{◌≡◌, ℕ, ◌+◌, ◌≤◌, List, [], ◌∷◌, ◌++◌, length, take, drop, Result, Ok, Err, refl, sym, ap, ap₂, subst, ◌∙◌, arith}
-use Rattle.std.proofs.lemmas.List.{length-append, length-drop, take-append-drop, take-append-le, drop-append-le, take_at, drop_at, take_all, map_push}
-use Rattle.std.proofs.lemmas.List.Elements.{All-head, All-tail, All-push, All-weaker}
-use Rattle.std.specs.Prelude.{map}
+use Rattle.std.proofs.Common.{◌≡◌, ℕ, ◌+◌, ◌≤◌, List, [], ◌∷◌, ◌++◌, length, take, drop, Result, Ok, Err, refl, sym, ap, ap₂, subst, ◌∙◌, arith, length-append, length-drop, take-append-drop, take_at, drop_at, take_all, map}
 use Rattle.std.specs.List.{All}
-use Rattle.beam_term.specs.TermValue.{TermValue}
+use Rattle.std.proofs.lemmas.List.{take-append-le, drop-append-le, map_push}
+use Rattle.std.proofs.lemmas.List.Elements.{All-head, All-tail, All-push, All-weaker}
 use Rattle.beam_model.specs.declared.function.Import.{Import}
 use Rattle.beam_model.specs.declared.instruction.Operand.{Operand}
 use Rattle.beam_model.specs.declared.instruction.Instruction.{Instruction}
 use Rattle.beam_model.specs.declared.opcode.Opcode.{Opcode}
-use Rattle.beam_model.specs.CodeChunk.{CodeFault, operands_at, opcode_at, listed_operands, instruction_after_opcode}
-use Rattle.beam_model.specs.Tables.{Tables}
-use Rattle.beam_model.specs.Opcodes.{kinds_of}
+use Rattle.beam_model.specs.Prelude.{CodeFault, operands_at, opcode_at, listed_operands, instruction_after_opcode, Tables, kinds_of}
+use Rattle.beam_term.specs.Prelude.{TermValue}
 use Rattle.beam_code.specs.declared.error.CodeError.{CodeError}
 use Rattle.beam_code.specs.declared.error.CodeError.TheVariants.{UnsupportedOpcode, BadOperand, Truncated, NoMemory}
 use Rattle.beam_code.specs.declared.instruction.InstructionSpan.{InstructionSpan}
-use Rattle.beam_code.specs.Faults.{Fails}
-use Rattle.beam_code.specs.Bytes.{standing_at}
-use Rattle.beam_code.specs.Shared.{put_last, made_of, IsWithin, IsPut}
+use Rattle.beam_code.specs.Prelude.{Fails, standing_at, put_last, made_of, IsWithin, IsPut}
 use Rattle.beam_code.proofs.Codes.{ok_is}
 
 abbrev pub instruction_of : Opcode → List Operand → Instruction

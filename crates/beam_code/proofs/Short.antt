@@ -1,18 +1,14 @@
 -- Operands that are spelled in one byte or two, and registers with types, which are spelled in three.
-use Rattle.std.proofs.Common.{◌≡◌, ℕ, ◌+◌, ◌-◌, ◌*◌, ◌/◌, ◌%◌, ◌^◌, ◌<◌, ◌≤◌, pos, true, false, ltb, eqb, List, [], ◌∷◌, length, drop, Some, Ok, Err, refl, sym, ap, ◌∙◌, arith}
-use Rattle.std.specs.Prelude.{IsSome, is_some, option_map, slice_index_or}
-use Rattle.std.proofs.lemmas.Bool.{lt-ltb, eq-eqb, le-ltb}
-use Rattle.std.proofs.lemmas.List.{length-drop}
+use Rattle.std.proofs.Common.{◌≡◌, ℕ, ◌+◌, ◌-◌, ◌*◌, ◌/◌, ◌%◌, ◌^◌, ◌<◌, ◌≤◌, pos, true, false, ltb, eqb, List, [], ◌∷◌, length, drop, Some, Ok, Err, refl, sym, ap, ◌∙◌, arith, IsSome, is_some, option_map, slice_index_or, lt-ltb, eq-eqb, le-ltb, length-drop}
 use Rattle.beam_model.specs.declared.compact.CompactTag.{CompactTag}
-use Rattle.beam_model.specs.declared.compact.CompactTag.TheVariants as tag
 use Rattle.beam_model.specs.declared.compact.Compact.{Compact}
 use Rattle.beam_model.specs.declared.compact.Compact.TheVariants.{Number, Integer, X, Y, Label}
+use Rattle.beam_model.specs.Prelude.{tag_number, unsupported_operand, value_at, number_at, atom_or_nil, register_of_tag, register_at, extended_of, single_of_tag, single_at}
+use Rattle.beam_model.specs.declared.compact.CompactTag.TheVariants as tag
 use Rattle.beam_model.specs.declared.instruction.Argument.TheVariants as argument
-use Rattle.beam_model.specs.Compact.{tag_number, unsupported_operand, value_at, number_at, atom_or_nil, register_of_tag, register_at, extended_of, single_of_tag, single_at}
 use Rattle.beam_operand.proofs.RoundTrip.{tag_is, natural_again, number_read, integer_read, atom_read, x_read, y_read, label_read}
-use Rattle.beam_code.specs.Bytes.{CodeBytes}
+use Rattle.beam_code.specs.Prelude.{CodeBytes, meant_in, argument_in, argument_at, index_in, index_at, IsFront}
 use Rattle.beam_code.proofs.Lent.{some_mapped, lendable}
-use Rattle.beam_code.specs.Operands.{meant_in, argument_in, argument_at, index_in, index_at, IsFront}
 
 -- what such a byte spells, by its tag and its high half
 abbrev pub short_of : CompactTag → ℕ → Compact

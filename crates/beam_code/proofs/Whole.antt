@@ -1,23 +1,21 @@
 -- An operand that one byte spells as a whole is read as the byte says.
-use Rattle.std.proofs.Common.{◌≡◌, ◌⊎◌, inl, inr, ℕ, ◌+◌, ◌/◌, ◌%◌, ◌<◌, pos, Bool, true, false, cond, eqb, List, ◌∷◌, length, get_or, drop, Option, Some, None, Ok, refl, sym, ap, ◌∙◌, arith}
-use Rattle.std.proofs.lemmas.Bool.{eqb-true}
+use Rattle.std.proofs.Common.{◌≡◌, ◌⊎◌, inl, inr, ℕ, ◌+◌, ◌/◌, ◌%◌, ◌<◌, pos, Bool, true, false, cond, eqb, List, ◌∷◌, length, get_or, drop, Option, Some, None, Ok, refl, sym, ap, ◌∙◌, arith, eqb-true}
 use Rattle.std.proofs.lemmas.List.{drop_more}
-use Rattle.beam_term.specs.TermValue.{TermValue, int_term}
 use Rattle.beam_model.specs.declared.compact.CompactTag.{CompactTag}
-use Rattle.beam_model.specs.declared.compact.CompactTag.TheVariants as tag
 use Rattle.beam_model.specs.declared.compact.Compact.{Compact}
-use Rattle.beam_model.specs.declared.compact.CompactOperand.TheVariants as compact_operand
 use Rattle.beam_model.specs.declared.function.Import.{Import}
 use Rattle.beam_model.specs.declared.instruction.Argument.{Argument}
-use Rattle.beam_model.specs.declared.instruction.Argument.TheVariants as argument
 use Rattle.beam_model.specs.declared.instruction.Operand.{Operand}
-use Rattle.beam_model.specs.declared.instruction.Operand.TheVariants as operand
 use Rattle.beam_model.specs.declared.opcode.Kind.{Kind}
+use Rattle.beam_model.specs.Prelude.{tag_number, as_operand, single_of_tag, operand_of_tag, operand_at, meaning_of, position_after, spelled_at, meant_at}
+use Rattle.beam_term.specs.Prelude.{TermValue, int_term}
+use Rattle.beam_model.specs.declared.compact.CompactTag.TheVariants as tag
+use Rattle.beam_model.specs.declared.compact.CompactOperand.TheVariants as compact_operand
+use Rattle.beam_model.specs.declared.instruction.Argument.TheVariants as argument
+use Rattle.beam_model.specs.declared.instruction.Operand.TheVariants as operand
 use Rattle.beam_model.specs.declared.opcode.Kind.TheVariants as kind
-use Rattle.beam_model.specs.Compact.{tag_number, as_operand, single_of_tag, operand_of_tag, operand_at}
-use Rattle.beam_model.specs.CodeChunk.{meaning_of, position_after, spelled_at, meant_at}
 use Rattle.beam_operand.proofs.RoundTrip.{tag_is}
-use Rattle.beam_code.specs.Whole.{number_of_byte, register_of_byte, label_of_byte, argument_of_byte}
+use Rattle.beam_code.specs.Prelude.{number_of_byte, register_of_byte, label_of_byte, argument_of_byte}
 use Rattle.beam_code.proofs.Short.{IsShort, short_of, low_tag, short_value, read_as, next_is}
 
 pub one_read : (k : CompactTag) → tag_number k < 6 → (first : ℕ) (bytes rest : List ℕ) (x : Compact) → single_of_tag k first bytes ≡ Ok (x, rest) → operand_of_tag k first bytes ≡ Ok (compact_operand.One x, rest)

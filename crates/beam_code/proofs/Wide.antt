@@ -1,24 +1,21 @@
 -- Imports of one byte, and numbers and labels of two or three bytes, are read as the bytes say.
-use Rattle.std.proofs.Common.{◌≡◌, inl, inr, ℕ, zero, suc, ◌+◌, ◌-◌, ◌*◌, ◌/◌, ◌%◌, ◌^◌, ◌<◌, ◌≤◌, pos, true, false, cond, ltb, eqb, List, [], ◌∷◌, length, get_or, take, drop, Option, Some, None, Ok, refl, sym, ap, subst, ◌∙◌, arith}
-use Rattle.std.specs.Prelude.{slice_get, option_map}
-use Rattle.std.proofs.lemmas.Bool.{eqb-true, ltb-true, lt-ltb, le-ltb}
-use Rattle.std.proofs.lemmas.List.{length-drop, take_rest}
+use Rattle.std.proofs.Common.{◌≡◌, inl, inr, ℕ, zero, suc, ◌+◌, ◌-◌, ◌*◌, ◌/◌, ◌%◌, ◌^◌, ◌<◌, ◌≤◌, pos, true, false, cond, ltb, eqb, List, [], ◌∷◌, length, get_or, take, drop, Option, Some, None, Ok, refl, sym, ap, subst, ◌∙◌, arith, slice_get, option_map, eqb-true, ltb-true, lt-ltb, le-ltb, length-drop}
+use Rattle.std.proofs.lemmas.List.{take_rest}
+use Rattle.beam_lemmas.proofs.Tests.{chosen}
 use Rattle.byteorder.specs.Endian.{big_number}
-use Rattle.beam_term.specs.TermValue.{TermValue}
 use Rattle.beam_model.specs.declared.compact.CompactTag.{CompactTag}
-use Rattle.beam_model.specs.declared.compact.CompactTag.TheVariants as tag
-use Rattle.beam_model.specs.declared.compact.CompactOperand.TheVariants as compact_operand
 use Rattle.beam_model.specs.declared.function.Import.{Import}
 use Rattle.beam_model.specs.declared.instruction.Argument.{Argument}
+use Rattle.beam_model.specs.declared.opcode.Kind.{Kind}
+use Rattle.beam_model.specs.Prelude.{tag_number, value_at, operand_of_tag, operand_at, meaning_of, position_after, spelled_at, meant_at}
+use Rattle.beam_term.specs.Prelude.{TermValue}
+use Rattle.beam_model.specs.declared.compact.CompactTag.TheVariants as tag
+use Rattle.beam_model.specs.declared.compact.CompactOperand.TheVariants as compact_operand
 use Rattle.beam_model.specs.declared.instruction.Argument.TheVariants as argument
 use Rattle.beam_model.specs.declared.instruction.Operand.TheVariants as operand
-use Rattle.beam_model.specs.declared.opcode.Kind.{Kind}
 use Rattle.beam_model.specs.declared.opcode.Kind.TheVariants as kind
-use Rattle.beam_model.specs.Compact.{tag_number, value_at, operand_of_tag, operand_at}
-use Rattle.beam_model.specs.CodeChunk.{meaning_of, position_after, spelled_at, meant_at}
 use Rattle.beam_operand.proofs.RoundTrip.{tag_is}
-use Rattle.beam_operand.proofs.Small.{chosen}
-use Rattle.beam_code.specs.Whole.{numbered_import, import_of_byte, number_in_two, number_in_three, wide_number, two_or_three, argument_of_bytes}
+use Rattle.beam_code.specs.Prelude.{numbered_import, import_of_byte, number_in_two, number_in_three, wide_number, two_or_three, argument_of_bytes}
 use Rattle.beam_code.proofs.Short.{short_of, wide_value, read_as}
 use Rattle.beam_code.proofs.Whole.{IsByte, one_read, short_here, whole_meant}
 

@@ -1,16 +1,12 @@
 -- Writing one after the other, as loops do.
-use Rattle.std.proofs.Common.{◌≡◌, ℕ, List, [], ◌∷◌, ◌++◌, refl, sym, ap, ◌∙◌, append_assoc}
-use Rattle.std.specs.Prelude.{Option, Some, None, option_map}
+use Rattle.std.proofs.Common.{◌≡◌, ℕ, List, [], ◌∷◌, ◌++◌, refl, sym, ap, ◌∙◌, append_assoc, Option, Some, None, option_map, append-nil, Result, Ok, Err}
 use Rattle.std.specs.Result.{result_ok}
-use Rattle.std.proofs.lemmas.List.{append-nil}
-use Rattle.std.specs.Prelude.{Result, Ok, Err}
 use Rattle.beam_model.specs.declared.compact.Compact.{Compact}
-use Rattle.beam_model.specs.Assembly.{both, compact_before}
-use Rattle.beam_model.specs.Compact.{OperandFault}
+use Rattle.beam_model.specs.Prelude.{both, compact_before, OperandFault}
 use Rattle.beam_operand.specs.Faults.{Appends}
 use Rattle.beam_code.specs.declared.error.CodeError.{CodeError}
 use Rattle.beam_code.specs.declared.error.CodeError.TheVariants.{UnsupportedOpcode, BadOperand, Truncated, NoMemory}
-use Rattle.beam_code.specs.Writing.{with_before, Refuses}
+use Rattle.beam_code.specs.Prelude.{with_before, Refuses}
 
 abbrev some : {A : Type 0} → A → Option A
 some x = Some x

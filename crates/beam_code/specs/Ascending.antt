@@ -1,7 +1,7 @@
 -- Labels that stand in the order of their numbers.
 use Rattle.std.specs.Prelude.{ℕ, ◌+◌, nat_lt, if◌then◌else◌, List, [], ◌∷◌, Option, Some, None, option_map}
 use Rattle.beam_model.specs.declared.instruction.Instruction.{Instruction}
-use Rattle.beam_model.specs.Listing.{label_of}
+use Rattle.beam_model.specs.Prelude.{label_of}
 
 -- the least number that the next label may have
 abbrev pub bound_after : ℕ → Option ℕ → ℕ

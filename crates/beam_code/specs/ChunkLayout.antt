@@ -1,7 +1,7 @@
 -- Where the instructions of a chunk stand, as they are read.
 use Rattle.std.specs.Prelude.{◌≡◌, ℕ, List}
 use Rattle.beam_model.specs.declared.instruction.Instruction.{Instruction}
-use Rattle.beam_model.specs.Tables.{Tables}
+use Rattle.beam_model.specs.Prelude.{Tables}
 use Rattle.beam_code.specs.declared.instruction.ChunkLayout.{ChunkLayout}
 use Rattle.beam_code.specs.Bytes.{CodeBytes, instructions_in, AreStarts, AreLabels}
 

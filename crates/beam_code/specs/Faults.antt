@@ -1,6 +1,7 @@
 -- The errors of this crate, and the faults of the definitions.
 use Rattle.std.specs.Prelude.{◌≡◌, ℕ, Result, Ok, Err}
-use Rattle.beam_model.specs.CodeChunk.{CodeFault, unsupported_opcode, bad_operand, truncated}
+use Rattle.beam_model.specs.Prelude.{CodeFault, unsupported_opcode, bad_operand}
+use Rattle.beam_model.specs.CodeChunk.{truncated}
 use Rattle.beam_code.specs.declared.error.CodeError.{CodeError}
 use Rattle.beam_code.specs.declared.error.CodeError.TheVariants.{UnsupportedOpcode, BadOperand, Truncated, NoMemory}
 

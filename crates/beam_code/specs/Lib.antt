@@ -8,3 +8,4 @@ pub mod Shared
 pub mod Starts
 pub mod Whole
 pub mod Writing
+pub mod Prelude

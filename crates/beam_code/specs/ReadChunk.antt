@@ -1,9 +1,8 @@
 -- The content of a Code chunk that was read, and the tables with which it was read.
 use Rattle.std.specs.Prelude.{ℕ, List, []}
-use Rattle.beam_term.specs.TermValue.{TermValue}
 use Rattle.beam_model.specs.declared.function.Import.{Import}
-use Rattle.beam_model.specs.Tables.{Tables}
-use Rattle.beam_model.specs.CodeChunk.{CodeParts}
+use Rattle.beam_model.specs.Prelude.{Tables, CodeParts}
+use Rattle.beam_term.specs.Prelude.{TermValue}
 use Rattle.beam_code.specs.declared.read.CodeChunk.{CodeChunk}
 
 abbrev pub parts_of : CodeChunk → CodeParts

@@ -2,8 +2,8 @@
 use Rattle.std.specs.Prelude.{◌≡◌, ℕ, ◌+◌, ◌≤◌, List, ◌++◌, length, take, drop, Result, Ok}
 use Rattle.beam_model.specs.declared.instruction.Operand.{Operand}
 use Rattle.beam_model.specs.declared.instruction.Instruction.{Instruction}
+use Rattle.beam_model.specs.Prelude.{CodeFault}
 use Rattle.beam_model.specs.Compact.{◌>>=◌}
-use Rattle.beam_model.specs.CodeChunk.{CodeFault}
 use Rattle.beam_code.specs.declared.instruction.InstructionSpan.{InstructionSpan}
 
 -- the operands so far, and then the operands that are read

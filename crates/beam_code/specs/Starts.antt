@@ -1,6 +1,6 @@
 -- Where each instruction begins, kept in groups of 16.
 use Rattle.std.specs.Prelude.{◌≡◌, ℕ, ◌+◌, ◌/◌, ◌^◌, ◌<◌, nat_lt, if◌then◌else◌, List, length, map, slice_index_or, unwrap_or}
-use Rattle.std.specs.List.{All, range_with_len}
+use Rattle.std.specs.List.{range_with_len, All}
 use Rattle.std.specs.Ordering.{nat_cmp}
 use Rattle.std.specs.BTreeMap.{BTreeMap, get}
 

@@ -1,10 +1,10 @@
 -- Operands that are read at once: of one byte, those that name no table or an import; of two or three, numbers and labels.
 use Rattle.std.specs.Prelude.{ℕ, ◌+◌, ◌*◌, ◌/◌, ◌%◌, ◌==◌, pos, nat_lt, if◌then◌else◌, List, ◌∷◌, slice_get, Option, Some, None, option_map}
-use Rattle.beam_term.specs.TermValue.{int_term}
 use Rattle.beam_model.specs.declared.function.Import.{Import}
 use Rattle.beam_model.specs.declared.instruction.Argument.{Argument}
-use Rattle.beam_model.specs.declared.instruction.Argument.TheVariants as argument
 use Rattle.beam_model.specs.declared.opcode.Kind.{Kind}
+use Rattle.beam_term.specs.Prelude.{int_term}
+use Rattle.beam_model.specs.declared.instruction.Argument.TheVariants as argument
 use Rattle.beam_model.specs.declared.opcode.Kind.TheVariants as kind
 
 -- a number, a register and a label, by the low half of a byte

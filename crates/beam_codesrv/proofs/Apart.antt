@@ -3,9 +3,8 @@ use Rattle.std.proofs.Common.{◌≡◌, ℕ, Bool, true, false, not, ◌&&◌, 
 use Rattle.std.proofs.lemmas.List.Folds.{list_any-append}
 use Rattle.std.specs.List.{list_any}
 use Rattle.std.specs.Cmp.Lexicographic.{nat_list_eq_equiv}
-use Rattle.beam_model.specs.Listing.{Listing}
-use Rattle.beam_model.specs.SameText.{same_text}
-use Rattle.beam_machine.specs.Next.{are_apart}
+use Rattle.beam_machine.specs.Prelude.{are_apart}
+use Rattle.beam_model.specs.Prelude.{Listing, same_text}
 
 -- no module is there twice, or has one of these names
 abbrev pub are_apart_after : List (List ℕ) → List Listing → Bool

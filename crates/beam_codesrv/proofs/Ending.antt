@@ -1,15 +1,12 @@
 -- Processes that end one after another.
-use Rattle.std.proofs.Common.{◌≡◌, ℕ, zero, suc, ◌<◌, Bool, true, false, cond, List, [], ◌∷◌, length, map, set, get_or, refl, sym, ap, ◌∙◌, true≢false, arith}
+use Rattle.std.proofs.Common.{◌≡◌, ℕ, zero, suc, ◌<◌, Bool, true, false, cond, List, [], ◌∷◌, length, map, set, get_or, refl, sym, ap, ◌∙◌, true≢false, arith, Some, None, Result, Ok, Err, OnOk}
 use Rattle.std.proofs.lemmas.Option.{slice_get-get_or}
-use Rattle.std.specs.Prelude.{Some, None, Result, Ok, Err, OnOk, OnErr}
-use Rattle.beam_term.specs.TermValue.{TermValue, nil_term}
+use Rattle.beam_term.specs.Prelude.{TermValue, nil_term}
 use Rattle.std.specs.List.{list_any}
 use Rattle.beam_machine.specs.declared.process.Status.{Status}
 use Rattle.beam_machine.specs.declared.process.Status.TheVariants.{Running, Waiting, Ended}
 use Rattle.beam_machine.specs.declared.process.Signal.{Signal}
-use Rattle.beam_machine.specs.Process.{Process, is_ended, ended, killed}
-use Rattle.beam_machine.specs.Change.{pids_of, ends_or_hears, killing}
-use Rattle.beam_machine.specs.State.{with_signals}
+use Rattle.beam_machine.specs.Prelude.{Process, is_ended, ended, killed, pids_of, ends_or_hears, killing, with_signals}
 use Rattle.beam_laws.proofs.Hearing.{as_before}
 use Rattle.beam_laws.proofs.Orderly.{Orderly}
 use Rattle.beam_stack.proofs.Anys.{none, alike}
@@ -69,10 +66,6 @@ same_lingers (Several numbers) signals p = as_before (lingers_in (Several number
 pub on_ok : {T E : Type 0} {P : Type 0} (r : Result T E) → P → OnOk r P
 on_ok (Ok t) h = h
 on_ok (Err e) h = tt
-
-pub on_err : {T E : Type 0} {P : Type 0} (r : Result T E) → P → OnErr r P
-on_err (Ok t) h = tt
-on_err (Err e) h = h
 
 -- ---- all processes hear of the ends, and then those that pass the test end
 

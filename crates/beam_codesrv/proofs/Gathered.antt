@@ -1,11 +1,7 @@
 -- The origins of the monitors on those that linger, as a walk gathers them, and the DOWNs that another walk makes of them.
-use Rattle.std.proofs.Common.{◌≡◌, ℕ, suc, ◌+◌, ◌-◌, Bool, true, false, cond, nat_lt, List, [], ◌∷◌, ◌++◌, append_assoc, map, slice_get, refl, sym, ap, ◌∙◌, arith}
+use Rattle.std.proofs.Common.{◌≡◌, ℕ, suc, ◌+◌, ◌-◌, Bool, true, false, cond, nat_lt, List, [], ◌∷◌, ◌++◌, append_assoc, map, slice_get, refl, sym, ap, ◌∙◌, arith, Some, None, filter, flat_map}
 use Rattle.std.proofs.lemmas.Bool.Decides.{nat_tests}
-use Rattle.std.specs.Prelude.{Some, None, filter, flat_map}
-use Rattle.beam_machine.specs.Change.{pids_of}
-use Rattle.beam_machine.specs.Private.{Sent}
-use Rattle.beam_machine.specs.Process.{Process}
-use Rattle.beam_machine.specs.State.{process_of}
+use Rattle.beam_machine.specs.Prelude.{pids_of, Sent, Process, process_of}
 use Rattle.beam_laws.proofs.Orderly.{Numbered}
 use Rattle.beam_watches.specs.declared.monitored_by.MonitorOrigin.{MonitorOrigin}
 use Rattle.beam_codesrv.specs.Ends.{there_passes, monitor_origins, down_by, end_downs, notices}
@@ -40,7 +36,7 @@ of_passing test f g (p ∷ ps) same =
     here true e = ap (map down_by) (same 0 p refl e)
     here false e = refl
 
-at_pid : (ps : List Process) (i n : ℕ) → n ≡ i + 1 → process_of ps n ≡ slice_get ps i
+pub at_pid : (ps : List Process) (i n : ℕ) → n ≡ i + 1 → process_of ps n ≡ slice_get ps i
 at_pid ps i n e =
     let there : nat_lt 0 n ≡ true = grind (arith, nat_tests) in
     let place : n - 1 ≡ i = omega (arith, e) in

@@ -1,18 +1,13 @@
 -- The DOWNs posted for the ends of processes are the signals that each process hears of those ends.
-use Rattle.std.proofs.Common.{◌≡◌, ℕ, suc, ◌+◌, ◌-◌, Bool, true, false, cond, nat_lt, List, [], ◌∷◌, ◌++◌, map, slice_get, refl, sym, ap, ◌∙◌, arith}
+use Rattle.std.proofs.Common.{◌≡◌, ℕ, suc, ◌+◌, ◌-◌, Bool, true, false, cond, nat_lt, List, [], ◌∷◌, ◌++◌, map, slice_get, refl, sym, ap, ◌∙◌, arith, Option, Some, None, option_map, filter, flat_map}
 use Rattle.std.proofs.lemmas.Bool.Decides.{nat_tests}
 use Rattle.std.proofs.lemmas.List.{map-append}
 use Rattle.std.proofs.lemmas.Option.{slice_get-map}
-use Rattle.std.specs.Prelude.{Option, Some, None, option_map, filter, flat_map}
 use Rattle.beam_machine.specs.declared.process.Monitor.{Monitor}
 use Rattle.beam_machine.specs.declared.process.Signal.{Signal}
 use Rattle.beam_machine.specs.declared.process.Signal.TheVariants.{Down}
-use Rattle.beam_machine.specs.Change.{pids_of}
-use Rattle.beam_machine.specs.Private.{Sent}
-use Rattle.beam_machine.specs.Process.{Process, is_ended, killed}
-use Rattle.beam_machine.specs.State.{process_of, with_signals, monitors_process, downs}
-use Rattle.beam_laws.specs.Private.{posted_all}
-use Rattle.beam_laws.specs.Signals.{each_sent, signals_to}
+use Rattle.beam_machine.specs.Prelude.{pids_of, Sent, Process, is_ended, killed, process_of, with_signals, monitors_process, downs}
+use Rattle.beam_laws.specs.Prelude.{posted_all, each_sent, signals_to}
 use Rattle.beam_laws.proofs.Hearing.{gets_none}
 use Rattle.beam_laws.proofs.Orderly.{Numbered}
 use Rattle.beam_laws.proofs.Posting.{signals_append, all_posted_at, said, each_sent_to}

@@ -1,28 +1,17 @@
 -- Where the listing of an instance is found, and that changes of modules keep it so.
-use Rattle.std.proofs.Common.{◌≡◌, ℕ, zero, suc, ◌+◌, ◌≤◌, Bool, true, false, ◌==◌, ◌||◌, nat_lt, cond, not, List, [], ◌∷◌, refl, sym, ap, subst, ◌∙◌, arith}
+use Rattle.std.proofs.Common.{◌≡◌, ℕ, zero, suc, ◌+◌, ◌≤◌, Bool, true, false, ◌==◌, ◌||◌, nat_lt, cond, not, List, [], ◌∷◌, refl, sym, ap, subst, ◌∙◌, arith, Option, Some, None, option_and_then, unwrap_or, is_some, eqb-true}
 use Rattle.std.proofs.lemmas.Bool.Decides.{nat_tests}
-use Rattle.std.proofs.lemmas.Slice.Eq.{bytes_eq-Decides}
-use Rattle.std.specs.Prelude.{Option, Some, None, option_and_then, unwrap_or, is_some}
 use Rattle.std.specs.Cmp.Lexicographic.{nat_list_eq_equiv}
 use Rattle.std.specs.List.{IsDistinct, AllByRecursion}
 use Rattle.std.specs.Map.{keys_of, lookup, set_value, remove_entry}
+use Rattle.beam_lemmas.proofs.SameText.{text_is}
+use Rattle.beam_lemmas.proofs.Tests.{itself}
 use Rattle.indexmap.specs.IndexMap.{insert_entry}
-use Rattle.beam_model.specs.Listing.{Listing}
-use Rattle.beam_model.specs.SameText.{same_text}
-use Rattle.beam_machine.specs.Code.{Code, Instance, Versions, versions_of, listing_in, listing_of}
-use Rattle.beam_machine.specs.Change.{changed, deleted, purged, loaded, has_instance, with_versions, is_live, old_of}
-use Rattle.beam_laws.specs.Numbers.{bears, how_many}
+use Rattle.beam_machine.specs.Prelude.{Code, Instance, versions_of, listing_in, listing_of, changed, deleted, purged, loaded, has_instance, with_versions, is_live, old_of, Versions}
+use Rattle.beam_model.specs.Prelude.{Listing, same_text}
+use Rattle.beam_laws.specs.Prelude.{bears, how_many}
 use Rattle.beam_laws.proofs.Numbering.{counted, deleted_fewer, purged_fewer, loaded_one, one_at_most}
 use Rattle.beam_codesrv.specs.Homes.{Pair, ModuleEntry, versions_in, code_of, number_of, with_change, has_any, put, is_bare, tidied, changed_in, old_number, dropped_of, Homes, with_home, without, IsIndexOf, AreNamedOnce}
-
-same_name : (s t : List ℕ) → same_text s t ≡ true → s ≡ t
-same_name s t e = (bytes_eq-Decides s t).0 e
-
-same_number : (a b : ℕ) → (a == b) ≡ true → a ≡ b
-same_number a b e = grind (arith, nat_tests)
-
-itself : (a : ℕ) → (a == a) ≡ true
-itself a = grind (arith, nat_tests)
 
 -- ---- names
 
@@ -129,7 +118,7 @@ changed_is change f is (m ∷ ms) name once =
     go : changed change (code_of ms) name ≡ code_of (changed_in f name ms) → (b : Bool) → same_text name m.0 ≡ b
         → cond {A = Code} b (with_versions name (change (versions_in m)) (code_of ms)) (versions_in m ∷ changed change (code_of ms) name) ≡ code_of (cond {A = List ModuleEntry} b (put m.0 (f m.1) ms) (m ∷ changed_in f name ms))
     go k true e =
-        let alone : has_instance (versions_of (code_of ms) name) ≡ false = nameless ms name (subst (λ x. lookup (same_text x) ms ≡ None) (sym (same_name name m.0 e)) once.0) in
+        let alone : has_instance (versions_of (code_of ms) name) ≡ false = nameless ms name (subst (λ x. lookup (same_text x) ms ≡ None) (sym (text_is name m.0 e)) once.0) in
         ap (λ v. with_versions name v (code_of ms)) (is m)
         ∙ (ap (λ b. cond {A = Code} b (versions_in (m.0, f m.1) ∷ code_of ms) (code_of ms)) (or_false (has_any (f m.1)) (has_instance (versions_of (code_of ms) name)) alone)
         ∙ kept_out (has_any (f m.1)) (m.0, f m.1) ms)
@@ -168,7 +157,7 @@ live_is home n code h = ap is_some (h.homes n)
 abbrev listed : Versions → ℕ → Option Listing → Option Listing
 listed v n rest = listing_in v.current n (listing_in v.old n rest)
 
-missed : (n : ℕ) (o : Option Instance) (rest : Option Listing) → bears n o ≡ 0 → listing_in o n rest ≡ rest
+pub missed : (n : ℕ) (o : Option Instance) (rest : Option Listing) → bears n o ≡ 0 → listing_in o n rest ≡ rest
 missed n None rest z = refl
 missed n (Some i) rest z = go (i.number == n) refl
   where
@@ -239,7 +228,7 @@ behind_goes n v None h k x other is e = ap (listed v n) e ∙ is
 behind_goes n v (Some d) h k x other is e = go (d == n) refl e
   where
     go : (b : Bool) → (d == n) ≡ b → x ≡ cond b None (h n) → listed v n x ≡ cond b None (k n)
-    go true q e = ap (listed v n) e ∙ missed_both n v None (other (ap Some (same_number d n q)))
+    go true q e = ap (listed v n) e ∙ missed_both n v None (other (ap Some (eqb-true d n q)))
     go false q e = ap (listed v n) e ∙ is
 
 -- the old instance of a later module is no instance of the first module
@@ -286,7 +275,7 @@ new_behind : (number : ℕ) (l : Listing) (n : ℕ) (v : Versions) (rest : Optio
 new_behind number l n v rest free = go (number == n) refl
   where
     go : (b : Bool) → (number == n) ≡ b → listed v n (cond b (Some l) rest) ≡ cond b (Some l) (listed v n rest)
-    go true e = missed_both n v (Some l) (subst (λ x. bears x v.current + bears x v.old ≡ 0) (same_number number n e) free)
+    go true e = missed_both n v (Some l) (subst (λ x. bears x v.current + bears x v.old ≡ 0) (eqb-true number n e) free)
     go false e = refl
 
 -- the new instance of the first module comes, and the old one goes
@@ -311,7 +300,7 @@ new_comes number l n v rest free once = go v.old free once
             new : (c : Bool) → (number == n) ≡ c → cond c (Some l) there ≡ there
             new false q = refl
             new true q =
-                let one : bears number (Some j) ≡ 1 = subst (λ x. bears x (Some j) ≡ 1) (sym (same_number number n q)) (ap (λ b. cond b 1 0) e) in
+                let one : bears number (Some j) ≡ 1 = subst (λ x. bears x (Some j) ≡ 1) (sym (eqb-true number n q)) (ap (λ b. cond b 1 0) e) in
                 absurd (omega (arith, one, free))
 
 loaded_homes : (number : ℕ) (l : Listing) (code : Code) (n : ℕ) → how_many number code ≡ 0 → how_many n code ≤ 1
@@ -384,7 +373,7 @@ one_more i l code new same is free once n = go (i.number == n) refl
 
     go : (b : Bool) → (i.number == n) ≡ b → how_many n new ≤ 1
     go true e =
-        let none : how_many n code ≡ 0 = subst (λ x. how_many x code ≡ 0) (same_number i.number n e) free in
+        let none : how_many n code ≡ 0 = subst (λ x. how_many x code ≡ 0) (eqb-true i.number n e) free in
         omega (arith, count, loaded_one n i.number l code, one_at_most n i.number l, none)
     go false e =
         let other : bears n (Some (record { number = i.number; listing = l })) ≡ 0 = ap (λ b. cond b 1 0) e in

@@ -1,19 +1,17 @@
 -- Whether a process that ends is monitored.
-use Rattle.std.proofs.Common.{◌≡◌, ℕ, zero, suc, ◌+◌, ◌-◌, ◌<◌, ◌==◌, ◌&&◌, ◌||◌, Bool, true, false, cond, nat_lt, List, [], ◌∷◌, ◌++◌, map, slice_get, refl, sym, ap, ◌∙◌, arith}
+use Rattle.std.proofs.Common.{◌≡◌, ℕ, zero, suc, ◌+◌, ◌-◌, ◌<◌, ◌==◌, ◌&&◌, ◌||◌, Bool, true, false, cond, nat_lt, List, [], ◌∷◌, ◌++◌, map, slice_get, refl, sym, ap, ◌∙◌, arith, Option, Some, None, filter, flat_map}
 use Rattle.std.proofs.lemmas.Bool.Decides.{nat_tests}
-use Rattle.std.specs.Prelude.{Option, Some, None, filter, flat_map}
 use Rattle.std.specs.List.{list_any}
-use Rattle.beam_model.specs.Listing.{is_this_number}
+use Rattle.std.proofs.lemmas.Bool.{or_parts}
+use Rattle.beam_lemmas.proofs.Tests.{and_false}
 use Rattle.beam_machine.specs.declared.process.Monitor.{Monitor}
 use Rattle.beam_machine.specs.declared.process.Signal.{Signal}
 use Rattle.beam_machine.specs.declared.process.Signal.TheVariants.{Down}
 use Rattle.beam_machine.specs.declared.process.Status.{Status}
 use Rattle.beam_machine.specs.declared.process.Status.TheVariants.{Running, Waiting, Ended}
-use Rattle.beam_machine.specs.Change.{pids_of}
-use Rattle.beam_machine.specs.Process.{Process, is_ended, killed}
-use Rattle.beam_machine.specs.Row.{own_number}
-use Rattle.beam_machine.specs.State.{with_signals, monitors_process, downs}
-use Rattle.beam_laws.proofs.Hearing.{either_false, none_more}
+use Rattle.beam_machine.specs.Prelude.{pids_of, Process, is_ended, killed, own_number, with_signals, monitors_process, downs}
+use Rattle.beam_model.specs.Prelude.{is_this_number}
+use Rattle.beam_laws.proofs.Hearing.{none_more}
 use Rattle.beam_laws.proofs.Orderly.{Numbered, Orderly}
 use Rattle.beam_stack.proofs.Anys.{none, swapped, alike}
 use Rattle.beam_codesrv.specs.Ends.{heard_of, told, there_passes, number_passes, live_monitors, monitors_one_passing, one_monitored}
@@ -22,10 +20,6 @@ use Rattle.beam_codesrv.specs.Ends.{heard_of, told, there_passes, number_passes,
 
 abbrev AreFrom : ℕ → List Process → Type 0
 AreFrom at ps = (i : ℕ) (p : Process) → slice_get ps i ≡ Some p → p.pid ≡ i + at
-
-and_false : (b : Bool) → (b && false) ≡ false
-and_false true = refl
-and_false false = refl
 
 and_true : (b c : Bool) → c ≡ true → (b && c) ≡ b
 and_true true c e = e
@@ -128,7 +122,7 @@ one_is_monitored test ps o =
 no_downs : (pid : ℕ) (ms : List Monitor) → list_any (monitors_process pid) ms ≡ false → downs pid killed ms ≡ []
 no_downs pid [] none = refl
 no_downs pid (m ∷ ms) none =
-    let each = either_false (monitors_process pid m) (list_any (monitors_process pid) ms) none in
+    let each = or_parts (monitors_process pid m) (list_any (monitors_process pid) ms) none in
     ap (λ b. downs_of (cond b (m ∷ filter (monitors_process pid) ms) (filter (monitors_process pid) ms))) each.0 ∙ no_downs pid ms each.1
   where
     downs_of : List Monitor → List Signal
@@ -137,7 +131,7 @@ no_downs pid (m ∷ ms) none =
 unheard : (test : Process → Bool) (ps : List Process) (ms : List Monitor) → monitors_one test ps ms ≡ false → flat_map (λ pid. downs pid killed ms) (pids_of test ps) ≡ []
 unheard test [] ms none = refl
 unheard test (p ∷ ps) ms none =
-    let each = either_false (test p && list_any (monitors_process p.pid) ms) (monitors_one test ps ms) none in
+    let each = or_parts (test p && list_any (monitors_process p.pid) ms) (monitors_one test ps ms) none in
     go (test p) each.0 (unheard test ps ms each.1)
   where
     hears : List ℕ → List Signal
@@ -150,7 +144,7 @@ unheard test (p ∷ ps) ms none =
 all_unheard : (test : Process → Bool) (ps qs : List Process) → list_any (λ q. monitors_one test ps q.monitors) qs ≡ false → map (λ q. with_signals (heard_of (pids_of test ps) q) q) qs ≡ qs
 all_unheard test ps [] none = refl
 all_unheard test ps (q ∷ qs) none =
-    let each = either_false (monitors_one test ps q.monitors) (list_any (λ q. monitors_one test ps q.monitors) qs) none in
+    let each = or_parts (monitors_one test ps q.monitors) (list_any (λ q. monitors_one test ps q.monitors) qs) none in
     let same : with_signals (heard_of (pids_of test ps) q) q ≡ q = ap (λ signals. with_signals signals q) (unheard test ps q.monitors each.0) ∙ none_more q in
     ap (λ p. p ∷ map (λ q. with_signals (heard_of (pids_of test ps) q) q) qs) same ∙ ap (λ ps. q ∷ ps) (all_unheard test ps qs each.1)
 

@@ -1,12 +1,8 @@
 -- What a purge comes to.
-use Rattle.std.proofs.Common.{◌≡◌, ℕ, Bool, List, sym, ap, ◌∙◌}
-use Rattle.std.specs.Prelude.{Option}
+use Rattle.std.proofs.Common.{◌≡◌, ℕ, Bool, List, sym, ap, ◌∙◌, Option}
 use Rattle.std.specs.List.{list_any}
 use Rattle.beam_machine.specs.declared.event.Reply.TheVariants.{Changed}
-use Rattle.beam_machine.specs.Code.{Code}
-use Rattle.beam_machine.specs.Change.{old_of, purged, lingers_at, killing}
-use Rattle.beam_machine.specs.Next.{replied, next_purge}
-use Rattle.beam_machine.specs.Process.{Process}
+use Rattle.beam_machine.specs.Prelude.{Code, old_of, purged, lingers_at, killing, replied, next_purge, Process}
 use Rattle.beam_codesrv.specs.Replacement.{node}
 
 pub purge_is : (code new : Code) (ps qs : List Process) (name : List ℕ) (old : Option ℕ) (ended : Bool) (clock n references : ℕ)

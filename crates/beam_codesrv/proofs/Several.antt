@@ -1,19 +1,14 @@
 -- One walk over the processes for several old instances, in place of one for each.
-use Rattle.std.proofs.Common.{◌≡◌, ◌↔◌, ◌==◌, ℕ, Bool, true, false, ◌||◌, cond, not, List, [], ◌∷◌, ◌++◌, length, map, if◌then◌else◌, refl, sym, ap, ◌∙◌, true≢false, arith}
-use Rattle.std.proofs.lemmas.Bool.{eqb-true, false≢true}
+use Rattle.std.proofs.Common.{◌≡◌, ◌↔◌, ◌==◌, ℕ, Bool, true, false, ◌||◌, cond, not, List, [], ◌∷◌, ◌++◌, length, map, if◌then◌else◌, refl, sym, ap, ◌∙◌, true≢false, arith, eqb-true, Option, Some, None, is_some, filter, flat_map}
+use Rattle.std.proofs.lemmas.Bool.{false≢true}
 use Rattle.std.proofs.lemmas.List.Folds.{list_any-append}
-use Rattle.std.specs.Prelude.{Option, Some, None, is_some, filter, flat_map}
 use Rattle.std.specs.List.{list_any}
-use Rattle.beam_term.specs.TermValue.{nil_term}
-use Rattle.beam_model.specs.Listing.{Listing}
 use Rattle.beam_machine.specs.declared.event.UpgradeMode.{UpgradeMode}
 use Rattle.beam_machine.specs.declared.event.UpgradeMode.TheVariants.{Strict, Soft, Hard}
 use Rattle.beam_machine.specs.declared.process.Signal.{Signal}
-use Rattle.beam_machine.specs.Code.{Code}
-use Rattle.beam_machine.specs.Process.{Process, ended, killed}
-use Rattle.beam_machine.specs.State.{with_signals, downs}
-use Rattle.beam_machine.specs.Change.{old_of, lingers, lingers_at, lingers_in_olds, pids_of, ends_or_hears, killing}
-use Rattle.beam_machine.specs.Next.{stands_in_way}
+use Rattle.beam_machine.specs.Prelude.{Code, Process, ended, killed, with_signals, downs, old_of, lingers, lingers_at, lingers_in_olds, pids_of, ends_or_hears, killing, stands_in_way}
+use Rattle.beam_model.specs.Prelude.{Listing}
+use Rattle.beam_term.specs.Prelude.{nil_term}
 use Rattle.beam_laws.proofs.Hearing.{nobody_ends}
 use Rattle.beam_stack.proofs.Anys.{none, swapped, alike}
 use Rattle.beam_codesrv.specs.Replacement.{node}

@@ -1,13 +1,10 @@
 -- Signals that are posted and taken back.
-use Rattle.std.proofs.Common.{◌≡◌, ℕ, ◌-◌, List, [], ◌∷◌, ◌++◌, length, take, refl, ap, ◌∙◌, arith}
+use Rattle.std.proofs.Common.{◌≡◌, ℕ, ◌-◌, List, [], ◌∷◌, ◌++◌, length, take, refl, ap, ◌∙◌, arith, Option, Some, None}
 use Rattle.std.proofs.Math.Seq.{take-append_seam}
 use Rattle.std.proofs.lemmas.List.{length_push}
-use Rattle.std.specs.Prelude.{Option, Some, None}
 use Rattle.beam_machine.specs.declared.process.Signal.{Signal}
-use Rattle.beam_machine.specs.Private.{Sent}
-use Rattle.beam_machine.specs.Process.{Process}
-use Rattle.beam_machine.specs.State.{process_of, with_process, alive, live_process, posted_to, posted}
-use Rattle.beam_laws.specs.Private.{posted_all}
+use Rattle.beam_machine.specs.Prelude.{Sent, Process, process_of, with_process, alive, live_process, posted_to, posted}
+use Rattle.beam_laws.specs.Prelude.{posted_all}
 use Rattle.beam_laws.proofs.Ending.{alive_is, at_index}
 use Rattle.beam_laws.proofs.Follows.{on}
 use Rattle.beam_laws.proofs.Numbered.{put_same, put_put, put_here, alive_of}

@@ -1,16 +1,11 @@
 -- Processes that end by a change of code, and what the others hear of that.
 use Rattle.std.specs.Prelude.{ℕ, Bool, false, ◌&&◌, if◌then◌else◌, List, [], map, flat_map, filter, Option, Some, None}
 use Rattle.std.specs.List.{list_any}
-use Rattle.beam_term.specs.TermValue.{nil_term}
 use Rattle.beam_machine.specs.declared.process.Monitor.{Monitor}
 use Rattle.beam_machine.specs.declared.process.Signal.{Signal}
 use Rattle.beam_machine.specs.declared.process.Signal.TheVariants.{Down}
-use Rattle.beam_machine.specs.Change.{lingers_at, pids_of}
-use Rattle.beam_machine.specs.Private.{Sent}
-use Rattle.beam_machine.specs.Process.{Process, is_ended, ended, killed}
-use Rattle.beam_machine.specs.Quiet.{is_monitored}
-use Rattle.beam_machine.specs.State.{process_of, with_signals, monitors_process, downs}
-use Rattle.beam_machine.specs.Row.{own_number}
+use Rattle.beam_machine.specs.Prelude.{lingers_at, pids_of, Sent, Process, is_ended, ended, killed, is_monitored, process_of, with_signals, monitors_process, downs, own_number}
+use Rattle.beam_term.specs.Prelude.{nil_term}
 use Rattle.beam_watches.specs.declared.monitored_by.MonitorOrigin.{MonitorOrigin}
 use Rattle.beam_codesrv.specs.declared.lingering.OldInstances.{OldInstances}
 use Rattle.beam_codesrv.specs.declared.lingering.OldInstances.TheVariants.{One, Several}

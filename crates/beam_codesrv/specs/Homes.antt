@@ -1,10 +1,9 @@
 -- The modules by their names, and the listing of each instance.
 use Rattle.std.specs.Prelude.{◌≡◌, ◌≤◌, ◌==◌, ◌||◌, if◌then◌else◌, ℕ, Bool, false, List, [], ◌∷◌, Option, Some, None, is_some, not, option_map, option_and_then}
 use Rattle.std.specs.Map.{lookup}
-use Rattle.beam_model.specs.Listing.{Listing}
-use Rattle.beam_model.specs.SameText.{same_text}
-use Rattle.beam_machine.specs.Code.{Code, Instance, Versions, listing_of}
-use Rattle.beam_laws.specs.Numbers.{how_many}
+use Rattle.beam_machine.specs.Prelude.{Code, Instance, listing_of, Versions}
+use Rattle.beam_model.specs.Prelude.{Listing, same_text}
+use Rattle.beam_laws.specs.Prelude.{how_many}
 
 -- the current and the old instance of a module
 abbrev pub Pair : Type 0

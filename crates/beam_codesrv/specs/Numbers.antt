@@ -2,8 +2,8 @@
 use Rattle.std.specs.Prelude.{◌&&◌, nat_eq, Bool}
 use Rattle.std.specs.Cmp.Lexicographic.{pointwise}
 use Rattle.std.specs.Option.{option_eq}
-use Rattle.beam_model.specs.SameText.{same_text}
-use Rattle.beam_machine.specs.Code.{Code, Versions}
+use Rattle.beam_machine.specs.Prelude.{Code, Versions}
+use Rattle.beam_model.specs.Prelude.{same_text}
 use Rattle.beam_codesrv.specs.Homes.{number_of}
 
 -- two modules have the same name, and current and old instances of the same numbers, or none where the other has none

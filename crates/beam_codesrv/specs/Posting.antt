@@ -1,8 +1,6 @@
 -- Signals that were posted are taken back.
 use Rattle.std.specs.Prelude.{ℕ, ◌-◌, List, [], ◌∷◌, length, take, Option, Some, None}
-use Rattle.beam_machine.specs.Private.{Sent}
-use Rattle.beam_machine.specs.Process.{Process}
-use Rattle.beam_machine.specs.State.{with_process, live_process}
+use Rattle.beam_machine.specs.Prelude.{Sent, Process, with_process, live_process}
 
 -- a process without the last signal that is in transit to it
 abbrev pub without_last : Process → Process

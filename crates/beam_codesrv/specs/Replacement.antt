@@ -2,10 +2,7 @@
 use Rattle.std.specs.Prelude.{ℕ, List, Result, Ok, Err}
 use Rattle.beam_codesrv.specs.declared.error.CodeError.{CodeError}
 use Rattle.beam_machine.specs.declared.event.Reply.{Reply}
-use Rattle.beam_machine.specs.Code.{Code}
-use Rattle.beam_machine.specs.Process.{Process}
-use Rattle.beam_machine.specs.State.{State}
-use Rattle.beam_machine.specs.Next.{Answer}
+use Rattle.beam_machine.specs.Prelude.{Code, Process, State, Answer}
 use Rattle.beam_codesrv.specs.Refusal.{refusal_of}
 
 -- a state of the node, by its parts

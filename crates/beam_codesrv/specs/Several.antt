@@ -1,10 +1,8 @@
 -- Several old instances, and the processes that linger in one of them.
 use Rattle.std.specs.Prelude.{◌≡◌, ℕ, Bool, false, List, Option, Some, None}
 use Rattle.std.specs.List.{list_any}
-use Rattle.beam_model.specs.Listing.{Listing}
-use Rattle.beam_machine.specs.Code.{Code}
-use Rattle.beam_machine.specs.Change.{old_of, lingers}
-use Rattle.beam_machine.specs.Process.{Process}
+use Rattle.beam_machine.specs.Prelude.{Code, old_of, lingers, Process}
+use Rattle.beam_model.specs.Prelude.{Listing}
 
 abbrev pub lingers_in_any : List ℕ → Process → Bool
 lingers_in_any numbers p = list_any (λ n. lingers n p) numbers

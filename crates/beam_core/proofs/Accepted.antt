@@ -1,20 +1,15 @@
 -- Events that only an allocation failure refuses.
-use Rattle.std.proofs.Common.{◌≡◌, ℕ, ◌<◌, true, false, cond, ◌==◌, [], refl, ap, ◌∙◌, arith, Ok}
+use Rattle.std.proofs.Common.{◌≡◌, ℕ, ◌<◌, true, false, cond, ◌==◌, [], refl, ap, ◌∙◌, arith, Ok, Option, Some, None, is_ok}
 use Rattle.std.proofs.lemmas.Bool.Decides.{nat_tests}
-use Rattle.std.specs.Prelude.{Option, Some, None, is_ok}
 use Rattle.beam_machine.specs.declared.event.Event.TheVariants as event
 use Rattle.beam_machine.specs.declared.event.Reply.TheVariants.{Ran}
 use Rattle.beam_machine.specs.declared.event.Then.{Then}
 use Rattle.beam_machine.specs.declared.event.Refused.TheVariants.{NotReady}
-use Rattle.beam_machine.specs.Process.{Process, is_waiting}
-use Rattle.beam_machine.specs.State.{State, process_of, live_process}
-use Rattle.beam_machine.specs.Next.{Next, Answer, refused, steps, ran, ran_to, next_steps, next}
-use Rattle.beam_machine.specs.Code.{Code}
-use Rattle.beam_machine.specs.Run.{Answers, effective_rows}
-use Rattle.beam_machine.specs.Quiet.{LacksMemory}
+use Rattle.beam_machine.specs.Prelude.{Process, is_waiting, State, process_of, live_process, Next, Answer, refused, ran, ran_to, next_steps, next, Code, Answers, effective_rows, LacksMemory}
+use Rattle.beam_machine.specs.Next.{steps}
 use Rattle.beam_laws.proofs.Ending.{alive_is}
 use Rattle.beam_laws.proofs.Refusing.{stays, steps_longer}
-use Rattle.beam_state.specs.Parts.{Parts, node}
+use Rattle.beam_state.specs.Prelude.{Parts, node}
 use Rattle.beam_core.specs.Halt.{HaltsAt}
 use Rattle.beam_core.proofs.Stepping.{done_steps, rows_answer}
 

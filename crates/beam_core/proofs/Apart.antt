@@ -1,25 +1,19 @@
 -- Rows that were executed apart from the node are its next rows.
-use Rattle.std.proofs.Common.{◌≡◌, ℕ, zero, suc, ◌+◌, add-one, Bool, true, false, not, cond, List, ◌∷◌, refl, sym, ap, subst, ◌∙◌}
-use Rattle.std.specs.Prelude.{◌&&◌, Option, Some, None}
-use Rattle.beam_term.specs.TermValue.{TermValue}
+use Rattle.std.proofs.Common.{◌≡◌, ℕ, zero, suc, ◌+◌, add-one, Bool, true, false, not, cond, List, ◌∷◌, refl, sym, ap, subst, ◌∙◌, ◌&&◌, Option, Some, None}
 use Rattle.beam_machine.specs.declared.event.Event.TheVariants.{Steps}
 use Rattle.beam_machine.specs.declared.process.Signal.{Signal}
 use Rattle.beam_machine.specs.declared.process.Status.{Status}
 use Rattle.beam_machine.specs.declared.process.Status.TheVariants.{Running, Waiting, Ended}
-use Rattle.beam_model.specs.Place.{Place}
-use Rattle.beam_machine.specs.Code.{Code}
-use Rattle.beam_machine.specs.Debug.{is_at_spot}
-use Rattle.beam_machine.specs.Next.{Rows, put_process, next, steps}
-use Rattle.beam_machine.specs.Private.{Private, Sent, at_spot, after_row, before_node_row, stops, with_first_row, with_first_sending, private_by, private_rows, private_to_spot}
-use Rattle.beam_machine.specs.Process.{Process, is_running, is_ended}
-use Rattle.beam_machine.specs.Row.{Outcome, makes, sends, asks, sleeps, outcome}
-use Rattle.beam_machine.specs.State.{State, hearing_by}
-use Rattle.beam_laws.specs.Orderly.{Follows}
-use Rattle.beam_laws.specs.Private.{with_name_and_transit, posted_all, after_private, before, with_name_and_transit_of}
+use Rattle.beam_machine.specs.Prelude.{Code, is_at_spot, Rows, put_process, next, Private, Sent, at_spot, after_row, before_node_row, stops, with_first_row, with_first_sending, private_by, private_rows, private_to_spot, Process, is_running, is_ended, Outcome, makes, sends, asks, sleeps, outcome, State, hearing_by}
+use Rattle.beam_term.specs.Prelude.{TermValue}
+use Rattle.beam_model.specs.Prelude.{Place}
+use Rattle.beam_machine.specs.Next.{steps}
+use Rattle.beam_laws.specs.Prelude.{Follows, with_name_and_transit, posted_all, after_private, before, with_name_and_transit_of}
 use Rattle.beam_laws.proofs.Delayed.{further_later}
 use Rattle.beam_laws.proofs.Ending.{runs_on}
 use Rattle.beam_laws.proofs.Follows.{Comes, on, outcome_comes}
 use Rattle.beam_laws.proofs.Sending.{steps_state}
+use Rattle.beam_laws.proofs.Private.{having_status}
 use Rattle.beam_core.specs.Installing.{AreRowsOf, node_rows, installed}
 use Rattle.beam_core.proofs.Located.{follows_then}
 
@@ -131,9 +125,6 @@ having_follows pid name m transit r f = go r.status refl
 
 having_pid : (name : Option (List ℕ)) (transit : List Signal) (p : Process) → (with_name_and_transit name transit p).pid ≡ p.pid
 having_pid name transit p = elim (is_ended p.status) as (λ b. (cond {A = Process} b p (record p { name = name; transit = transit })).pid ≡ p.pid) [ true ↦ refl | false ↦ refl ]
-
-having_status : (name : Option (List ℕ)) (transit : List Signal) (p : Process) → (with_name_and_transit name transit p).status ≡ p.status
-having_status name transit p = elim (is_ended p.status) as (λ b. (cond {A = Process} b p (record p { name = name; transit = transit })).status ≡ p.status) [ true ↦ refl | false ↦ refl ]
 
 module _ (s : State) (pid : ℕ) (rows : Private) (h : AreRowsOf s pid rows) where
   pub now_lives : is_ended h.now.status ≡ false

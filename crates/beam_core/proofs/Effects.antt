@@ -1,24 +1,19 @@
 -- Rows that were executed apart take effect, or nothing changes.
-use Rattle.std.proofs.Common.{◌≡◌, ◌+◌, ℕ, false, List, [], ◌++◌, Result, Ok, Err, refl, sym, ap, subst, ◌∙◌}
-use Rattle.std.specs.Prelude.{Some, None, IfOk, OnErr}
+use Rattle.std.proofs.Common.{◌≡◌, ◌+◌, ℕ, false, List, [], ◌++◌, Result, Ok, Err, refl, sym, ap, subst, ◌∙◌, Some, None, IfOk, OnErr}
+use Rattle.std.proofs.lemmas.Option.{same_Some}
 use Rattle.beam_machine.specs.declared.event.Event.TheVariants.{Steps}
 use Rattle.beam_machine.specs.declared.event.Refused.{Refused}
 use Rattle.beam_machine.specs.declared.event.Then.{Then}
 use Rattle.beam_machine.specs.declared.event.Then.TheVariants.{GoesOn}
-use Rattle.beam_machine.specs.Code.{Code}
-use Rattle.beam_machine.specs.Next.{Rows, next, steps}
-use Rattle.beam_machine.specs.Private.{Private, Sent, End, at_limit, after_row, before_node_row, at_spot}
-use Rattle.beam_machine.specs.Process.{Process, is_ended, then_of}
-use Rattle.beam_machine.specs.State.{State, process_of, live_process, with_process}
-use Rattle.beam_laws.specs.Monitors.{ArePart, Rise, AreRising}
-use Rattle.beam_laws.specs.Private.{with_name_and_transit, posted_all, after_private, before, with_name_and_transit_of}
-use Rattle.beam_laws.proofs.Ending.{is_there, alive_is}
-use Rattle.beam_proc.specs.Ending.{end_of}
+use Rattle.beam_machine.specs.Prelude.{Code, Rows, next, Private, Sent, End, at_limit, after_row, before_node_row, at_spot, Process, is_ended, then_of, State, process_of, live_process, with_process}
+use Rattle.beam_machine.specs.Next.{steps}
+use Rattle.beam_laws.specs.Prelude.{ArePart, Rise, AreRising, with_name_and_transit, posted_all, after_private, before, with_name_and_transit_of}
+use Rattle.beam_laws.proofs.Ending.{alive_is}
+use Rattle.beam_proc.specs.Prelude.{end_of}
 use Rattle.beam_proc.specs.declared.private.End.{End as TheEnd}
 use Rattle.beam_proc.specs.declared.private.End.TheVariants.{AtLimit, AfterRow, BeforeNodeRow, AtSpot}
-use Rattle.beam_state.specs.Parts.{Parts, node, then_at, with_processes}
+use Rattle.beam_state.specs.Prelude.{Parts, node, then_at, with_processes, CanReplace}
 use Rattle.beam_codesrv.specs.Posting.{all_taken}
-use Rattle.beam_state.specs.Posting.{CanReplace}
 use Rattle.beam_core.specs.Installing.{AreRowsOf, Installed, installed, node_rows, notices_at}
 use Rattle.beam_core.proofs.Apart.{having_follows, now_lives, process_follows, process_runs, rows_alone_keep, rows_keep}
 use Rattle.beam_core.proofs.Installing.{more, sender_there, can_replace, took_effect, made_there, stands, goes_on, can_go_back, all_undone}
@@ -75,7 +70,7 @@ module _ (code : Code) (old posted : Parts) (pid : ℕ) (rows : Private) (h : Ar
   pub part_in : (q : Process) → live_process posted.processes pid ≡ Some q → ArePart q.monitors p.monitors
   part_in q e =
       let there : process_of posted.processes pid ≡ Some q = (alive_is (process_of posted.processes pid) q e).0 in
-      let one : more pid told h.now ≡ q = is_there (more pid told h.now) q (sym (sender_there code old posted posted pid h.now rows h.there lives told all posts) ∙ there) in
+      let one : more pid told h.now ≡ q = same_Some (more pid told h.now) q (sym (sender_there code old posted posted pid h.now rows h.there lives told all posts) ∙ there) in
       subst (λ (p : Process). ArePart q.monitors p.monitors) (sym same)
       (subst (λ (q : Process). ArePart q.monitors rows.process.monitors) one (now_part (node code old) pid rows h))
 
@@ -103,7 +98,7 @@ module _ (code : Code) (old posted : Parts) (pid : ℕ) (rows : Private) (h : Ar
     pub effect : HavePids old.processes → (rows.end ≡ before_node_row → ⊥) → Installed (node code old) pid rows then (node code put)
     effect pids other = λ q there.
         let none : node_rows rows.end ≡ 0 = no_row rows.end other in
-        let it : h.now ≡ q = is_there h.now q (sym h.there ∙ there) in (
+        let it : h.now ≡ q = same_Some h.now q (sym h.there ∙ there) in (
           ap (λ q. installed (node code old) pid (with_name_and_transit_of q rows)) (sym it)
               ∙ (ap (λ k. before rows.count (steps (after_private (node code old) pid (with_name_and_transit_of h.now rows)) pid k)) none
               ∙ (ap (λ (t : State). before rows.count (steps t pid 0)) (sym (taken pids))
@@ -120,7 +115,7 @@ module _ (code : Code) (old posted : Parts) (pid : ℕ) (rows : Private) (h : Ar
           → Installed (node code old) pid rows after (node code last)
       effect_and_row pids last after row said = λ q there.
           let one : node_rows rows.end ≡ 1 = ap node_rows e in
-          let it : h.now ≡ q = is_there h.now q (sym h.there ∙ there) in (
+          let it : h.now ≡ q = same_Some h.now q (sym h.there ∙ there) in (
             ap (λ q. installed (node code old) pid (with_name_and_transit_of q rows)) (sym it)
                 ∙ (ap (λ k. before rows.count (steps (after_private (node code old) pid (with_name_and_transit_of h.now rows)) pid k)) one
                 ∙ (ap (λ (t : State). before rows.count (steps t pid 1)) (sym (taken pids))

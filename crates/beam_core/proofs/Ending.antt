@@ -1,34 +1,29 @@
 -- Rows that end their process aren't quiet.
 use Rattle.std.proofs.Common.{◌≡◌, ℕ, ◌==◌, ◌+◌, Bool, true, false, ◌&&◌, not, if◌then◌else◌, List, [], ◌∷◌, length, Option, Some, None, is_some, refl, ap, ◌∙◌}
-use Rattle.beam_term.specs.TermValue.{TermValue}
 use Rattle.beam_machine.specs.declared.action.Action.{Action}
+use Rattle.beam_machine.specs.declared.action.Source.{Source}
+use Rattle.beam_machine.specs.declared.action.Step.{Step}
+use Rattle.beam_machine.specs.declared.process.Frame.{Frame}
+use Rattle.beam_machine.specs.declared.process.Goes.TheVariants.{At, Enter, Nowhere}
+use Rattle.beam_machine.specs.declared.process.Slot.{Slot}
+use Rattle.beam_machine.specs.Prelude.{Code, step_of, Process, dropped, without_slots, with_slots, ended, is_ended, read, is_quiet_action, is_quiet_control, is_quiet_message, is_quiet_stack, is_quiet_step, is_quiet_at, is_quiet, is_calm, Outcome, makes, sends, asks, sleeps, tag_of, unwound, caught_at, illegal, goes_on, goes_to, changes, decides, has_size, is_tagged, with_one, with_two, tests, trims_newest, trims_in, stacks, returns_to, returns_from, controls, with_message_at, waits, message_rows, perform, performs, outcome_at, outcome}
+use Rattle.beam_term.specs.Prelude.{TermValue}
 use Rattle.beam_machine.specs.declared.action.Action.TheVariants.{Test, Compute, Data, Control, Stack, Catching, Messaging}
 use Rattle.beam_machine.specs.declared.action.Control.{Control as TheControl}
 use Rattle.beam_machine.specs.declared.action.Control.TheVariants as control
 use Rattle.beam_machine.specs.declared.action.Messaging.{Messaging as TheMessaging}
 use Rattle.beam_machine.specs.declared.action.Messaging.TheVariants as messaging
-use Rattle.beam_machine.specs.declared.action.Source.{Source}
 use Rattle.beam_machine.specs.declared.action.Source.TheVariants as source
 use Rattle.beam_machine.specs.declared.action.Stack.{Stack as TheStack}
 use Rattle.beam_machine.specs.declared.action.Stack.TheVariants as stack
-use Rattle.beam_machine.specs.declared.action.Step.{Step}
 use Rattle.beam_machine.specs.declared.action.Test.{Test as TheTest}
 use Rattle.beam_machine.specs.declared.action.Test.TheVariants as test
-use Rattle.beam_machine.specs.declared.process.Frame.{Frame}
 use Rattle.beam_machine.specs.declared.process.Goes.{Goes}
-use Rattle.beam_machine.specs.declared.process.Goes.TheVariants.{At, Enter, Nowhere}
-use Rattle.beam_machine.specs.declared.process.Slot.{Slot}
 use Rattle.beam_machine.specs.declared.process.Tag.{Tag}
 use Rattle.beam_model.specs.declared.exception.Exception.{Exception}
-use Rattle.beam_model.specs.declared.exception.Exception.TheVariants as exception
 use Rattle.beam_model.specs.declared.exception.Fault.TheVariants.{IllegalOperand}
-use Rattle.beam_model.specs.Mailbox.{message_at, with_next, with_removed}
-use Rattle.beam_model.specs.Native.{compares, is_of_type}
-use Rattle.beam_model.specs.Place.{Place}
-use Rattle.beam_machine.specs.Code.{Code, step_of}
-use Rattle.beam_machine.specs.Process.{Process, dropped, without_slots, with_slots, ended, is_ended, read}
-use Rattle.beam_machine.specs.Quiet.{is_quiet_action, is_quiet_control, is_quiet_message, is_quiet_stack, is_quiet_step, is_quiet_at, is_quiet, is_calm}
-use Rattle.beam_machine.specs.Row.{Outcome, makes, sends, asks, sleeps, tag_of, unwound, caught_at, illegal, goes_on, goes_to, changes, decides, has_size, is_tagged, with_one, with_two, tests, trims_newest, trims_in, stacks, returns_to, returns_from, controls, with_message_at, waits, message_rows, perform, performs, outcome_at, outcome}
+use Rattle.beam_model.specs.Prelude.{message_at, with_next, with_removed, compares, is_of_type, Place}
+use Rattle.beam_model.specs.declared.exception.Exception.TheVariants as exception
 
 abbrev over : Process → Bool
 over p = is_ended p.status

@@ -1,45 +1,26 @@
 -- Signals that are posted before their sender's rows take effect, in place of after it.
-use Rattle.std.proofs.Common.{◌≡◌, ◌≢◌, ℕ, ◌==◌, eq-eqb, true≢false, Bool, true, false, cond, List, [], ◌∷◌, ◌++◌, append_assoc, append-nil, refl, sym, ap, subst, ◌∙◌, arith}
+use Rattle.std.proofs.Common.{◌≡◌, ◌≢◌, ℕ, ◌==◌, eq-eqb, true≢false, Bool, true, false, cond, List, [], ◌∷◌, ◌++◌, append_assoc, append-nil, refl, sym, ap, subst, ◌∙◌, arith, Option, Some, None, option_map}
 use Rattle.std.proofs.lemmas.Bool.Decides.{nat_tests}
-use Rattle.std.specs.Prelude.{Option, Some, None, option_map}
 use Rattle.beam_machine.specs.declared.event.Then.TheVariants.{GoesOn}
 use Rattle.beam_machine.specs.declared.process.Signal.{Signal}
 use Rattle.beam_machine.specs.declared.process.Status.{Status}
 use Rattle.beam_machine.specs.declared.process.Status.TheVariants.{Running, Waiting, Ended}
-use Rattle.beam_machine.specs.Code.{Code}
-use Rattle.beam_machine.specs.Private.{Private, Sent}
-use Rattle.beam_machine.specs.Process.{Process, is_running, is_ended, then_of}
-use Rattle.beam_machine.specs.State.{process_of, with_process, alive, live_process, posted_to, posted}
-use Rattle.beam_laws.specs.Orderly.{Follows}
-use Rattle.beam_laws.specs.Private.{with_name_and_transit, with_signals, posted_all, after_private, with_name_and_transit_of}
-use Rattle.beam_laws.specs.Signals.{signals_to}
-use Rattle.beam_laws.proofs.Ending.{alive_is, runs_on}
+use Rattle.beam_machine.specs.Prelude.{Code, Private, Sent, Process, is_running, is_ended, then_of, process_of, with_process, alive, posted_to, posted}
+use Rattle.beam_laws.specs.Prelude.{Follows, with_name_and_transit, with_signals, posted_all, after_private, with_name_and_transit_of, signals_to}
+use Rattle.beam_laws.proofs.Ending.{runs_on}
 use Rattle.beam_laws.proofs.Follows.{on}
-use Rattle.beam_laws.proofs.Numbered.{positive, put_same, put_put, put_commutes, put_here, put_elsewhere, alive_of, gone}
+use Rattle.beam_laws.proofs.Numbered.{put_same, put_put, put_here, alive_of, gone}
 use Rattle.beam_laws.proofs.Posting.{posted_at, all_posted_at}
 use Rattle.beam_laws.proofs.Private.{having_status}
-use Rattle.beam_state.specs.Parts.{Parts, node, then_at, with_processes}
+use Rattle.beam_laws.proofs.Commits.{elsewhere}
+use Rattle.beam_state.specs.Prelude.{Parts, node, then_at, with_processes, CanReplace}
 use Rattle.beam_codesrv.specs.Posting.{all_taken}
-use Rattle.beam_state.specs.Posting.{CanReplace}
 use Rattle.beam_codesrv.proofs.Untaken.{all_untaken}
 use Rattle.beam_core.specs.Installing.{notices_at}
 use Rattle.beam_core.proofs.Apart.{having_follows}
 use Rattle.beam_core.proofs.Telling.{HavePids, all_told}
 
 -- ---- one signal, and the process put
-
-to_other : (ps : List Process) (pid to : ℕ) (signal : Signal) (q r : Process) (o : Option Process) → process_of ps pid ≡ Some q → pid ≢ to → live_process ps to ≡ o
-    → with_process (posted_to ps to signal o) pid r ≡ posted_to (with_process ps pid r) to signal o
-to_other ps pid to signal q r None e ne l = refl
-to_other ps pid to signal q r (Some x) e ne l =
-    let there : process_of ps to ≡ Some x = (alive_is (process_of ps to) x l).0 in
-    sym (put_commutes ps pid to r (record x { transit = x.transit ++ signal ∷ [] }) ne (positive ps pid q e) (positive ps to x there))
-
-elsewhere : (ps : List Process) (pid to : ℕ) (signal : Signal) (q r : Process) → process_of ps pid ≡ Some q → pid ≢ to
-    → with_process (posted ps to signal) pid r ≡ posted (with_process ps pid r) to signal
-elsewhere ps pid to signal q r e ne =
-    to_other ps pid to signal q r (live_process ps to) e ne refl
-    ∙ ap (λ o. posted_to (with_process ps pid r) to signal (alive o)) (sym (put_elsewhere ps pid to r (λ h. ne (sym h)) (positive ps pid q e)))
 
 own : (ps : List Process) (pid : ℕ) (signal : Signal) (q : Process) → process_of ps pid ≡ Some q → is_ended q.status ≡ false
     → posted ps pid signal ≡ with_process ps pid (record q { transit = q.transit ++ signal ∷ [] })

@@ -1,6 +1,5 @@
 pub mod Accepted
 pub mod Apart
-pub mod Asking
 pub mod Effects
 pub mod Ending
 pub mod Installing

@@ -1,36 +1,26 @@
 -- The rows of the process of a number.
-use Rattle.std.proofs.Common.{◌≡◌, ℕ, zero, suc, ◌+◌, ◌<◌, Bool, true, false, cond, List, refl, sym, ap, subst, ◌∙◌, arith, add-one, true≢false}
+use Rattle.std.proofs.Common.{◌≡◌, ℕ, zero, suc, ◌+◌, ◌<◌, Bool, true, false, cond, List, refl, sym, ap, subst, ◌∙◌, arith, add-one, true≢false, Option, Some, None, Ok, Err, option_map}
 use Rattle.std.specs.declared.alloc.AllocError.{AllocError}
-use Rattle.std.specs.Prelude.{Option, Some, None, Ok, Err, option_map}
+use Rattle.std.proofs.lemmas.Option.{same_Some}
+use Rattle.beam_term.specs.Prelude.{TermValue}
+use Rattle.beam_model.specs.Prelude.{Place}
 use Rattle.beam_machine.specs.declared.event.Then.{Then}
 use Rattle.beam_machine.specs.declared.event.Then.TheVariants.{GoesOn, Waits as WaitsThen}
 use Rattle.beam_machine.specs.declared.process.Status.{Status}
 use Rattle.beam_machine.specs.declared.process.Status.TheVariants.{Running}
-use Rattle.beam_model.specs.Place.{Place}
-use Rattle.beam_term.specs.TermValue.{TermValue}
-use Rattle.beam_machine.specs.Code.{Code}
-use Rattle.beam_machine.specs.Process.{Process, ended, is_running, is_ended, then_of}
-use Rattle.beam_machine.specs.Row.{makes, outcome}
-use Rattle.beam_machine.specs.State.{State, process_of, with_process}
-use Rattle.beam_machine.specs.Debug.{and_one, halting}
-use Rattle.beam_machine.specs.Next.{done_by, running, row}
-use Rattle.beam_machine.specs.Quiet.{IsLoud}
-use Rattle.beam_laws.proofs.Ending.{is_there}
+use Rattle.beam_machine.specs.Prelude.{Code, Process, ended, is_running, is_ended, then_of, makes, outcome, State, process_of, with_process, and_one, halting, done_by, running, row, IsLoud}
 use Rattle.beam_laws.proofs.Hearing.{none_hear}
 use Rattle.beam_laws.proofs.Numbered.{put_same, put_put, put_here}
 use Rattle.beam_laws.proofs.Follows.{Follows, Comes, on, outcome_comes}
 use Rattle.beam_rows.specs.declared.request.Request.{Request}
 use Rattle.beam_rows.specs.declared.run.StopReason.{StopReason}
 use Rattle.beam_rows.specs.declared.run.StopReason.TheVariants.{AtLimit, Waits, Ends, Asks, AtSpot, Refused}
-use Rattle.beam_rows.specs.Asked.{asked, can_ask}
-use Rattle.beam_rows.specs.Private.{LeadsTo}
-use Rattle.beam_rows.specs.Spots.{ClearRows, Halts, is_stopped, passes_after}
-use Rattle.beam_state.specs.Asking.{Responds, ending}
-use Rattle.beam_state.specs.Parts.{Parts, node, then_at, with_processes}
+use Rattle.beam_rows.specs.Prelude.{asked, can_ask, LeadsTo, ClearRows, Halts, is_stopped, passes_after}
+use Rattle.beam_state.specs.Prelude.{Responds, ending, Parts, node, then_at, with_processes}
 use Rattle.beam_state.proofs.Responding.{runs_there}
 use Rattle.beam_core.specs.Halt.{rows_done, rows_stopped}
 use Rattle.beam_core.specs.Rows.{CanAsk, PrivateRows, RowsAre, StopsNext}
-use Rattle.beam_core.proofs.Asking.{asked_loud}
+use Rattle.beam_rows.proofs.AskedLoud.{asked_loud}
 use Rattle.beam_core.proofs.Ending.{ended_loud}
 use Rattle.beam_core.proofs.Stepping.{halts_more, halts_row, halts_stop, one_halts}
 
@@ -193,7 +183,7 @@ pub asks_can : (code : Code) (spots : List Place) (passes : Bool) (pid n : ℕ) 
     → PrivateRows code spots passes pid n old count (Asks request) new → CanAsk pid request new.processes
 asks_can code spots passes pid n old count request new runs h =
     let r = ran_so code spots passes pid n old count (Asks request) new runs h in
-    λ p found. subst (λ p. can_ask p request ≡ true) (is_there r.q p (sym r.there ∙ found)) r.stops.0.3
+    λ p found. subst (λ p. can_ask p request ≡ true) (same_Some r.q p (sym r.there ∙ found)) r.stops.0.3
 
 pub rows_asked : (code : Code) (spots : List Place) (passes : Bool) (pid n : ℕ) (old : Parts) (count : ℕ) (request : Request) (mid new : Parts) (after : Then) → then_at old.processes pid ≡ Some GoesOn
     → PrivateRows code spots passes pid n old count (Asks request) mid → Responds mid pid (λ p. asked p request) (Ok after) new

@@ -1,20 +1,13 @@
 -- Rows that were executed apart add no monitor to their process.
-use Rattle.std.proofs.Common.{◌≡◌, ℕ, zero, suc, Bool, true, false, cond, not, List, refl, sym, ap, subst, ◌∙◌}
-use Rattle.std.specs.Prelude.{◌&&◌, Option, Some}
-use Rattle.beam_machine.specs.declared.process.Signal.{Signal}
-use Rattle.beam_model.specs.Place.{Place}
-use Rattle.beam_machine.specs.Code.{Code}
-use Rattle.beam_machine.specs.Debug.{is_at_spot}
-use Rattle.beam_machine.specs.Private.{Private, at_spot, after_row, stops, private_by, private_to_spot}
-use Rattle.beam_machine.specs.Process.{Process, is_running, is_ended}
-use Rattle.beam_machine.specs.Row.{Outcome, makes, sends, asks, sleeps, outcome}
-use Rattle.beam_machine.specs.State.{State, process_of}
-use Rattle.beam_laws.specs.Monitors.{ArePart, MonitorsNoMore, Rise, AreRising}
-use Rattle.beam_laws.specs.Private.{with_name_and_transit}
+use Rattle.std.proofs.Common.{◌≡◌, ℕ, zero, suc, Bool, true, false, cond, not, List, refl, sym, ap, subst, ◌∙◌, ◌&&◌, Some}
+use Rattle.beam_model.specs.Prelude.{Place}
+use Rattle.beam_machine.specs.Prelude.{Code, is_at_spot, Private, at_spot, after_row, stops, private_by, private_to_spot, Process, is_running, is_ended, Outcome, makes, sends, asks, sleeps, outcome, State, process_of}
+use Rattle.beam_laws.specs.Prelude.{ArePart, MonitorsNoMore, Rise, AreRising}
 use Rattle.beam_laws.proofs.Ending.{runs_on}
 use Rattle.beam_laws.proofs.Monitoring.{all_are, part_of_part, row_part}
 use Rattle.beam_laws.proofs.Rising.{RisesIf, process_up}
-use Rattle.beam_rows.specs.Private.{LeadsTo}
+use Rattle.beam_rows.specs.Prelude.{LeadsTo}
+use Rattle.beam_state.proofs.Replacing.{having_monitors}
 use Rattle.beam_core.specs.Installing.{AreRowsOf}
 
 -- ---- private rows
@@ -46,9 +39,6 @@ rows_part spots code (suc n) passes p = go (is_running p.status) refl (not passe
     go true r false h = part_by (private_to_spot spots false code n) h p (outcome code p) (row_part code p (runs_on p.status r))
 
 -- ---- references rise
-
-having_monitors : (name : Option (List ℕ)) (transit : List Signal) (p : Process) → (with_name_and_transit name transit p).monitors ≡ p.monitors
-having_monitors name transit p = elim (is_ended p.status) as (λ b. (cond {A = Process} b p (record p { name = name; transit = transit })).monitors ≡ p.monitors) [ true ↦ refl | false ↦ refl ]
 
 there_rise : (count : ℕ) (ps : List Process) (pid : ℕ) (p : Process) → AreRising count ps → process_of ps pid ≡ Some p → Rise 0 count p.monitors
 there_rise count ps pid p h e = subst (RisesIf count) e (process_up count ps pid h)

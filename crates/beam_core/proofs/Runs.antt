@@ -1,13 +1,9 @@
 -- Runs of events, one event at a time.
-use Rattle.std.proofs.Common.{◌≡◌, List, [], ◌∷◌, ◌++◌, length, refl, sym, ap, subst, ◌∙◌, arith, append_assoc, Err}
-use Rattle.std.proofs.lemmas.List.{append-nil}
+use Rattle.std.proofs.Common.{◌≡◌, List, [], ◌∷◌, ◌++◌, length, refl, sym, ap, subst, ◌∙◌, arith, append_assoc, Err, append-nil}
+use Rattle.beam_model.specs.Prelude.{Listing}
 use Rattle.beam_machine.specs.declared.event.Event.{Event as TheEvent}
 use Rattle.beam_machine.specs.declared.event.Refused.TheVariants.{NoMemory}
-use Rattle.beam_model.specs.Listing.{Listing}
-use Rattle.beam_machine.specs.State.{State}
-use Rattle.beam_machine.specs.Next.{Answer, Next, next}
-use Rattle.beam_machine.specs.Run.{Answers, Run, run, effective_events, effective_answers, effective_event, effective_answer, cut_event, after}
-use Rattle.beam_machine.specs.Quiet.{Each}
+use Rattle.beam_machine.specs.Prelude.{State, Answer, Next, next, Answers, Run, run, effective_events, effective_answers, effective_event, effective_answer, cut_event, after, Each}
 
 abbrev Event : Type 0
 Event = TheEvent Listing

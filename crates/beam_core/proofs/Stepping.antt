@@ -1,22 +1,18 @@
 -- Runs of rows that stop before break spots, one row at a time.
-use Rattle.std.proofs.Common.{◌≡◌, ◌≢◌, ℕ, suc, zero, ◌+◌, ◌-◌, ◌≤◌, ◌<◌, nat_lt, Bool, true, false, not, cond, List, [], Option, Some, None, Ok, refl, sym, ap, ◌∙◌, arith}
+use Rattle.std.proofs.Common.{◌≡◌, ◌≢◌, ℕ, suc, zero, ◌+◌, ◌-◌, ◌≤◌, ◌<◌, nat_lt, Bool, true, false, not, cond, List, [], Option, Some, None, Ok, refl, sym, ap, ◌∙◌, arith, ◌&&◌, option_map}
 use Rattle.std.proofs.lemmas.Bool.Decides.{nat_tests}
-use Rattle.std.specs.Prelude.{◌&&◌, option_map}
-use Rattle.beam_machine.specs.declared.process.Goes.{Goes}
 use Rattle.beam_machine.specs.declared.process.Status.{Status}
 use Rattle.beam_machine.specs.declared.process.Status.TheVariants.{Running, Waiting, Ended}
 use Rattle.beam_machine.specs.declared.event.Then.{Then}
 use Rattle.beam_machine.specs.declared.event.Then.TheVariants.{GoesOn}
 use Rattle.beam_machine.specs.declared.event.Reply.TheVariants.{Ran}
-use Rattle.beam_machine.specs.Debug.{Halting, halting, halts_or, no_rows, and_one, is_at_spot}
-use Rattle.beam_machine.specs.Process.{Process, is_running, then_of}
-use Rattle.beam_machine.specs.State.{State, process_of}
-use Rattle.beam_machine.specs.Next.{Rows, running, row, row_and, steps, ran, ran_to, replied}
-use Rattle.beam_machine.specs.Run.{effective_rows}
-use Rattle.beam_model.specs.Place.{Place}
-use Rattle.beam_rows.specs.Spots.{is_stopped, passes_after}
-use Rattle.beam_rows.proofs.Clearing.{no_spot, passes_no_more}
-use Rattle.beam_state.specs.Parts.{then_at}
+use Rattle.beam_machine.specs.Prelude.{Halting, halting, halts_or, no_rows, and_one, is_at_spot, Process, is_running, then_of, State, process_of, Rows, running, row, row_and, ran, ran_to, replied, effective_rows}
+use Rattle.beam_machine.specs.Next.{steps}
+use Rattle.beam_model.specs.Prelude.{Place}
+use Rattle.beam_rows.specs.Prelude.{is_stopped, passes_after}
+use Rattle.beam_rows.proofs.Clearing.{passes_no_more}
+use Rattle.beam_state.specs.Prelude.{then_at}
+use Rattle.beam_laws.proofs.Spots.{none_at}
 use Rattle.beam_core.specs.Halt.{rows_done, rows_stopped}
 
 -- ---- the first of some rows
@@ -178,10 +174,6 @@ passed passes (suc n) h = refl
 
 -- ---- without break spots
 
-none_stopped : (passes : Bool) (goes : Goes) → (not passes && is_at_spot [] goes) ≡ false
-none_stopped true goes = refl
-none_stopped false goes = no_spot goes
-
 whole : Rows → Halting
 whole rows = record { rows = rows; stopped = false }
 
@@ -190,7 +182,7 @@ unhalted_by : (passes : Bool) (s : State) (pid : ℕ) (halts : State → Halting
 unfolding whole
 unhalted_by passes s pid halts rest None same = refl
 unhalted_by passes s pid halts rest (Some p) same =
-    ap (λ b. cond {A = Halting} b (no_rows s true) (and_one (halts (row s pid p)))) (none_stopped passes p.goes) ∙ ap and_one (same (row s pid p))
+    ap (λ b. cond {A = Halting} b (no_rows s true) (and_one (halts (row s pid p)))) (none_at passes p.goes) ∙ ap and_one (same (row s pid p))
 
 unhalted : (n : ℕ) (passes : Bool) (s : State) (pid : ℕ) → halting [] passes s pid n ≡ whole (steps s pid n)
 unfolding whole

@@ -1,41 +1,23 @@
 -- The DOWNs posted at the end of a process are what others hear of it.
-use Rattle.std.proofs.Common.{◌≡◌, ℕ, suc, ◌+◌, ◌-◌, ◌==◌, eq-eqb, true≢false, nat_lt, Bool, true, false, cond, List, [], ◌∷◌, ◌++◌, append-nil, slice_get, refl, sym, ap, ◌∙◌, arith}
+use Rattle.std.proofs.Common.{◌≡◌, ℕ, ◌+◌, ◌-◌, ◌==◌, eq-eqb, true≢false, nat_lt, Bool, true, false, cond, List, [], ◌++◌, append-nil, slice_get, refl, sym, ap, ◌∙◌, arith, Option, Some, None, option_map}
 use Rattle.std.proofs.lemmas.Bool.Decides.{nat_tests}
-use Rattle.std.specs.Prelude.{Option, Some, None, option_map}
-use Rattle.beam_term.specs.TermValue.{TermValue}
 use Rattle.beam_machine.specs.declared.process.Signal.{Signal}
 use Rattle.beam_machine.specs.declared.process.Status.{Status}
 use Rattle.beam_machine.specs.declared.process.Status.TheVariants.{Running, Waiting, Ended}
-use Rattle.beam_machine.specs.Private.{Sent}
-use Rattle.beam_machine.specs.Process.{Process, is_ended, then_of}
-use Rattle.beam_machine.specs.State.{process_of, with_process, with_signals, downs, posted, hearing_by}
-use Rattle.beam_laws.specs.Private.{posted_all}
-use Rattle.beam_laws.specs.Signals.{signals_to}
+use Rattle.beam_machine.specs.Prelude.{Sent, Process, is_ended, then_of, process_of, with_process, with_signals, downs, hearing_by}
+use Rattle.beam_term.specs.Prelude.{TermValue}
+use Rattle.beam_laws.specs.Prelude.{posted_all, signals_to}
 use Rattle.beam_laws.proofs.Hearing.{gets_none, hears, hearing_at, hearing_here, heard_same}
 use Rattle.beam_laws.proofs.Numbered.{positive, put_here, put_elsewhere}
 use Rattle.beam_laws.proofs.Posting.{said, all_posted_at, each_sent_to}
-use Rattle.beam_state.specs.Parts.{Parts, with_processes}
+use Rattle.beam_state.specs.Prelude.{Parts, with_processes, notices_of}
 use Rattle.beam_codesrv.specs.Posting.{all_taken}
-use Rattle.beam_state.specs.Posting.{notices_of}
+use Rattle.beam_state.proofs.Posted.{all_posted_more}
 use Rattle.beam_codesrv.proofs.Untaken.{all_untaken}
+use Rattle.beam_codesrv.proofs.Heard.{same_lists}
 use Rattle.beam_core.specs.Installing.{notices_at}
 
 -- ---- lists of processes that are the same at each number
-
-same_lists : {A : Type 0} (xs ys : List A) → ((i : ℕ) → slice_get xs i ≡ slice_get ys i) → xs ≡ ys
-same_lists [] [] same = refl
-same_lists [] (y ∷ ys) same = absurd (none_some y (same 0))
-  where
-    none_some : {A : Type 0} (y : A) → None ≡ Some y → ⊥
-    none_some y e = cc
-same_lists (x ∷ xs) [] same = absurd (some_none x (same 0))
-  where
-    some_none : {A : Type 0} (x : A) → Some x ≡ None → ⊥
-    some_none x e = cc
-same_lists (x ∷ xs) (y ∷ ys) same = ap (λ z. z ∷ xs) (some_is x y (same 0)) ∙ ap (λ zs. y ∷ zs) (same_lists xs ys (λ i. same (suc i)))
-  where
-    some_is : {A : Type 0} (x y : A) → Some x ≡ Some y → x ≡ y
-    some_is x y e = cc
 
 pub same_processes : (xs ys : List Process) → ((n : ℕ) → process_of xs n ≡ process_of ys n) → xs ≡ ys
 same_processes xs ys same = same_lists xs ys (λ i. sym (at i xs) ∙ (same (i + 1) ∙ at i ys))
@@ -48,17 +30,13 @@ same_processes xs ys same = same_lists xs ys (λ i. sym (at i xs) ∙ (same (i +
 
 -- ---- signals after others
 
-pub posted_after : (ps : List Process) (xs ys : List Sent) → posted_all ps (xs ++ ys) ≡ posted_all (posted_all ps xs) ys
-posted_after ps [] ys = refl
-posted_after ps (x ∷ xs) ys = posted_after (posted ps x.to x.signal) xs ys
-
 pub all_posted : (old mid new : Parts) (sent more xs : List Sent) → mid ≡ with_processes old (posted_all old.processes sent) → xs ≡ more
     → new ≡ with_processes mid (posted_all mid.processes xs) → new ≡ with_processes old (posted_all old.processes (sent ++ more))
 all_posted old mid new sent more xs first same then =
     then
     ∙ (ap (λ ts. with_processes mid (posted_all mid.processes ts)) same
     ∙ (ap (λ (s : Parts). with_processes s (posted_all s.processes more)) first
-    ∙ ap (λ ps. with_processes old ps) (sym (posted_after old.processes sent more))))
+    ∙ ap (λ ps. with_processes old ps) (sym (all_posted_more old.processes sent more))))
 
 -- signals that were posted last are taken back
 pub taken_back : (old mid cur new : Parts) (sent : List Sent) → mid ≡ with_processes old (posted_all old.processes sent) → cur ≡ mid
@@ -129,7 +107,7 @@ all_told ps pid q r sent (Ended reason value) pids e is =
     let qs : List Process = with_process ps pid r in
     let here : process_of (posted_all qs sent) pid ≡ Some r =
     all_posted_at qs pid sent ∙ (ap (option_map (with_signals (signals_to pid sent))) (put_here ps pid q r e) ∙ ap Some (gets_none (signals_to pid sent) r (ap is_ended is))) in
-    posted_after qs sent (notices_of ps pid reason) ∙ all_hear pid reason value ps (posted_all qs sent) r pids here is (others qs refl)
+    all_posted_more qs sent (notices_of ps pid reason) ∙ all_hear pid reason value ps (posted_all qs sent) r pids here is (others qs refl)
   where
     others : (qs : List Process) → qs ≡ with_process ps pid r → Others pid ps (posted_all qs sent)
     others qs same n other = (

@@ -1,15 +1,12 @@
 -- Rows of a process that stop before a break spot, where memory may be refused. (This node's own.)
 use Rattle.std.specs.Prelude.{◌≡◌, ℕ, Bool, true, false, nat_lt, IsTrue, List, Option, Some, None, Result, Ok, Err}
+use Rattle.beam_model.specs.Prelude.{Place}
 use Rattle.beam_machine.specs.declared.event.Refused.{Refused}
 use Rattle.beam_machine.specs.declared.event.Refused.TheVariants.{NoMemory}
 use Rattle.beam_machine.specs.declared.event.Then.{Then}
 use Rattle.beam_machine.specs.declared.event.Then.TheVariants.{GoesOn}
-use Rattle.beam_model.specs.Place.{Place}
-use Rattle.beam_machine.specs.Debug.{Halting, halting}
-use Rattle.beam_machine.specs.Quiet.{IsLoud}
-use Rattle.beam_machine.specs.Run.{effective_rows}
-use Rattle.beam_machine.specs.State.{State, process_of}
-use Rattle.beam_state.specs.Parts.{then_at}
+use Rattle.beam_machine.specs.Prelude.{Halting, halting, IsLoud, effective_rows, State, process_of}
+use Rattle.beam_state.specs.Prelude.{then_at}
 
 -- `count` rows are executed
 abbrev pub rows_done : ℕ → State → Halting

@@ -2,14 +2,11 @@
 use Rattle.std.specs.Prelude.{◌≡◌, ◌≢◌, ℕ, ◌+◌, Bool, true, false, List, [], Some}
 use Rattle.beam_machine.specs.declared.event.Then.{Then}
 use Rattle.beam_machine.specs.declared.event.Then.TheVariants.{GoesOn, Waits, Ended}
-use Rattle.beam_model.specs.Place.{Place}
-use Rattle.beam_machine.specs.Next.{Rows, steps}
-use Rattle.beam_machine.specs.Private.{Private, Sent, End, before_node_row, private_to_spot}
-use Rattle.beam_machine.specs.Process.{Process, is_running, is_ended}
-use Rattle.beam_machine.specs.State.{State, process_of}
-use Rattle.beam_laws.specs.Private.{IsStill, after_private, before, with_name_and_transit_of}
-use Rattle.beam_state.specs.Parts.{then_at}
-use Rattle.beam_state.specs.Posting.{notices_of}
+use Rattle.beam_machine.specs.Prelude.{Rows, Private, Sent, End, before_node_row, private_to_spot, Process, is_running, is_ended, State, process_of}
+use Rattle.beam_model.specs.Prelude.{Place}
+use Rattle.beam_machine.specs.Next.{steps}
+use Rattle.beam_laws.specs.Prelude.{IsStill, after_private, before, with_name_and_transit_of}
+use Rattle.beam_state.specs.Prelude.{then_at, notices_of}
 
 -- rows of the running process of a number, over the node's code: the process is still the one with which they began, but for its name and
 -- the signals in transit to it

@@ -1,20 +1,14 @@
 -- What rows of a process make of the node, where memory may be refused.
 use Rattle.std.specs.Prelude.{◌≡◌, ℕ, ◌<◌, ◌≤◌, Bool, true, List, Option, Some, None, IfSome, Result, Ok, Err}
 use Rattle.std.specs.declared.alloc.AllocError.{AllocError}
+use Rattle.beam_model.specs.Prelude.{Place}
 use Rattle.beam_machine.specs.declared.event.Then.{Then}
 use Rattle.beam_machine.specs.declared.event.Then.TheVariants.{GoesOn}
-use Rattle.beam_model.specs.Place.{Place}
-use Rattle.beam_machine.specs.Code.{Code}
-use Rattle.beam_machine.specs.Process.{Process}
-use Rattle.beam_machine.specs.State.{process_of, with_process}
-use Rattle.beam_machine.specs.Debug.{halting}
-use Rattle.beam_machine.specs.Quiet.{IsLoud}
+use Rattle.beam_machine.specs.Prelude.{Code, Process, process_of, with_process, halting, IsLoud}
 use Rattle.beam_rows.specs.declared.request.Request.{Request}
 use Rattle.beam_rows.specs.declared.run.StopReason.{StopReason}
-use Rattle.beam_rows.specs.Asked.{can_ask}
-use Rattle.beam_rows.specs.Private.{LeadsTo}
-use Rattle.beam_rows.specs.Spots.{ClearRows, Halts, is_stopped, passes_after}
-use Rattle.beam_state.specs.Parts.{Parts, node, then_at, with_processes}
+use Rattle.beam_rows.specs.Prelude.{can_ask, LeadsTo, ClearRows, Halts, is_stopped, passes_after}
+use Rattle.beam_state.specs.Prelude.{Parts, node, then_at, with_processes}
 use Rattle.beam_core.specs.Halt.{rows_done}
 
 -- the process of that number can ask this

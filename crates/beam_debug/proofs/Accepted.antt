@@ -1,30 +1,22 @@
 -- Events that only an allocation failure refuses, and rows that memory doesn't stop before a quiet row.
-use Rattle.std.proofs.Common.{◌≡◌, ℕ, zero, suc, ◌<◌, ◌≤◌, ◌==◌, ◌||◌, Bool, true, false, cond, not, List, length, refl, sym, ap, subst, ◌∙◌, arith, Ok, Err}
+use Rattle.std.proofs.Common.{◌≡◌, ℕ, zero, suc, ◌<◌, ◌≤◌, ◌==◌, ◌||◌, Bool, true, false, cond, not, List, length, refl, sym, ap, subst, ◌∙◌, arith, Ok, Err, ◌&&◌, Option, Some, None, is_ok, is_some}
 use Rattle.std.proofs.lemmas.Bool.Decides.{nat_tests}
-use Rattle.std.specs.Prelude.{◌&&◌, Option, Some, None, is_ok, is_some}
-use Rattle.beam_machine.specs.declared.debug.DebugEvent.TheVariants.{Node as NodeEvent, SetBreak, Resume, StepOne, Inspect}
-use Rattle.beam_machine.specs.declared.debug.DebugReply.TheVariants.{Node}
+use Rattle.beam_machine.specs.declared.debug.DebugEvent.TheVariants.{SetBreak, Resume, StepOne, Inspect, Node as NodeEvent}
 use Rattle.beam_machine.specs.declared.debug.Spot.{Spot}
 use Rattle.beam_machine.specs.declared.event.Event.{Event}
-use Rattle.beam_machine.specs.declared.event.Event.TheVariants as event
 use Rattle.beam_machine.specs.declared.event.Reply.TheVariants.{Ran}
 use Rattle.beam_machine.specs.declared.event.Refused.{Refused}
 use Rattle.beam_machine.specs.declared.event.Refused.TheVariants.{NoMemory, NotReady}
 use Rattle.beam_machine.specs.declared.event.Then.{Then}
 use Rattle.beam_machine.specs.declared.event.Then.TheVariants.{GoesOn, Waits, Ended}
-use Rattle.beam_model.specs.Listing.{Listing}
-use Rattle.beam_model.specs.Place.{Place}
-use Rattle.beam_machine.specs.Process.{Process, is_waiting}
-use Rattle.beam_machine.specs.State.{State, process_of, live_process}
-use Rattle.beam_machine.specs.Next.{Answer, Rows, next, row, row_and, running, steps}
-use Rattle.beam_machine.specs.Quiet.{IsLoud, LacksMemory, is_upgrade}
-use Rattle.beam_machine.specs.Debug.{Debugged, DebugAnswer, DebugNext, is_among, is_at_spot, Halting, no_rows, and_one, halts_or, halting, refuses, answered, halted, stepped, steps_one, debug_step_one, debug_inspect, place_named, debug_next}
-use Rattle.beam_machine.specs.DebugRun.{DebugLacksMemory}
+use Rattle.beam_machine.specs.Prelude.{Process, is_waiting, State, process_of, live_process, Answer, Rows, next, row, row_and, running, IsLoud, LacksMemory, is_upgrade, Debugged, DebugAnswer, DebugNext, is_among, is_at_spot, Halting, no_rows, and_one, halts_or, halting, refuses, answered, halted, stepped, steps_one, debug_step_one, debug_inspect, place_named, debug_next, DebugLacksMemory}
+use Rattle.beam_machine.specs.declared.debug.DebugReply.TheVariants.{Node}
+use Rattle.beam_machine.specs.declared.event.Event.TheVariants as event
+use Rattle.beam_model.specs.Prelude.{Listing, Place}
+use Rattle.beam_machine.specs.Next.{steps}
 use Rattle.beam_laws.proofs.Refusing.{stays, steps_longer}
 use Rattle.beam_core.specs.Halt.{HaltsLoudly}
-use Rattle.beam_debug.specs.Answers.{Inspected}
-use Rattle.beam_debug.specs.Halt.{then_at, steps_in}
-use Rattle.beam_debug.specs.Loud.{DebugLoudly}
+use Rattle.beam_debug.specs.Prelude.{Inspected, then_at, steps_in, DebugLoudly}
 use Rattle.beam_debug.proofs.RowsToSpot.{standing}
 use Rattle.beam_debug.proofs.Changes.{set_some, resume_held}
 use Rattle.beam_debug.proofs.Debugging.{option_lives, steps_halt, of_event}

@@ -1,14 +1,12 @@
 -- The instructions before a position of a listing, searched from the position backwards.
-use Rattle.std.proofs.Common.{◌≡◌, ℕ, zero, suc, ◌+◌, Bool, true, false, cond, List, [], ◌∷◌, ◌++◌, take, refl, ap, ◌∙◌, arith}
-use Rattle.std.specs.Prelude.{Option, Some, None, is_some, option_and_then, slice_get}
+use Rattle.std.proofs.Common.{◌≡◌, ℕ, zero, suc, ◌+◌, Bool, true, false, cond, List, [], ◌∷◌, ◌++◌, take, refl, ap, ◌∙◌, arith, Option, Some, None, is_some, option_and_then, slice_get}
+use Rattle.beam_machine.specs.Prelude.{LastLabel, location_in, function_of, last_function, later, last_label, label_or_row}
 use Rattle.beam_model.specs.declared.function.Import.{Import}
 use Rattle.beam_model.specs.declared.instruction.Instruction.{Instruction}
-use Rattle.beam_model.specs.Listing.{label_of, is_row}
-use Rattle.beam_model.specs.Place.{Place}
-use Rattle.beam_machine.specs.View.{LastLabel, location_in, function_of, last_function, later, last_label, label_or_row}
+use Rattle.beam_model.specs.Prelude.{label_of, is_row, Place}
 use Rattle.beam_debug.specs.declared.label_or_rows.LabelOrRows.{LabelOrRows}
 use Rattle.beam_debug.specs.declared.label_or_rows.LabelOrRows.TheVariants.{Label, Rows}
-use Rattle.beam_debug.specs.LabelOrRows.{label_or_rows_at, label_or_rows_by}
+use Rattle.beam_debug.specs.Prelude.{label_or_rows_at, label_or_rows_by}
 
 -- the list of an element, if there is one
 abbrev one_of : Option Instruction → List Instruction

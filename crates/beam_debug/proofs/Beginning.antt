@@ -1,62 +1,40 @@
 -- A process begins only by rows of its own.
-use Rattle.std.proofs.Common.{◌≡◌, ℕ, zero, suc, ◌+◌, ◌-◌, ◌<◌, ◌≤◌, ◌&&◌, ◌||◌, ◌==◌, Bool, true, false, cond, not, nat_lt, List, [], ◌∷◌, ◌++◌, length, map, slice_get, refl, sym, ap, subst, ◌∙◌, true≢false, arith}
-use Rattle.std.proofs.lemmas.Option.{slice_get-map}
-use Rattle.std.specs.Prelude.{nat_le, codes, Option, Some, None, Result, option_map, slice_set, flat_map, unwrap_or}
-use Rattle.beam_term.specs.TermValue.{TermValue, atom_term, pid_term, nil_term}
+use Rattle.std.proofs.Common.{◌≡◌, ℕ, zero, suc, ◌+◌, ◌-◌, ◌<◌, ◌≤◌, ◌&&◌, ◌||◌, ◌==◌, Bool, true, false, cond, not, nat_lt, List, [], ◌∷◌, ◌++◌, length, map, slice_get, refl, sym, ap, subst, ◌∙◌, true≢false, arith, nat_le, codes, Option, Some, None, Result, slice_set, flat_map, unwrap_or}
+use Rattle.std.proofs.lemmas.Option.{slice_get-map, same_Some}
 use Rattle.beam_machine.specs.declared.callee.After.{After}
 use Rattle.beam_machine.specs.declared.event.Event.{Event}
-use Rattle.beam_machine.specs.declared.event.Event.TheVariants as event
 use Rattle.beam_machine.specs.declared.event.Refused.TheVariants.{BackwardClock, NotReady, TooMany}
 use Rattle.beam_machine.specs.declared.event.Reply.TheVariants.{Done, Started}
-use Rattle.beam_model.specs.declared.exception.Fault.{Fault}
-use Rattle.beam_model.specs.declared.exception.Fault.TheVariants.{Badarg, SystemLimit}
-use Rattle.beam_model.specs.declared.native.NodeNative.{NodeNative}
-use Rattle.beam_model.specs.declared.native.NodeNative.TheVariants.{Spawn, Register, Unregister, Whereis, IsProcessAlive, Exit, Send, MakeRef, Monitor}
 use Rattle.beam_machine.specs.declared.process.Deadline.{Deadline}
 use Rattle.beam_machine.specs.declared.process.Monitor.{Monitor as MonitorValue}
 use Rattle.beam_machine.specs.declared.process.Signal.{Signal}
 use Rattle.beam_machine.specs.declared.process.Signal.TheVariants.{Message, Exit as ExitSignal, Down}
 use Rattle.beam_machine.specs.declared.process.Status.{Status}
 use Rattle.beam_machine.specs.declared.process.Status.TheVariants.{Running}
-use Rattle.beam_model.specs.Listing.{Listing}
-use Rattle.beam_model.specs.Exception.{around}
-use Rattle.beam_model.specs.Native.{elements_in}
-use Rattle.beam_model.specs.Place.{Place}
-use Rattle.beam_model.specs.SameText.{same_text}
-use Rattle.beam_machine.specs.Change.{lingers_in_old, lingers_in_olds, pids_of, ends_or_hears, killing}
-use Rattle.beam_machine.specs.Debug.{Halting, is_at_spot, no_rows, and_one, halts_or, halting}
-use Rattle.beam_machine.specs.Next.{Next, refused, replied, Rows, continues, done_by, row, running, row_and, steps, received, signalled, down_term, notified, arrived, delivered, is_nothing, next_deliver, timed_out, next_timeout, sent_to, next_send, next}
-use Rattle.beam_machine.specs.NodeNative.{Answered, answer, fault, most_processes, spawns_with, names, registers, unnames, unregisters, is_alive, posted_if_own as signals, sends_named, most_references, makes_reference, or_noproc, put_monitor, monitored, monitors_by, answer_of}
-use Rattle.beam_machine.specs.Process.{Process, is_ended, is_waiting, started, own_pid, ended, killed, monitor_of, without_monitor}
-use Rattle.beam_machine.specs.Row.{Outcome, makes, sends, asks, sleeps, outcome, own_number, arguments_of, goes_on}
-use Rattle.beam_machine.specs.State.{State, process_of, with_process, live_process, registered, receiver_of, posted_to, posted, with_signals, downs, hearing_by, with_made}
-use Rattle.beam_machine.specs.Touch.{Touch, code, Touches, stays, in_turn, loads, deletes, ends, purges}
-use Rattle.beam_laws.specs.Private.{downs_of_end}
-use Rattle.beam_laws.proofs.Ending.{is_there, alive_is, at_index}
+use Rattle.beam_machine.specs.Prelude.{lingers_in_old, lingers_in_olds, pids_of, ends_or_hears, killing, Halting, is_at_spot, no_rows, and_one, halts_or, halting, Next, refused, replied, Rows, continues, done_by, row, running, row_and, received, signalled, down_term, notified, arrived, delivered, is_nothing, next_deliver, timed_out, next_timeout, sent_to, next_send, next, Answered, answer, fault, most_processes, spawns_with, names, registers, unnames, unregisters, is_alive, posted_if_own as signals, sends_named, most_references, makes_reference, or_noproc, put_monitor, monitored, monitors_by, answer_of, Process, is_ended, is_waiting, started, own_pid, ended, killed, monitor_of, without_monitor, Outcome, makes, sends, asks, sleeps, outcome, own_number, arguments_of, goes_on, State, process_of, with_process, live_process, registered, receiver_of, posted_to, posted, with_signals, downs, hearing_by, with_made, Touch, code, Touches, stays, in_turn, loads, deletes, ends, purges}
+use Rattle.beam_term.specs.Prelude.{TermValue, atom_term, pid_term, nil_term}
+use Rattle.beam_machine.specs.declared.event.Event.TheVariants as event
+use Rattle.beam_model.specs.declared.exception.Fault.{Fault}
+use Rattle.beam_model.specs.declared.exception.Fault.TheVariants.{Badarg, SystemLimit}
+use Rattle.beam_model.specs.declared.native.NodeNative.{NodeNative}
+use Rattle.beam_model.specs.declared.native.NodeNative.TheVariants.{Spawn, Register, Unregister, Whereis, IsProcessAlive, Exit, Send, MakeRef, Monitor}
+use Rattle.beam_model.specs.Prelude.{Listing, around, elements_in, Place, same_text}
+use Rattle.beam_machine.specs.Next.{steps}
+use Rattle.beam_laws.specs.Prelude.{downs_of_end}
+use Rattle.beam_laws.proofs.Ending.{alive_is, at_index}
 use Rattle.beam_laws.proofs.Hearing.{as_before, hears, hearing_is}
 use Rattle.beam_laws.proofs.Lookups.{left_false, right_false}
-use Rattle.beam_debug.specs.Halt.{steps_in}
-use Rattle.beam_debug.specs.Capacity.{is_at_row, has_begun, BeginBelow}
+use Rattle.beam_debug.specs.Prelude.{steps_in, is_at_row, has_begun, BeginBelow}
 use Rattle.beam_laws.proofs.Touching.{next_touches}
+use Rattle.beam_laws.proofs.Orderly.{got, mapped}
 
 -- ---- lists that are changed
 
-got : {C : Type 0} (ps : List Process) (i j : ℕ) (q r : Process) → slice_get (slice_set ps i q) j ≡ Some r → (i ≡ j → q ≡ r → C) → (slice_get ps j ≡ Some r → C) → C
-got [] i j q r e f g = g e
-got (p ∷ ps) zero zero q r e f g = f refl (is_there q r e)
-got (p ∷ ps) zero (suc j) q r e f g = g e
-got (p ∷ ps) (suc i) zero q r e f g = g e
-got (p ∷ ps) (suc i) (suc j) q r e f g = got ps i j q r e (λ s. f (ap suc s)) g
-
 pushed : {C : Type 0} (ps : List Process) (j : ℕ) (x r : Process) → slice_get (ps ++ x ∷ []) j ≡ Some r → (x ≡ r → C) → (slice_get ps j ≡ Some r → C) → C
-pushed [] zero x r e f g = f (is_there x r e)
+pushed [] zero x r e f g = f (same_Some x r e)
 pushed [] (suc j) x r e f g = g e
 pushed (p ∷ ps) zero x r e f g = g e
 pushed (p ∷ ps) (suc j) x r e f g = pushed ps j x r e f g
-
-mapped : {C : Type 0} (f : Process → Process) (o : Option Process) (q : Process) → option_map f o ≡ Some q → ((p : Process) → o ≡ Some p → f p ≡ q → C) → C
-mapped f None q e g = cc
-mapped f (Some p) q e g = g p refl (is_there (f p) q e)
 
 -- ---- processes that haven't begun
 

@@ -1,43 +1,28 @@
 -- Which processes can be held without memory, after an event.
-use Rattle.std.proofs.Common.{◌≡◌, ℕ, zero, suc, ◌+◌, ◌-◌, ◌<◌, ◌≤◌, ◌==◌, ◌||◌, Bool, true, false, cond, not, nat_lt, List, [], ◌∷◌, length, filter, refl, sym, ap, subst, ◌∙◌, true≢false, arith, Ok, Err}
+use Rattle.std.proofs.Common.{◌≡◌, ℕ, zero, suc, ◌+◌, ◌-◌, ◌<◌, ◌≤◌, ◌==◌, ◌||◌, Bool, true, false, cond, not, nat_lt, List, [], ◌∷◌, length, filter, refl, sym, ap, subst, ◌∙◌, true≢false, arith, Ok, Err, ◌&&◌, Option, Some, None, Result, IfOk, OnOk, OnErr, is_ok}
 use Rattle.std.proofs.lemmas.Bool.Decides.{nat_tests}
-use Rattle.std.specs.Prelude.{◌&&◌, Option, Some, None, Result, IfOk, OnOk, OnErr, is_ok}
 use Rattle.beam_machine.specs.declared.debug.DebugEvent.{DebugEvent}
-use Rattle.beam_machine.specs.declared.debug.DebugEvent.TheVariants.{Node as NodeEvent, SetBreak, ClearBreak, Resume, StepOne, Inspect}
+use Rattle.beam_machine.specs.declared.debug.DebugEvent.TheVariants.{SetBreak, ClearBreak, Resume, StepOne, Inspect, Node as NodeEvent}
 use Rattle.beam_machine.specs.declared.debug.DebugReply.{DebugReply}
-use Rattle.beam_machine.specs.declared.debug.DebugReply.TheVariants.{Node, Held, Viewed}
+use Rattle.beam_machine.specs.declared.debug.DebugReply.TheVariants.{Held, Viewed, Node}
 use Rattle.beam_machine.specs.declared.event.Event.{Event}
-use Rattle.beam_machine.specs.declared.event.Event.TheVariants as event
 use Rattle.beam_machine.specs.declared.event.Reply.TheVariants.{Done, Changed, Ran}
 use Rattle.beam_machine.specs.declared.event.Refused.{Refused}
 use Rattle.beam_machine.specs.declared.event.Refused.TheVariants.{NoMemory, NotReady, Stopped}
 use Rattle.beam_machine.specs.declared.event.Then.{Then}
 use Rattle.beam_machine.specs.declared.event.Then.TheVariants.{GoesOn, Waits, Ended}
-use Rattle.beam_machine.specs.declared.process.Goes.{Goes}
 use Rattle.beam_machine.specs.declared.process.Goes.TheVariants.{At, Enter, Nowhere}
-use Rattle.beam_model.specs.Listing.{Listing}
-use Rattle.beam_model.specs.Place.{Place}
-use Rattle.beam_machine.specs.Code.{Code}
-use Rattle.beam_machine.specs.Debug.{Debugged, DebugAnswer, DebugNext, Halting, halting, is_among, is_live_process, is_spot, with_pid, without_pid, with_spot, without_spot, refuses, replies, after_rows, answered, of_node, halted, halts, debug_steps, held_at, stepped, steps_one, debug_step_one, debug_resume, debug_set, debug_clear, debug_inspect, place_named, debug_next}
-use Rattle.beam_machine.specs.DebugRun.{debug_cut_event, DebugAnswers}
-use Rattle.beam_machine.specs.Next.{Answer, Rows, next, steps}
-use Rattle.beam_machine.specs.Process.{Process, is_waiting, then_of}
-use Rattle.beam_machine.specs.Quiet.{IsLoud, is_quiet_at, is_calm}
-use Rattle.beam_machine.specs.Row.{outcome}
-use Rattle.beam_machine.specs.Run.{effective_rows}
-use Rattle.beam_machine.specs.State.{State, empty, process_of, live_process}
-use Rattle.beam_machine.specs.View.{View, view_of}
+use Rattle.beam_machine.specs.Prelude.{Code, Debugged, DebugAnswer, DebugNext, Halting, halting, is_among, is_live_process, is_spot, with_pid, without_pid, with_spot, without_spot, refuses, replies, after_rows, answered, of_node, halted, halts, debug_steps, held_at, stepped, steps_one, debug_step_one, debug_resume, debug_set, debug_clear, debug_inspect, place_named, debug_next, debug_cut_event, DebugAnswers, Answer, Rows, next, Process, is_waiting, then_of, IsLoud, is_quiet_at, is_calm, outcome, effective_rows, State, empty, process_of, live_process, View, view_of}
+use Rattle.beam_machine.specs.declared.event.Event.TheVariants as event
+use Rattle.beam_machine.specs.declared.process.Goes.{Goes}
+use Rattle.beam_model.specs.Prelude.{Listing, Place}
+use Rattle.beam_machine.specs.Next.{steps}
 use Rattle.beam_laws.proofs.Ending.{alive_is, at_index}
 use Rattle.beam_laws.proofs.Lookups.{left_false}
 use Rattle.beam_laws.proofs.Numbered.{positive}
 use Rattle.beam_debug.specs.declared.outcome.Outcome.{Outcome}
 use Rattle.beam_debug.specs.declared.debug_state.DebugState.{DebugState}
-use Rattle.beam_debug.specs.Answers.{answer_of, reply_of}
-use Rattle.beam_debug.specs.Debugger.{capacity_of}
-use Rattle.beam_debug.specs.Halt.{steps_in}
-use Rattle.beam_debug.specs.DebuggedNode.{debugged}
-use Rattle.beam_debug.specs.Capacity.{is_at_row, has_begun, AreRising, BeginBelow, HasCapacity, CapacityFor}
-use Rattle.beam_debug.specs.Settled.{Settled}
+use Rattle.beam_debug.specs.Prelude.{answer_of, reply_of, capacity_of, steps_in, debugged, is_at_row, has_begun, AreRising, BeginBelow, HasCapacity, CapacityFor, Settled}
 use Rattle.beam_debug.proofs.Beginning.{halting_below, next_below, steps_below}
 
 -- ---- rising numbers

@@ -1,24 +1,18 @@
 -- Events that are refused, and events that change the break spots, the held processes or the passes.
-use Rattle.std.proofs.Common.{◌≡◌, ℕ, Bool, true, false, cond, not, List, refl, sym, ap, subst, ◌∙◌, Ok, Err}
-use Rattle.std.specs.Prelude.{◌&&◌, Option, Some, None, is_some, option_map}
+use Rattle.std.proofs.Common.{◌≡◌, ℕ, Bool, true, false, cond, not, List, refl, sym, ap, subst, ◌∙◌, Ok, Err, ◌&&◌, Option, Some, None, is_some, option_map}
 use Rattle.beam_machine.specs.declared.debug.DebugEvent.{DebugEvent}
-use Rattle.beam_machine.specs.declared.debug.DebugEvent.TheVariants.{Node as NodeEvent, SetBreak, ClearBreak, Resume, StepOne, Inspect}
+use Rattle.beam_machine.specs.declared.debug.DebugEvent.TheVariants.{SetBreak, ClearBreak, Resume, StepOne, Inspect, Node as NodeEvent}
 use Rattle.beam_machine.specs.declared.debug.DebugReply.{DebugReply}
-use Rattle.beam_machine.specs.declared.debug.DebugReply.TheVariants.{Node, Viewed}
-use Rattle.beam_machine.specs.View.{View, view_of}
+use Rattle.beam_machine.specs.declared.debug.DebugReply.TheVariants.{Viewed, Node}
+use Rattle.beam_machine.specs.Prelude.{View, view_of, Process, is_waiting, State, process_of, live_process, Debugged, DebugNext, halting, is_among, is_spot, with_pid, without_pid, with_spot, without_spot, refuses, replies, pruned, halts, debug_steps, debug_step_one, steps_one, debug_resume, debug_set, debug_clear, debug_inspect, place_named, DebugAnswers}
 use Rattle.beam_machine.specs.declared.debug.Spot.{Spot}
-use Rattle.beam_machine.specs.declared.event.Event.TheVariants as event
 use Rattle.beam_machine.specs.declared.event.Reply.TheVariants.{Done, Changed}
 use Rattle.beam_machine.specs.declared.event.Refused.{Refused}
 use Rattle.beam_machine.specs.declared.event.Refused.TheVariants.{NoMemory, NoProcess, NotReady, Stopped, BadSpot}
-use Rattle.beam_model.specs.Listing.{Listing}
-use Rattle.beam_model.specs.Place.{Place}
-use Rattle.beam_machine.specs.Process.{Process, is_waiting}
-use Rattle.beam_machine.specs.State.{State, process_of, live_process}
+use Rattle.beam_machine.specs.declared.event.Event.TheVariants as event
+use Rattle.beam_model.specs.Prelude.{Listing, Place}
 use Rattle.beam_machine.specs.Next.{steps}
-use Rattle.beam_machine.specs.Debug.{Debugged, DebugNext, halting, is_among, is_spot, with_pid, without_pid, with_spot, without_spot, refuses, replies, pruned, halts, debug_steps, debug_step_one, steps_one, debug_resume, debug_set, debug_clear, debug_inspect, place_named}
-use Rattle.beam_debug.specs.Answers.{Inspected}
-use Rattle.beam_machine.specs.DebugRun.{DebugAnswers}
+use Rattle.beam_debug.specs.Prelude.{Inspected}
 
 -- memory was refused
 pub no_memory : (d new : Debugged) (e : DebugEvent Listing) (r : Refused) → r ≡ NoMemory → new ≡ d → DebugAnswers d e (Err r) new

@@ -1,11 +1,8 @@
 -- What the rows of a process are to a node with a debugger.
-use Rattle.std.proofs.Common.{◌≡◌, ℕ, Bool, true, false, cond, not, List, [], ◌∷◌, refl, sym, ap, ◌∙◌, Ok, Err}
-use Rattle.std.specs.Prelude.{◌&&◌, Option, Some, None, filter, option_map}
-use Rattle.std.specs.List.{AllByRecursion}
-use Rattle.beam_machine.specs.declared.debug.DebugEvent.TheVariants.{Node as NodeEvent, StepOne}
-use Rattle.beam_machine.specs.declared.debug.DebugReply.TheVariants.{Node, Held}
+use Rattle.std.proofs.Common.{◌≡◌, ℕ, Bool, true, false, cond, not, refl, sym, ap, ◌∙◌, Ok, Err, ◌&&◌, Option, Some, None, option_map}
+use Rattle.beam_machine.specs.declared.debug.DebugEvent.TheVariants.{StepOne, Node as NodeEvent}
+use Rattle.beam_machine.specs.declared.debug.DebugReply.TheVariants.{Held, Node}
 use Rattle.beam_machine.specs.declared.event.Event.{Event}
-use Rattle.beam_machine.specs.declared.event.Event.TheVariants as event
 use Rattle.beam_machine.specs.declared.event.Reply.{Reply}
 use Rattle.beam_machine.specs.declared.event.Reply.TheVariants.{Ran}
 use Rattle.beam_machine.specs.declared.event.Refused.{Refused}
@@ -14,30 +11,17 @@ use Rattle.beam_machine.specs.declared.event.Then.{Then}
 use Rattle.beam_machine.specs.declared.event.Then.TheVariants.{GoesOn}
 use Rattle.beam_machine.specs.declared.process.Status.{Status}
 use Rattle.beam_machine.specs.declared.process.Status.TheVariants.{Running, Waiting, Ended}
-use Rattle.beam_model.specs.Listing.{Listing}
-use Rattle.beam_model.specs.Place.{Place}
-use Rattle.beam_machine.specs.Change.{is_live}
-use Rattle.beam_machine.specs.Process.{Process, is_waiting, then_of}
-use Rattle.beam_machine.specs.State.{State, process_of, alive, live_process}
-use Rattle.beam_machine.specs.Next.{Answer, Next, Rows, next, steps}
-use Rattle.beam_machine.specs.Run.{Answers, cut_event, effective_rows}
-use Rattle.beam_machine.specs.Debug.{Debugged, DebugAnswer, DebugNext, is_among, is_live_process, with_pid, passes_on, Halting, halting, refuses, replies, pruned, of_node, halted, halts, debug_steps, held_at, stepped, steps_one, debug_step_one, debug_next}
+use Rattle.beam_machine.specs.Prelude.{is_live, Process, is_waiting, then_of, State, process_of, alive, live_process, Answer, Next, Rows, next, Answers, cut_event, effective_rows, Debugged, DebugAnswer, DebugNext, is_among, is_live_process, with_pid, passes_on, Halting, halting, refuses, replies, pruned, of_node, halted, halts, debug_steps, held_at, stepped, steps_one, debug_step_one, debug_next, debug_cut_event, DebugAnswers}
+use Rattle.beam_machine.specs.declared.event.Event.TheVariants as event
+use Rattle.beam_model.specs.Prelude.{Listing, Place}
+use Rattle.beam_machine.specs.Next.{steps}
 use Rattle.beam_laws.proofs.Refusing.{refusal}
-use Rattle.beam_machine.specs.DebugRun.{debug_cut_event, DebugAnswers}
-use Rattle.beam_debug.specs.Settled.{Settled}
+use Rattle.beam_laws.proofs.Settling.{kept}
+use Rattle.beam_debug.specs.Prelude.{Settled, then_at, steps_in, RowIs}
 use Rattle.beam_core.specs.Halt.{HaltsAt}
-use Rattle.beam_debug.specs.Halt.{then_at, steps_in, RowIs}
 use Rattle.beam_debug.proofs.RowsToSpot.{standing}
 
 -- ---- what is live
-
-kept_by : {T : Type 0} (test : T → Bool) (x : T) (rest : List T) (b : Bool) → test x ≡ b → AllByRecursion (λ x. test x ≡ true) rest → AllByRecursion (λ x. test x ≡ true) (cond b (x ∷ rest) rest)
-kept_by test x rest true e h = (e, h)
-kept_by test x rest false e h = h
-
-kept : {T : Type 0} (test : T → Bool) (xs : List T) → AllByRecursion (λ x. test x ≡ true) (filter test xs)
-kept test [] = tt
-kept test (x ∷ xs) = kept_by test x (filter test xs) (test x) refl (kept test xs)
 
 pub settles : (d : Debugged) → Settled (pruned d)
 settles d = (kept (λ (spot : Place). is_live d.node.code spot.instance) d.spots, kept (is_live_process d.node) d.held, kept (is_live_process d.node) d.passing)

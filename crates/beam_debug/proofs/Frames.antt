@@ -1,12 +1,10 @@
 -- Frames, newest first.
-use Rattle.std.proofs.Common.{◌≡◌, List, [], ◌∷◌, ◌++◌, reverse, sym, ap, ◌∙◌, append_assoc}
-use Rattle.std.specs.Prelude.{map}
+use Rattle.std.proofs.Common.{◌≡◌, List, [], ◌∷◌, ◌++◌, reverse, sym, ap, ◌∙◌, append_assoc, map}
 use Rattle.std.proofs.lemmas.List.{reverse-append}
 use Rattle.beam_machine.specs.declared.process.Frame.{Frame}
-use Rattle.beam_machine.specs.Code.{Code}
-use Rattle.beam_machine.specs.View.{FrameView, frame_view}
+use Rattle.beam_machine.specs.Prelude.{Code, FrameView, frame_view}
 use Rattle.beam_debug.specs.declared.view.FrameView.{FrameView as TheFrameView}
-use Rattle.beam_debug.specs.Seen.{frame_seen}
+use Rattle.beam_debug.specs.Prelude.{frame_seen}
 use Rattle.beam_debug.proofs.Runs.{map_push}
 
 newest_first : (older : List Frame) (newest : Frame) → reverse (older ++ newest ∷ []) ≡ newest ∷ reverse older

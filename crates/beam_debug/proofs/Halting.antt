@@ -1,13 +1,11 @@
 -- A process that runs, and one row of it.
-use Rattle.std.proofs.Common.{◌≡◌, ℕ, zero, cond, refl, sym, ap, ◌∙◌}
-use Rattle.std.specs.Prelude.{Option, Some, None, option_map}
+use Rattle.std.proofs.Common.{◌≡◌, ℕ, zero, cond, refl, sym, ap, ◌∙◌, Option, Some, None, option_map}
 use Rattle.beam_machine.specs.declared.event.Then.TheVariants.{GoesOn}
 use Rattle.beam_machine.specs.declared.process.Status.{Status}
 use Rattle.beam_machine.specs.declared.process.Status.TheVariants.{Running, Waiting, Ended}
-use Rattle.beam_machine.specs.Process.{Process, is_running, then_of}
-use Rattle.beam_machine.specs.State.{State, process_of}
-use Rattle.beam_machine.specs.Next.{Rows, row, row_and, running, steps}
-use Rattle.beam_debug.specs.Halt.{then_at}
+use Rattle.beam_machine.specs.Prelude.{Process, is_running, then_of, State, process_of, Rows, row, row_and, running}
+use Rattle.beam_machine.specs.Next.{steps}
+use Rattle.beam_debug.specs.Prelude.{then_at}
 
 status_runs : (p : Process) (q : Status) → Some (then_of q) ≡ Some GoesOn → cond {A = Option Process} (is_running q) (Some p) None ≡ Some p
 status_runs p Running e = refl

@@ -1,11 +1,10 @@
 -- An element is inserted where the lists of the debugger have it.
-use Rattle.std.proofs.Common.{◌≡◌, ℕ, ◌+◌, ◌==◌, nat_lt, Bool, true, false, cond, List, [], ◌∷◌, ◌++◌, length, drop, refl, sym, ap, ◌∙◌, append_assoc, length-append}
-use Rattle.std.proofs.Math.Seq.{take-append_seam, drop-append_seam}
-use Rattle.std.specs.Prelude.{Option, Some, None}
+use Rattle.std.proofs.Common.{◌≡◌, ℕ, ◌+◌, ◌==◌, nat_lt, Bool, true, false, cond, List, [], ◌∷◌, ◌++◌, length, drop, refl, sym, ap, ◌∙◌, append_assoc, length-append, Option, Some, None}
 use Rattle.std.specs.List.{insert}
-use Rattle.beam_model.specs.Place.{Place, is_same_place}
-use Rattle.beam_machine.specs.Debug.{with_pid, with_spot, comes_before}
-use Rattle.beam_debug.specs.InsertPosition.{insert_position, spot_insert_position}
+use Rattle.std.proofs.Math.Seq.{take-append_seam, drop-append_seam}
+use Rattle.beam_machine.specs.Prelude.{with_pid, with_spot, comes_before}
+use Rattle.beam_model.specs.Prelude.{Place, is_same_place}
+use Rattle.beam_debug.specs.Prelude.{insert_position, spot_insert_position}
 
 -- a list with an element at a position, if there is one
 abbrev pub opened : {X : Type 0} → Option ℕ → X → List X → List X

@@ -1,27 +1,22 @@
 -- Rows that were executed apart are an event of the node with its debugger.
-use Rattle.std.proofs.Common.{◌≡◌, ℕ, ◌+◌, true, false, List, Ok, refl, sym, ap, subst, ◌∙◌, arith}
-use Rattle.std.specs.Prelude.{Some, option_map}
+use Rattle.std.proofs.Common.{◌≡◌, ℕ, ◌+◌, true, false, List, Ok, refl, sym, ap, subst, ◌∙◌, arith, Some, option_map}
+use Rattle.std.proofs.lemmas.Option.{same_Some}
 use Rattle.beam_machine.specs.declared.debug.DebugEvent.TheVariants.{Node as NodeEvent}
 use Rattle.beam_machine.specs.declared.debug.DebugReply.{DebugReply}
-use Rattle.beam_machine.specs.declared.debug.DebugReply.TheVariants.{Node, Held}
-use Rattle.beam_machine.specs.declared.event.Event.TheVariants as event
+use Rattle.beam_machine.specs.declared.debug.DebugReply.TheVariants.{Held, Node}
 use Rattle.beam_machine.specs.declared.event.Reply.TheVariants.{Ran}
 use Rattle.beam_machine.specs.declared.event.Then.{Then}
-use Rattle.beam_model.specs.Place.{Place}
-use Rattle.beam_machine.specs.Debug.{Debugged, DebugNext, halting, halts, replies, pruned, with_pid, debug_next}
-use Rattle.beam_machine.specs.Next.{Rows, steps}
-use Rattle.beam_machine.specs.Private.{Private, End, at_limit, after_row, before_node_row, at_spot, private_to_spot}
-use Rattle.beam_machine.specs.Process.{Process, is_running, then_of}
-use Rattle.beam_machine.specs.State.{State, process_of}
-use Rattle.beam_machine.specs.View.{View}
-use Rattle.beam_laws.specs.Origin.{Origin}
-use Rattle.beam_laws.specs.Slice.{slice_of, CanCommit, committed, passes_after, before_halting, rows_at_end, rows_of_event}
+use Rattle.beam_machine.specs.Prelude.{Debugged, DebugNext, halting, halts, replies, pruned, with_pid, debug_next, Rows, Private, End, at_limit, after_row, before_node_row, at_spot, private_to_spot, Process, is_running, then_of, State, process_of, View}
+use Rattle.beam_machine.specs.declared.event.Event.TheVariants as event
+use Rattle.beam_model.specs.Prelude.{Place}
+use Rattle.beam_machine.specs.Next.{steps}
+use Rattle.beam_laws.specs.Prelude.{Origin, slice_of, CanCommit, committed, passes_after, before_halting, rows_at_end, rows_of_event}
 use Rattle.beam_laws.proofs.Committing.{slice_counts, slice_at_spot, slice_node_row}
-use Rattle.beam_proc.specs.Ending.{end_of}
+use Rattle.beam_proc.specs.Prelude.{end_of}
 use Rattle.beam_proc.specs.declared.private.End.{End as TheEnd}
 use Rattle.beam_proc.specs.declared.private.End.TheVariants.{AtLimit, AfterRow, BeforeNodeRow, AtSpot}
 use Rattle.beam_core.specs.Installing.{AreRowsOf, Installed, node_rows}
-use Rattle.beam_debug.specs.Installing.{AreSlices}
+use Rattle.beam_debug.specs.Prelude.{AreSlices}
 use Rattle.beam_debug.proofs.Debugging.{ran_on, halted_ran}
 
 -- rows of a slice are rows that the node takes
@@ -48,9 +43,6 @@ Runs d pid rows count after t = debug_next d (NodeEvent (event.Steps pid (rows_o
 abbrev Stops : Debugged → ℕ → Private → ℕ → State → Type 0
 Stops d pid rows count t = debug_next d (NodeEvent (event.Steps pid (rows_of_event rows))) ≡ replies (record (ran_on d pid count t) { held = with_pid pid d.held }) (Held count)
 
-same_then : (a b : Then) → Some a ≡ Some b → a ≡ b
-same_then a b e = cc
-
 module _ (d : Debugged) (o : Origin) (n : ℕ) (q : Process) (rows : Private) (is : rows ≡ slice_of o n) (can : CanCommit d o q) (runs : is_running o.process.status ≡ true)
     (after : Then) (t : State) (h : Installed d.node o.pid rows after t) where
   -- the node after the private rows
@@ -74,7 +66,7 @@ module _ (d : Debugged) (o : Origin) (n : ℕ) (q : Process) (rows : Private) (i
       let also : node_rows rows.end ≡ 1 = ap node_rows e in
       let next = slice_node_row d o n q rows is can runs e in
       let there : process_of t.processes o.pid ≡ Some next.0 = ap (λ (s : State). process_of s.processes o.pid) (sym (reaches 1 also)) ∙ next.1 in
-      let stands : then_of next.0.status ≡ after = same_then (then_of next.0.status) after (sym (ap (option_map (λ (p : Process). then_of p.status)) there) ∙ (h q can.0).1) in
+      let stands : then_of next.0.status ≡ after = same_Some (then_of next.0.status) after (sym (ap (option_map (λ (p : Process). then_of p.status)) there) ∙ (h q can.0).1) in
       ap (λ k. debug_next d (NodeEvent (event.Steps o.pid (rows.count + k)))) one
       ∙ (next.2
       ∙ (ap (λ (s : State). replies (ran_on d o.pid (rows.count + 1) s) (Node (Ran (rows.count + 1) (then_of next.0.status)))) (reaches 1 also)

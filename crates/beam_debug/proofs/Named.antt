@@ -1,43 +1,25 @@
 -- The row that a spot names, position by position.
-use Rattle.std.proofs.Common.{◌≡◌, ℕ, zero, suc, ◌+◌, ◌-◌, ◌≤◌, ◌<◌, ◌≢◌, Bool, true, false, ◌==◌, nat_lt, cond, List, [], ◌∷◌, length, drop, refl, sym, ap, subst, ◌∙◌, arith}
+use Rattle.std.proofs.Common.{◌≡◌, ℕ, zero, suc, ◌+◌, ◌-◌, ◌≤◌, ◌<◌, ◌≢◌, true, false, nat_lt, cond, List, [], ◌∷◌, length, drop, refl, sym, ap, subst, ◌∙◌, arith, Option, Some, None, slice_get, unwrap_or, option_map, option_and_then}
 use Rattle.std.proofs.lemmas.Bool.Decides.{nat_tests}
 use Rattle.std.proofs.lemmas.Option.{slice_get_within}
-use Rattle.std.specs.Prelude.{Option, Some, None, slice_get, unwrap_or, option_map, option_and_then}
-use Rattle.beam_model.specs.declared.instruction.Instruction.{Instruction}
+use Rattle.beam_lemmas.proofs.Tests.{itself}
 use Rattle.beam_machine.specs.declared.debug.Version.{Version}
 use Rattle.beam_machine.specs.declared.debug.Version.TheVariants.{Current, Old}
-use Rattle.beam_model.specs.Fetch.{end_of_code, instruction_at}
-use Rattle.beam_model.specs.Listing.{Listing, is_this_number, label_of, row_of_label, next_row, gap_before_row, next_at}
-use Rattle.beam_model.specs.Place.{Place}
-use Rattle.beam_model.specs.SameText.{same_text}
-use Rattle.beam_machine.specs.Code.{Code, Instance, Versions, versions_of, listing_of, listing_in}
-use Rattle.beam_machine.specs.Debug.{rows_after, instance_of_version}
-use Rattle.beam_laws.specs.Numbers.{bears, how_many}
+use Rattle.beam_machine.specs.Prelude.{Code, Instance, versions_of, listing_of, listing_in, rows_after, instance_of_version, Versions}
+use Rattle.beam_model.specs.declared.instruction.Instruction.{Instruction}
+use Rattle.beam_model.specs.Prelude.{end_of_code, instruction_at, Listing, is_this_number, label_of, row_of_label, next_row, gap_before_row, next_at, Place, same_text}
+use Rattle.beam_laws.specs.Prelude.{bears, how_many}
+use Rattle.beam_laws.proofs.Kinship.{bears_own}
+use Rattle.beam_codesrv.proofs.Homes.{missed}
 
 -- ---- the instance of a number
-
-itself : (a : ℕ) → (a == a) ≡ true
-itself a = grind (arith, nat_tests)
-
-missed : (n : ℕ) (o : Option Instance) (rest : Option Listing) → bears n o ≡ 0 → listing_in o n rest ≡ rest
-missed n None rest z = refl
-missed n (Some i) rest z = go (i.number == n) refl
-  where
-    go : (b : Bool) → (i.number == n) ≡ b → cond b (Some i.listing) rest ≡ rest
-    go true e =
-        let one : bears n (Some i) ≡ 1 = ap (λ b. cond b 1 0) e in
-        absurd (omega (arith, one, z))
-    go false e = refl
-
-bears_own : (o : Option Instance) (i : Instance) → o ≡ Some i → bears i.number o ≡ 1
-bears_own o i e = ap (bears i.number) e ∙ ap (λ b. cond b 1 0) (itself i.number)
 
 listed_own : (o : Option Instance) (i : Instance) (rest : Option Listing) → o ≡ Some i → listing_in o i.number rest ≡ Some i.listing
 listed_own o i rest e = ap (λ o. listing_in o i.number rest) e ∙ ap (λ b. cond b (Some i.listing) rest) (itself i.number)
 
 version_bears : (v : Version) (vs : Versions) (i : Instance) → instance_of_version v vs ≡ Some i → 1 ≤ bears i.number vs.current + bears i.number vs.old
-version_bears Current vs i e = omega (arith, bears_own vs.current i e)
-version_bears Old vs i e = omega (arith, bears_own vs.old i e)
+version_bears Current vs i e = omega (arith, bears_own i vs.current e)
+version_bears Old vs i e = omega (arith, bears_own i vs.old e)
 
 borne : (v : Version) (code : Code) (name : List ℕ) (i : Instance) → instance_of_version v (versions_of code name) ≡ Some i → 1 ≤ how_many i.number code
 borne v [] name i = λ e. none v e
@@ -54,7 +36,7 @@ here : (v : Version) (vs : Versions) (i : Instance) (rest : Option Listing) → 
     → listing_in vs.current i.number (listing_in vs.old i.number rest) ≡ Some i.listing
 here Current vs i rest once e = listed_own vs.current i (listing_in vs.old i.number rest) e
 here Old vs i rest once e =
-    missed i.number vs.current (listing_in vs.old i.number rest) (omega (arith, once, bears_own vs.old i e)) ∙ listed_own vs.old i rest e
+    missed i.number vs.current (listing_in vs.old i.number rest) (omega (arith, once, bears_own i vs.old e)) ∙ listed_own vs.old i rest e
 
 -- the listing of a module's instance is found by the instance's number
 pub listing_of_version : (v : Version) (code : Code) (name : List ℕ) (i : Instance) → how_many i.number code ≤ 1 → instance_of_version v (versions_of code name) ≡ Some i → listing_of code i.number ≡ Some i.listing

@@ -1,8 +1,8 @@
 -- Texts that are appended piece by piece.
 use Rattle.std.proofs.Common.{◌≡◌, ◌∙◌, ap, sym, ℕ, List, ◌∷◌, ◌++◌, append_assoc, map, Result, Ok, Err, OnOk}
-use Rattle.beam_machine.specs.View.{frames_text}
+use Rattle.beam_machine.specs.Prelude.{frames_text}
 use Rattle.beam_debug.specs.declared.view.FrameView.{FrameView as TheFrameView}
-use Rattle.beam_debug.specs.Seen.{frame_seen, frame_text}
+use Rattle.beam_debug.specs.Prelude.{frame_seen, frame_text}
 
 -- one more piece was appended
 pub piece_more : (old mid new text piece : List ℕ) → mid ≡ old ++ text → new ≡ mid ++ piece → new ≡ old ++ (text ++ piece)

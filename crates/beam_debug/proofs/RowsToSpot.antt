@@ -1,18 +1,14 @@
 -- Rows of a process that runs, up to a break spot, as the node answers them.
-use Rattle.std.proofs.Common.{◌≡◌, ℕ, ◌<◌, Bool, true, false, cond, nat_lt, List, [], refl, sym, ap, ◌∙◌, arith, true≢false, Ok}
+use Rattle.std.proofs.Common.{◌≡◌, ℕ, ◌<◌, Bool, true, false, cond, nat_lt, List, [], refl, sym, ap, ◌∙◌, arith, true≢false, Ok, ◌&&◌, zero, suc, Option, Some, None, option_map}
 use Rattle.std.proofs.lemmas.Bool.Decides.{nat_tests}
-use Rattle.std.specs.Prelude.{◌&&◌, zero, suc, Option, Some, None, option_map}
 use Rattle.beam_machine.specs.declared.event.Then.{Then}
 use Rattle.beam_machine.specs.declared.event.Then.TheVariants.{GoesOn, Waits, Ended as EndedThen}
-use Rattle.beam_model.specs.Place.{Place}
-use Rattle.beam_machine.specs.Debug.{Halting}
-use Rattle.beam_machine.specs.Process.{Process, then_of}
-use Rattle.beam_machine.specs.State.{State, process_of}
+use Rattle.beam_machine.specs.Prelude.{Halting, Process, then_of, State, process_of, effective_rows}
+use Rattle.beam_model.specs.Prelude.{Place}
 use Rattle.beam_machine.specs.Next.{steps}
-use Rattle.beam_machine.specs.Run.{effective_rows}
 use Rattle.beam_core.specs.Halt.{HaltsAt}
 use Rattle.beam_core.proofs.Stepping.{done_steps, never_stopped}
-use Rattle.beam_debug.specs.Halt.{then_at, RowIs}
+use Rattle.beam_debug.specs.Prelude.{then_at, RowIs}
 use Rattle.beam_debug.proofs.Halting.{goes_on_runs, row_is}
 
 -- a process of that status is there

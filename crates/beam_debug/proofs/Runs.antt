@@ -1,13 +1,10 @@
 -- Runs of events of a node with a debugger, one event at a time.
-use Rattle.std.proofs.Common.{◌≡◌, List, [], ◌∷◌, ◌++◌, length, refl, sym, ap, subst, ◌∙◌, arith, append_assoc, Err}
-use Rattle.std.proofs.lemmas.List.{append-nil}
-use Rattle.std.specs.Prelude.{map}
+use Rattle.std.proofs.Common.{◌≡◌, List, [], ◌∷◌, ◌++◌, length, refl, sym, ap, subst, ◌∙◌, arith, append_assoc, Err, append-nil, map}
+use Rattle.beam_model.specs.Prelude.{Listing}
 use Rattle.beam_machine.specs.declared.debug.DebugEvent.{DebugEvent as TheEvent}
 use Rattle.beam_machine.specs.declared.event.Refused.TheVariants.{NoMemory}
-use Rattle.beam_model.specs.Listing.{Listing}
-use Rattle.beam_machine.specs.Debug.{Debugged, DebugAnswer, DebugNext, DebugRun, debug_next, debug_run}
-use Rattle.beam_machine.specs.DebugRun.{debug_cut_event, DebugAnswers, debug_after, effective_debug_event, effective_debug_answer, effective_debug_events, effective_debug_answers}
-use Rattle.beam_debug.specs.Each.{Each}
+use Rattle.beam_machine.specs.Prelude.{Debugged, DebugAnswer, DebugNext, DebugRun, debug_next, debug_run, debug_cut_event, DebugAnswers, debug_after, effective_debug_event, effective_debug_answer, effective_debug_events, effective_debug_answers}
+use Rattle.beam_debug.specs.Prelude.{Each}
 
 pub map_push : {A B : Type 0} (f : A → B) (xs : List A) (x : A) → map f (xs ++ x ∷ []) ≡ map f xs ++ f x ∷ []
 map_push f [] x = refl

@@ -1,11 +1,8 @@
 -- The views of frames that are walked over.
-use Rattle.std.proofs.Common.{◌≡◌, ◌==◌, false, true, List, [], ◌∷◌, length, refl, arith}
-use Rattle.std.proofs.lemmas.Bool.{eqb-true}
-use Rattle.std.specs.Prelude.{map, option_map}
+use Rattle.std.proofs.Common.{◌≡◌, ◌==◌, false, true, List, [], ◌∷◌, length, refl, arith, eqb-true, map, option_map}
 use Rattle.beam_machine.specs.declared.process.Frame.{Frame}
-use Rattle.beam_machine.specs.Code.{Code}
-use Rattle.beam_machine.specs.View.{FrameView, frame_view, slots_of, location}
-use Rattle.beam_stack.specs.Frames.{newest_y, newest_back, older_than}
+use Rattle.beam_machine.specs.Prelude.{Code, FrameView, frame_view, slots_of, location}
+use Rattle.beam_stack.specs.Prelude.{newest_y, newest_back, older_than}
 
 -- the view of the newest of frames
 abbrev pub newest_view : Code → List Frame → FrameView

@@ -1,13 +1,11 @@
 -- The answers of the debugger's calls, as values of the definitions.
 use Rattle.std.specs.Prelude.{◌≡◌, ℕ, Bool, true, Some, None, is_some, option_map, Result, Ok, Err}
 use Rattle.beam_machine.specs.declared.debug.DebugReply.{DebugReply}
-use Rattle.beam_machine.specs.declared.debug.DebugReply.TheVariants.{Node, Held, Viewed}
+use Rattle.beam_machine.specs.declared.debug.DebugReply.TheVariants.{Held, Viewed, Node}
 use Rattle.beam_machine.specs.declared.event.Reply.TheVariants.{Done, Changed}
 use Rattle.beam_machine.specs.declared.event.Refused.{Refused}
 use Rattle.beam_machine.specs.declared.event.Refused.TheVariants.{NoMemory, NoProcess}
-use Rattle.beam_machine.specs.Debug.{Debugged, DebugAnswer, is_among}
-use Rattle.beam_machine.specs.State.{process_of}
-use Rattle.beam_machine.specs.View.{View, view_of}
+use Rattle.beam_machine.specs.Prelude.{Debugged, DebugAnswer, is_among, process_of, View, view_of}
 use Rattle.beam_debug.specs.declared.outcome.Outcome.{Outcome}
 use Rattle.beam_debug.specs.declared.outcome.Outcome.TheVariants.{Node as NodeOutcome, Held as HeldOutcome, Viewed as ViewedOutcome}
 use Rattle.beam_debug.specs.declared.view.View.{View as TheView}

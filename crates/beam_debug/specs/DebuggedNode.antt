@@ -1,6 +1,5 @@
 -- A node, and the state that its debugger keeps.
-use Rattle.beam_machine.specs.Debug.{Debugged}
-use Rattle.beam_machine.specs.State.{State}
+use Rattle.beam_machine.specs.Prelude.{Debugged, State}
 use Rattle.beam_debug.specs.declared.debug_state.DebugState.{DebugState}
 
 abbrev pub debugged : State → DebugState → Debugged

@@ -1,10 +1,8 @@
 -- A node with its debugger, as callers see it. (This node's own.)
 use Rattle.std.specs.Prelude.{ℕ, List, vec_capacity}
+use Rattle.beam_model.specs.Prelude.{Listing}
 use Rattle.beam_machine.specs.declared.debug.DebugEvent.{DebugEvent}
-use Rattle.beam_machine.specs.Debug.{Debugged, erase}
-use Rattle.beam_machine.specs.Run.{run}
-use Rattle.beam_machine.specs.State.{State}
-use Rattle.beam_model.specs.Listing.{Listing}
+use Rattle.beam_machine.specs.Prelude.{Debugged, erase, run, State}
 use Rattle.beam_debug.specs.declared.debug_state.DebugState.{DebugState}
 use Rattle.beam_debug.specs.DebuggedNode.{debugged}
 

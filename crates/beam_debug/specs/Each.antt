@@ -1,9 +1,8 @@
 -- Statements of each event of a list, with its answer. (This node's own.)
 use Rattle.std.specs.Prelude.{List, [], ◌∷◌}
+use Rattle.beam_model.specs.Prelude.{Listing}
 use Rattle.beam_machine.specs.declared.debug.DebugEvent.{DebugEvent}
-use Rattle.beam_model.specs.Listing.{Listing}
-use Rattle.beam_machine.specs.Debug.{Debugged, DebugAnswer}
-use Rattle.beam_machine.specs.DebugRun.{DebugLacksMemory, debug_after}
+use Rattle.beam_machine.specs.Prelude.{Debugged, DebugAnswer, DebugLacksMemory, debug_after}
 
 -- an event is refused memory only where it may need some; the state after it doesn't matter
 abbrev pub LacksMemory : Debugged → DebugEvent Listing → DebugAnswer → Debugged → Type 0

@@ -1,14 +1,13 @@
 -- Rows of a process, where memory may be refused.
 use Rattle.std.specs.Prelude.{◌≡◌, ℕ, Option, Some, None, option_map, Result, Ok, Err}
+use Rattle.beam_model.specs.Prelude.{Listing}
 use Rattle.beam_machine.specs.declared.event.Event.{Event}
 use Rattle.beam_machine.specs.declared.event.Event.TheVariants.{Steps}
 use Rattle.beam_machine.specs.declared.event.Refused.{Refused}
 use Rattle.beam_machine.specs.declared.event.Refused.TheVariants.{NoMemory}
 use Rattle.beam_machine.specs.declared.event.Then.{Then}
-use Rattle.beam_model.specs.Listing.{Listing}
+use Rattle.beam_machine.specs.Prelude.{then_of, State, process_of}
 use Rattle.beam_machine.specs.Next.{steps}
-use Rattle.beam_machine.specs.Process.{then_of}
-use Rattle.beam_machine.specs.State.{State, process_of}
 
 -- how the process of that number stands
 abbrev pub then_at : State → ℕ → Option Then

@@ -1,7 +1,7 @@
 -- Where an element goes in a rising list.
 use Rattle.std.specs.Prelude.{ℕ, ◌+◌, ◌==◌, nat_lt, if◌then◌else◌, List, [], ◌∷◌, Option, Some, None}
-use Rattle.beam_model.specs.Place.{Place, is_same_place}
-use Rattle.beam_machine.specs.Debug.{comes_before}
+use Rattle.beam_machine.specs.Prelude.{comes_before}
+use Rattle.beam_model.specs.Prelude.{Place, is_same_place}
 
 -- the position at which a pid is to be inserted into a rising list that begins at position `at`; none if the pid is there
 abbrev pub insert_position : ℕ → ℕ → List ℕ → Option ℕ

@@ -1,10 +1,7 @@
 -- Rows of a process that were executed apart from a node with a debugger take effect in it. (This node's own.)
 use Rattle.std.specs.Prelude.{◌≡◌, ◌<◌, ℕ, true}
-use Rattle.beam_machine.specs.Debug.{Debugged}
-use Rattle.beam_machine.specs.Private.{Private}
-use Rattle.beam_machine.specs.Process.{Process, is_running}
-use Rattle.beam_laws.specs.Origin.{Origin}
-use Rattle.beam_laws.specs.Slice.{slice_of, CanCommit}
+use Rattle.beam_machine.specs.Prelude.{Debugged, Private, Process, is_running}
+use Rattle.beam_laws.specs.Prelude.{Origin, slice_of, CanCommit}
 use Rattle.beam_core.specs.Installing.{AreQuiet}
 
 -- rows of the running process of a number: those of a slice of the process as it was handed out, which can be committed now

@@ -1,7 +1,7 @@
 -- How an instruction counts in the search for the last label and the rows after it.
 use Rattle.std.specs.Prelude.{ℕ, ◌≤◌, if◌then◌else◌, Option, Some, None}
 use Rattle.beam_model.specs.declared.instruction.Instruction.{Instruction}
-use Rattle.beam_model.specs.Listing.{label_of, is_row}
+use Rattle.beam_model.specs.Prelude.{label_of, is_row}
 use Rattle.beam_debug.specs.declared.label_or_rows.LabelOrRows.{LabelOrRows}
 use Rattle.beam_debug.specs.declared.label_or_rows.LabelOrRows.TheVariants.{Label, Rows}
 

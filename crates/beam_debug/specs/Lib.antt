@@ -10,3 +10,4 @@ pub mod LabelOrRows
 pub mod Capacity
 pub mod Seen
 pub mod Settled
+pub mod Prelude

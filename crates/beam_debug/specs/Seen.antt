@@ -1,9 +1,7 @@
 -- Views of a process, as values of the definitions.
 use Rattle.std.specs.Prelude.{ℕ, Bool, List, ◌++◌, length, map, option_map, codes}
 use Rattle.beam_machine.specs.declared.process.Slot.{Slot}
-use Rattle.beam_machine.specs.Code.{Code}
-use Rattle.beam_machine.specs.Process.{Process}
-use Rattle.beam_machine.specs.View.{Location, NextView, at_row, entry, nowhere, FrameView, LiveView, View, live, over, frame_view, instruction_in, next_of, back_text, register_text, slot_text, ys_text}
+use Rattle.beam_machine.specs.Prelude.{Code, Process, Location, NextView, at_row, entry, nowhere, FrameView, LiveView, View, live, over, frame_view, instruction_in, next_of, back_text, register_text, slot_text, ys_text}
 use Rattle.beam_debug.specs.declared.view.Location.{Location as TheLocation}
 use Rattle.beam_debug.specs.declared.view.Next.{Next as TheNext}
 use Rattle.beam_debug.specs.declared.view.Next.TheVariants.{Row, Entry, Nothing}

@@ -2,7 +2,6 @@
 ghost use Rattle.std.specs.Prelude.{◌≡◌, ◌+◌, slice_get, take, option_and_then, option_map, None, IfOk};
 ghost use Rattle.std.specs.Option.{option_copied};
 ghost use Rattle.beam_model.specs.Listing.{is_row_by};
-ghost use Rattle.beam_model.specs.Loadable.{atom_in, number_in};
 ghost use Rattle.beam_machine.specs.View.{function_from, function_of, last_function, last_label, location, location_in};
 ghost use Rattle.beam_debug.specs.LabelOrRows.{IsOneRow, label_or_rows_at};
 ghost use Rattle.beam_debug.specs.Seen.{location_seen};
@@ -13,10 +12,11 @@ use beam_code::Instr;
 use beam_codesrv::CodeTable;
 use beam_image::Image;
 use beam_model::function::Import;
-use beam_model::instruction::{Argument, Instruction, Operand};
+use beam_model::instruction::Instruction;
 use beam_model::opcode::Opcode;
+use beam_model::operand_value::{atom_in, number_in};
 use beam_model::place::Place;
-use beam_term::{Atom, TermView};
+use beam_term::Atom;
 use std::alloc::AllocError;
 
 /// The instruction at a position; `None` after the last.
@@ -27,27 +27,6 @@ fn instruction(image: &Image, at: usize) -> Option<Instr<'_>>
         Some(image.fetch(Place::new(0, at)))
     } else {
         None
-    }
-}
-
-fn atom_in(operand: &Operand) -> Option<&Atom>
-    ensures { option_copied result ≡ atom_in operand.now }
-{
-    match operand {
-        Operand::One(Argument::Term(term)) => match term.view() {
-            TermView::Atom(name) => Some(name),
-            _ => None,
-        },
-        _ => None,
-    }
-}
-
-fn number_in(operand: &Operand) -> Option<u32>
-    ensures { result ≡ number_in operand.now }
-{
-    match operand {
-        Operand::One(Argument::Number(number)) => Some(*number),
-        _ => None,
     }
 }
 

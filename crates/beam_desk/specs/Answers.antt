@@ -1,12 +1,10 @@
 -- The answers of a desk that has a node. (This node's own.)
 use Rattle.std.specs.Prelude.{◌≡◌}
+use Rattle.beam_model.specs.Prelude.{Listing}
 use Rattle.beam_machine.specs.declared.command.Response.{Response}
 use Rattle.beam_machine.specs.declared.debug.DebugEvent.{DebugEvent}
-use Rattle.beam_model.specs.Listing.{Listing}
-use Rattle.beam_machine.specs.Debug.{Debugged, DebugAnswer}
-use Rattle.beam_machine.specs.Frames.{response_of}
-use Rattle.beam_machine.specs.DebugRun.{DebugAnswers, DebugLacksMemory}
-use Rattle.beam_debug.specs.Loud.{DebugLoudly}
+use Rattle.beam_machine.specs.Prelude.{Debugged, DebugAnswer, response_of, DebugAnswers, DebugLacksMemory}
+use Rattle.beam_debug.specs.Prelude.{DebugLoudly}
 
 -- an event is answered as the node with its debugger answers it; memory is refused only to events that may need some
 pub record NodeAnswers (d : Debugged) (event : DebugEvent Listing) (r : Response) (new : Debugged) : Type 0 where

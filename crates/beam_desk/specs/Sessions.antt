@@ -1,11 +1,9 @@
 -- A session over a new node, from the bytes that were read to the bytes that were written. (This node's own.)
 use Rattle.std.specs.Prelude.{ℕ, List, Option}
-use Rattle.beam_machine.specs.Debug.{Debugged, undisturbed}
-use Rattle.beam_machine.specs.State.{empty}
+use Rattle.beam_machine.specs.Prelude.{Debugged, undisturbed, empty}
 use Rattle.beam_remote.specs.declared.error.Served.{Served}
 use Rattle.beam_remote.specs.declared.error.ServeError.{ServeError}
-use Rattle.beam_remote.specs.Serving.{AllAnswered, IsServed, IsStopped}
-use Rattle.beam_remote.specs.DeviceHistory.{Moment}
+use Rattle.beam_remote.specs.Prelude.{AllAnswered, IsServed, IsStopped, Moment}
 use Rattle.beam_desk.specs.Answers.{NodeAnswers}
 
 -- all commands in the bytes that were read were answered by a node that began empty, and their replies written

@@ -1,10 +1,8 @@
 -- A file that is cut inside its form.
-use Rattle.std.proofs.Common.{◌≡◌, ℕ, ◌<◌, List, take, refl, ap}
-use Rattle.std.specs.Prelude.{Result, Ok, Err}
-use Rattle.beam_model.specs.Listing.{Listing}
-use Rattle.beam_model.specs.Form.{Form, FormFault, form_at, form_end, truncated}
-use Rattle.beam_model.specs.FormLaws.{cut_short}
-use Rattle.beam_model.specs.File.{FileFault, form_fault, in_layer, ◌>>=◌, listing_of_form, listing_of_file}
+use Rattle.std.proofs.Common.{◌≡◌, ℕ, ◌<◌, List, take, refl, ap, Result, Ok, Err}
+use Rattle.beam_model.specs.Prelude.{Listing, FormFault, form_at, form_end, cut_short, FileFault, form_fault, in_layer, listing_of_form, listing_of_file, Form}
+use Rattle.beam_model.specs.Form.{truncated}
+use Rattle.beam_model.specs.File.{◌>>=◌}
 
 -- a file that spells a listing has a form
 has_form : (r : Result Form FormFault) (k : Form → Result Listing FileFault) (l : Listing) → in_layer form_fault r >>= k ≡ Ok l → (form : Form) × (r ≡ Ok form)

@@ -1,23 +1,14 @@
 -- A listing is read exactly from the bytes of a file that spell it.
-use Rattle.std.proofs.Common.{◌≡◌, ℕ, List, Option, Some, None, Result, Ok, Err, refl, sym, ap, subst, ◌∙◌, arith}
-use Rattle.std.specs.Prelude.{slice_get, MatchOption}
-use Rattle.beam_model.specs.Listing.{Listing}
-use Rattle.beam_model.specs.Form.{Form, form_at}
-use Rattle.beam_model.specs.Tables.{Tables, tables_at, required_chunk, atom_of_index}
-use Rattle.beam_model.specs.CodeChunk.{CodeParts, code_of}
-use Rattle.beam_model.specs.File.{FileFault, Parts, form_fault, table_fault, code_fault, in_layer, ◌>>=◌, parts_of_form, listing_of_parts, listing_of_form, listing_of_file}
-use Rattle.beam_model.specs.TablesForm.{AreTables}
-use Rattle.beam_model.specs.CodeForm.{IsCode}
-use Rattle.beam_model.specs.FileForm.{IsFile, code_parts}
+use Rattle.std.proofs.Common.{◌≡◌, ℕ, List, Some, Result, Ok, Err, refl, sym, ap, subst, ◌∙◌, arith, slice_get}
+use Rattle.beam_lemmas.proofs.Steps.{bind_ok}
+use Rattle.beam_model.specs.Prelude.{Listing, form_at, Tables, tables_at, required_chunk, atom_of_index, CodeParts, code_of, FileFault, Parts, form_fault, table_fault, code_fault, in_layer, parts_of_form, listing_of_parts, listing_of_form, listing_of_file, AreTables, IsCode, IsFile, Form}
+use Rattle.beam_model.specs.File.{◌>>=◌}
+use Rattle.beam_model.specs.FileForm.{code_parts}
 use Rattle.beam_iff.proofs.Forms.{form_told, form_read}
-use Rattle.beam_tables.proofs.Spellings.{tables_told, tables_read, wanted_is, atom_of_told, atom_of_read}
+use Rattle.beam_tables.proofs.Spellings.{tables_told, tables_read, wanted_is, atom_of_told, atom_of_read, there as at_code, is_there as has_code}
 use Rattle.beam_code.proofs.Codes.{code_told, code_read}
 
-bind_ok : {A B : Type 0} (r : Result A FileFault) (f : A → Result B FileFault) (y : B) → (r >>= f) ≡ Ok y → (x : A) × (r ≡ Ok x) × (f x ≡ Ok y)
-bind_ok (Ok x) f y e = (x, refl, e)
-bind_ok (Err d) f y e = absurd cc
-
-layer_is : {A F : Type 0} (fault : F → FileFault) (r : Result A F) (x : A) → in_layer fault r ≡ Ok x → r ≡ Ok x
+pub layer_is : {A F : Type 0} (fault : F → FileFault) (r : Result A F) (x : A) → in_layer fault r ≡ Ok x → r ≡ Ok x
 layer_is fault (Ok y) x e = cc (e)
 layer_is fault (Err f) x e = absurd cc
 
@@ -78,13 +69,6 @@ listing_read p l s =
     rw (name, code) (ap (λ xs. done (record { name = l.name; exports = xs; label_count = l.label_count; function_count = l.function_count; instructions = l.instructions })) (sym s.exports))
 
 -- ---- the file
-
-at_code : (o : Option (List ℕ)) (code : List ℕ) (P : List ℕ → Type 0) → o ≡ Some code → P code → MatchOption o ⊥ P
-at_code o code P e p = subst (λ (q : Option (List ℕ)). MatchOption q ⊥ P) (sym e) p
-
-has_code : (o : Option (List ℕ)) (P : List ℕ → Type 0) → MatchOption o ⊥ P → (code : List ℕ) × (o ≡ Some code) × P code
-has_code None P h = absurd h
-has_code (Some code) P h = (code, refl, h)
 
 -- a file spells the listing that is read from it
 pub file_told : (bytes : List ℕ) (l : Listing) → listing_of_file bytes ≡ Ok l → IsFile bytes l

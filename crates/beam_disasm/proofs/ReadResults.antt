@@ -1,10 +1,7 @@
 -- From the answer of a reading to the listing that a file spells.
-use Rattle.std.proofs.Common.{◌≡◌, true, ℕ, List, Result, Ok, Err, refl, sym, subst, ◌∙◌}
-use Rattle.std.specs.Prelude.{IfOk, MatchResult}
-use Rattle.beam_model.specs.Listing.{Listing}
+use Rattle.std.proofs.Common.{◌≡◌, true, ℕ, List, Result, Ok, Err, refl, sym, subst, ◌∙◌, IfOk, MatchResult}
+use Rattle.beam_model.specs.Prelude.{Listing, FileFault, listing_of_form, listing_of_file, IsFile}
 use Rattle.beam_model.specs.Form as model
-use Rattle.beam_model.specs.File.{FileFault, listing_of_form, listing_of_file}
-use Rattle.beam_model.specs.FileForm.{IsFile}
 use Rattle.beam_iff.specs.declared.error.IffError.TheVariants as in_form
 use Rattle.beam_tables.specs.declared.error.TablesError.TheVariants as in_tables
 use Rattle.beam_code.specs.declared.error.CodeError.TheVariants as in_code

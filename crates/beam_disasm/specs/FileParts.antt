@@ -1,7 +1,7 @@
 -- The parts of a file whose bytes are kept: its tables, and the content of its code chunk.
 use Rattle.std.specs.Prelude.{ℕ, List, Result}
-use Rattle.beam_model.specs.Form.{form_at}
-use Rattle.beam_model.specs.File.{FileFault, form_fault, Parts, parts_of_form, in_layer, ◌>>=◌}
+use Rattle.beam_model.specs.Prelude.{form_at, FileFault, form_fault, Parts, parts_of_form, in_layer}
+use Rattle.beam_model.specs.File.{◌>>=◌}
 use Rattle.beam_disasm.specs.declared.file.Disassembled.{Disassembled}
 
 -- the parts of the form that the bytes of a file spell

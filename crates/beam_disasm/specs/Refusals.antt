@@ -1,10 +1,9 @@
 -- The errors of a file that can't be loaded: layers, numbers, names, and the faults that they stand for.
 use Rattle.std.specs.Prelude.{◌≡◌, ℕ, Bool, true, false, List, codes, Result, Ok, Err}
-use Rattle.beam_model.specs.Listing.{Listing}
+use Rattle.beam_model.specs.Prelude.{Listing, FileFault, form_fault, table_fault, code_fault}
 use Rattle.beam_model.specs.Form as form
 use Rattle.beam_model.specs.Tables as table
 use Rattle.beam_model.specs.CodeChunk as code
-use Rattle.beam_model.specs.File.{FileFault, form_fault, table_fault, code_fault}
 use Rattle.beam_iff.specs.declared.error.IffError.{IffError}
 use Rattle.beam_iff.specs.declared.error.IffError.TheVariants as in_form
 use Rattle.beam_iff.specs.Chunks.{number_of as form_number}
@@ -13,7 +12,7 @@ use Rattle.beam_tables.specs.declared.error.TablesError.TheVariants as in_tables
 use Rattle.beam_tables.specs.Readings.{number_of as table_number}
 use Rattle.beam_code.specs.declared.error.CodeError.{CodeError}
 use Rattle.beam_code.specs.declared.error.CodeError.TheVariants as in_code
-use Rattle.beam_code.specs.Faults.{number_of as code_number}
+use Rattle.beam_code.specs.Prelude.{number_of as code_number}
 use Rattle.beam_check.specs.declared.error.CheckError.{CheckError}
 use Rattle.beam_check.specs.declared.error.CheckError.TheVariants as in_check
 use Rattle.beam_check.specs.Fault.{StandsIn, number_of as check_number}

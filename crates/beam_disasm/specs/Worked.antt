@@ -1,17 +1,14 @@
 -- A worked file, of a module t whose sum(N) adds N down to 0.
 use Rattle.std.specs.Prelude.{ℕ, pos, List, [], ◌∷◌, ◌++◌, map, codes}
-use Rattle.beam_term.specs.TermValue.{int_term}
 use Rattle.beam_model.specs.declared.function.Import.{Import}
 use Rattle.beam_model.specs.declared.instruction.Argument.{Argument}
-use Rattle.beam_model.specs.declared.instruction.Argument.TheVariants as argument
-use Rattle.beam_model.specs.declared.instruction.Operand.TheVariants as operand
 use Rattle.beam_model.specs.declared.instruction.Instruction.{Instruction}
 use Rattle.beam_model.specs.declared.opcode.Opcode.{Opcode}
+use Rattle.beam_model.specs.Prelude.{Listing, Tables, CodeParts, label, func_info}
+use Rattle.beam_term.specs.Prelude.{int_term}
+use Rattle.beam_model.specs.declared.instruction.Argument.TheVariants as argument
+use Rattle.beam_model.specs.declared.instruction.Operand.TheVariants as operand
 use Rattle.beam_model.specs.declared.opcode.Opcode.TheVariants as op
-use Rattle.beam_model.specs.Listing.{Listing}
-use Rattle.beam_model.specs.Tables.{Tables}
-use Rattle.beam_model.specs.CodeChunk.{CodeParts}
-use Rattle.beam_model.specs.Heads.{label, func_info}
 
 -- ---- the content of the file
 

@@ -1,22 +1,19 @@
 -- An atom that is printed is read again.
-use Rattle.std.proofs.Common.{◌≡◌, ℕ, zero, suc, ◌+◌, ◌*◌, ◌/◌, ◌%◌, ◌<◌, ◌≤◌, Bool, true, false, cond, ◌⊎◌, inl, inr, List, [], ◌∷◌, ◌++◌, length, take, drop, Ok, refl, ap, ◌∙◌, append_assoc, arith}
-use Rattle.std.specs.Prelude.{nat_le, nat_lt, ◌||◌, ◌&&◌, ◌==◌}
+use Rattle.std.proofs.Common.{◌≡◌, ℕ, zero, suc, ◌+◌, ◌*◌, ◌/◌, ◌%◌, ◌<◌, ◌≤◌, Bool, true, false, cond, ◌⊎◌, inl, inr, List, [], ◌∷◌, ◌++◌, length, take, drop, Ok, refl, ap, ◌∙◌, append_assoc, arith, nat_le, nat_lt, ◌||◌, ◌&&◌, ◌==◌, eqb-true, length-append}
+use Rattle.std.specs.Str.{chars}
 use Rattle.std.specs.List.{list_all, flat_map}
 use Rattle.std.specs.Char.{digit_value}
 use Rattle.std.specs.Fmt.{digits, digit_glyph}
 use Rattle.std.proofs.lemmas.Fmt.{hex_one_digit, hex_two_digits}
-use Rattle.std.proofs.lemmas.Bool.{eqb-true, cases_lt}
+use Rattle.std.proofs.lemmas.Bool.{cases_lt, and_parts, or_parts}
 use Rattle.std.proofs.lemmas.Bool.Decides.{nat_tests}
 use Rattle.std.proofs.lemmas.List.Concat.{flat_map-cons}
-use Rattle.std.proofs.lemmas.List.{length-append}
 use mathlib.Core.Bool.{not}
 use Rattle.std.proofs.Math.Seq.{take-append_seam, drop-append_seam}
 use Rattle.std.proofs.lemmas.Str.{encode_ascii, is_utf8-from_IsUtf8}
 use Rattle.std.proofs.Math.Utf8.{low_scalar}
-use Rattle.std.specs.Str.{chars}
-use Rattle.beam_term.specs.Atom.{IsAtomText}
-use Rattle.beam_model.specs.Text.{is_lower, is_name, is_reserved, is_unquoted, escaped, atom_text}
-use Rattle.beam_model.specs.TextReading.{Reading, fault_at, with_front, after_blanks, hexadecimal_after, hexadecimal_at, code_point_at, escape_at, quoted_within, name_len, is_atom_text, checked_atom, unquoted_atom_at, atom_at}
+use Rattle.beam_model.specs.Prelude.{is_lower, is_name, is_reserved, is_unquoted, escaped, atom_text, Reading, fault_at, with_front, after_blanks, hexadecimal_after, hexadecimal_at, code_point_at, escape_at, quoted_within, name_len, is_atom_text, checked_atom, unquoted_atom_at, atom_at}
+use Rattle.beam_term.specs.Prelude.{IsAtomText}
 use Rattle.beam_erltext.proofs.Texts.{differ}
 use Rattle.beam_erltext.proofs.IntegerRoundTrip.{IsApart, le_true, lt_true}
 
@@ -58,17 +55,9 @@ code_again : (c : ℕ) (rest : List ℕ) → c < 128 → escape_at (120 ∷ 123 
 unfolding escape_at code_point_at
 code_again c rest small = rw (hexadecimal_again c rest (omega arith), low_scalar c (omega arith)) refl
 
-or_false : (a b : Bool) → (a || b) ≡ false → (a ≡ false) × (b ≡ false)
-or_false true b e = absurd cc
-or_false false b e = (refl, e)
-
 or_true : (a b : Bool) → (a || b) ≡ true → (a ≡ true) ⊎ (b ≡ true)
 or_true true b e = inl refl
 or_true false b e = inr e
-
-pub and_true : (a b : Bool) → (a && b) ≡ true → (a ≡ true) × (b ≡ true)
-and_true true b e = (refl, e)
-and_true false b e = absurd cc
 
 quoted_byte : (c n : ℕ) (rest : List ℕ) → (c == 39) ≡ false → (c == 92) ≡ false → quoted_within (suc n) 39 (c ∷ rest) ≡ with_front (c ∷ []) (quoted_within n 39 rest)
 unfolding quoted_within
@@ -102,7 +91,7 @@ escaped_again c n rest = by (c == 39 || c == 92) (nat_lt c 32 || c == 127) refl 
     by false true e f =
         ap (λ (t : List ℕ). quoted_within (suc n) 39 (92 ∷ 120 ∷ 123 ∷ t)) (append_assoc (digits 16 true c) (125 ∷ []) rest)
         ∙ quoted_escape c n (120 ∷ 123 ∷ (digits 16 true c ++ 125 ∷ rest)) rest (code_again c rest (low f)) (low f)
-    by false false e f = quoted_byte c n rest (or_false (c == 39) (c == 92) e).0 (or_false (c == 39) (c == 92) e).1
+    by false false e f = quoted_byte c n rest (or_parts (c == 39) (c == 92) e).0 (or_parts (c == 39) (c == 92) e).1
 
 quoted_again : (name : List ℕ) (n : ℕ) (rest : List ℕ) → length name < n → quoted_within n 39 (flat_map escaped name ++ 39 ∷ rest) ≡ Ok (name, rest)
 unfolding quoted_within
@@ -131,7 +120,7 @@ name_len_again : (name rest : List ℕ) → list_all is_name name ≡ true → I
 name_len_again [] [] all apart = refl
 name_len_again [] (c ∷ cs) all apart = rw apart refl
 name_len_again (c ∷ cs) rest all apart =
-    let both = and_true (is_name c) (list_all is_name cs) all in
+    let both = and_parts (is_name c) (list_all is_name cs) all in
     rw both.0 (ap suc (name_len_again cs rest both.1 apart))
 
 atom_text_is : (name : List ℕ) → IsAtomText name → is_atom_text name ≡ true
@@ -148,9 +137,9 @@ pub record IsBare (first : ℕ) (others : List ℕ) : Type 0 where
 
 pub bare_is : (c : ℕ) (cs : List ℕ) → is_unquoted (c ∷ cs) ≡ true → IsBare c cs
 bare_is c cs e =
-    let both = and_true (is_lower c && not (is_reserved (c ∷ cs))) (list_all is_name cs) e in
-    let lower = (and_true (is_lower c) (not (is_reserved (c ∷ cs))) both.0).0 in
-    let ends = and_true (nat_le 97 c) (nat_le c 122) lower in
+    let both = and_parts (is_lower c && not (is_reserved (c ∷ cs))) (list_all is_name cs) e in
+    let lower = (and_parts (is_lower c) (not (is_reserved (c ∷ cs))) both.0).0 in
+    let ends = and_parts (nat_le 97 c) (nat_le c 122) lower in
     record { low = grind (arith, nat_tests, ends.0); high = grind (arith, nat_tests, ends.1); names = rw (lower_name c lower, both.1) refl }
 
 abbrev split_by : List ℕ → List ℕ → List ℕ → Reading (List ℕ)

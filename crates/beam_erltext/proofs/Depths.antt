@@ -1,7 +1,7 @@
 -- How deep what is read may be.
 use Rattle.std.proofs.Common.{ℕ, ◌≤◌, List, [], ◌∷◌, length, arith}
-use Rattle.beam_term.specs.TermValue.{depth_of}
-use Rattle.beam_model.specs.TextReading.{list_of_characters}
+use Rattle.beam_model.specs.Prelude.{list_of_characters}
+use Rattle.beam_term.specs.Prelude.{depth_of}
 
 -- each pair of a string's list is one level
 pub depth_of_characters : (cs : List ℕ) → depth_of (list_of_characters cs) ≤ length cs

@@ -1,13 +1,11 @@
 -- An integer that is printed is read again.
-use Rattle.std.proofs.Common.{◌≡◌, ℕ, suc, ◌+◌, ◌-◌, ◌*◌, ◌/◌, ◌%◌, ◌^◌, ◌<◌, ◌≤◌, Bool, true, false, ℤ, pos, negsuc, List, [], ◌∷◌, ◌++◌, Ok, refl, sym, ap, ◌∙◌, append_assoc, arith}
-use Rattle.std.specs.Prelude.{nat_le, nat_lt, ◌&&◌, ◌||◌, ◌==◌}
-use Rattle.std.specs.Fmt.{decimal, signed_decimal}
+use Rattle.std.proofs.Common.{◌≡◌, ℕ, suc, ◌+◌, ◌-◌, ◌*◌, ◌/◌, ◌%◌, ◌^◌, ◌<◌, ◌≤◌, Bool, true, false, ℤ, pos, negsuc, List, [], ◌∷◌, ◌++◌, Ok, refl, sym, ap, ◌∙◌, append_assoc, arith, nat_le, nat_lt, ◌&&◌, ◌||◌, ◌==◌}
+use Rattle.std.specs.Fmt.{signed_decimal, decimal}
 use Rattle.std.proofs.lemmas.Fmt.{decimal_by_steps}
 use Rattle.std.proofs.lemmas.Int.{ints}
 use Rattle.std.proofs.lemmas.Bool.Decides.{nat_tests}
-use Rattle.beam_term.specs.TermValue.{IsSmall}
-use Rattle.beam_model.specs.Text.{is_lower, is_digit, is_name}
-use Rattle.beam_model.specs.TextReading.{after_blanks, digits_after, digits_at, integer_at}
+use Rattle.beam_model.specs.Prelude.{is_lower, is_digit, is_name, after_blanks, digits_after, digits_at, integer_at}
+use Rattle.beam_term.specs.Prelude.{IsSmall}
 use Rattle.beam_erltext.proofs.Texts.{differ}
 
 -- no name and no number goes on here

@@ -1,14 +1,14 @@
 -- Reading the elements of a tuple, one at a time.
-use Rattle.std.proofs.Common.{◌≡◌, ℕ, zero, suc, get_or, ◌-◌, ◌+◌, ◌<◌, ◌≤◌, length, List, [], ◌∷◌, ◌++◌, Ok, Err, refl, sym, ap, ◌∙◌, arith}
-use Rattle.std.proofs.lemmas.List.{append-nil, nil_from_length}
-use Rattle.std.proofs.lemmas.Bool.{eq-eqb}
-use Rattle.beam_term.specs.TermValue.{TermValue, terms_of, depth_of, items_depth}
+use Rattle.std.proofs.Common.{◌≡◌, ℕ, zero, suc, get_or, ◌-◌, ◌+◌, ◌<◌, ◌≤◌, length, List, [], ◌∷◌, ◌++◌, Ok, Err, refl, sym, ap, ◌∙◌, arith, append-nil, eq-eqb}
+use Rattle.std.proofs.lemmas.List.{nil_from_length}
+use Rattle.beam_term.specs.Prelude.{TermValue, terms_of, depth_of, items_depth}
 use Rattle.beam_erltext.specs.declared.read_fault.ReadFault.{ReadFault}
 use Rattle.beam_erltext.specs.declared.read_fault.ReadFault.TheVariants as faults
 use Rattle.beam_erltext.specs.Gives.{Fails}
 use Rattle.beam_erltext.proofs.Texts.{differ}
 use Rattle.beam_erltext.proofs.Quoted.{with_front-with_front}
-use Rattle.beam_model.specs.TextReading.{Reading, ◌>>=◌, with_front, after_blanks, items_after, items_by}
+use Rattle.beam_model.specs.Prelude.{Reading, with_front, after_blanks, items_after, items_by}
+use Rattle.beam_model.specs.TextReading.{◌>>=◌}
 
 -- the loop's state: `front` is read, and with the rest it is `total`
 pub record IsLeft (term : List ℕ → Reading TermValue) (front : List TermValue) (len i : ℕ) (text : List ℕ) (total : Reading (List TermValue)) : Type 0 where

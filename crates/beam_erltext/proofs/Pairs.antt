@@ -1,11 +1,9 @@
 -- Reading the elements of a list, one at a time.
-use Rattle.std.proofs.lemmas.Bool.{le-ltb, lt-ltb}
-use Rattle.std.proofs.Common.{◌≡◌, ◌≤◌, ◌<◌, ◌^◌, arith, ℕ, suc, List, [], ◌∷◌, ◌++◌, Ok, Err, length, refl, sym, ap, ◌∙◌}
-use Rattle.beam_term.specs.TermValue.{TermValue, pair_term, list_before, tuple_of, depth_of}
-use Rattle.std.specs.Prelude.{nat_lt, if◌then◌else◌}
+use Rattle.std.proofs.Common.{le-ltb, lt-ltb, ◌≡◌, ◌≤◌, ◌<◌, ◌^◌, arith, ℕ, suc, List, [], ◌∷◌, ◌++◌, Ok, Err, length, refl, sym, ap, ◌∙◌, nat_lt, if◌then◌else◌}
+use Rattle.beam_term.specs.Prelude.{TermValue, pair_term, list_before, tuple_of, depth_of, list_before-append}
 use Rattle.beam_erltext.proofs.Rooms.{term_at_is}
-use Rattle.beam_term.specs.Depth.{list_before-append}
-use Rattle.beam_model.specs.TextReading.{Reading, ◌>>=◌, fault_at, after_blanks, closed_by, tail_by, list_by, term_at, pairs_at}
+use Rattle.beam_model.specs.Prelude.{Reading, fault_at, after_blanks, closed_by, tail_by, list_by, term_at, pairs_at}
+use Rattle.beam_model.specs.TextReading.{◌>>=◌}
 
 -- the elements that were read, before those that are still read and the tail
 abbrev pub before_list : List TermValue → Reading TermValue → Reading TermValue

@@ -1,13 +1,11 @@
 -- Reading between quotes, a byte or an escape at a time.
-use Rattle.std.proofs.Common.{◌≡◌, ℕ, suc, ◌-◌, ◌+◌, ◌<◌, length, List, [], ◌∷◌, ◌++◌, Ok, Err, refl, sym, ap, ◌∙◌, append_assoc, arith}
-use Rattle.std.specs.Prelude.{encode_utf8}
-use Rattle.std.proofs.lemmas.List.{append-nil, nil_from_length}
-use Rattle.std.proofs.lemmas.Bool.{eq-eqb}
+use Rattle.std.proofs.Common.{◌≡◌, ℕ, suc, ◌-◌, ◌+◌, ◌<◌, length, List, [], ◌∷◌, ◌++◌, Ok, Err, refl, sym, ap, ◌∙◌, append_assoc, arith, encode_utf8, append-nil, eq-eqb}
+use Rattle.std.proofs.lemmas.List.{nil_from_length}
 use Rattle.beam_erltext.proofs.Texts.{differ}
 use Rattle.beam_erltext.specs.declared.read_fault.ReadFault.{ReadFault}
 use Rattle.beam_erltext.specs.declared.read_fault.ReadFault.TheVariants as faults
 use Rattle.beam_erltext.specs.Gives.{Fails}
-use Rattle.beam_model.specs.TextReading.{Reading, with_front, escape_at, quoted_within}
+use Rattle.beam_model.specs.Prelude.{Reading, with_front, escape_at, quoted_within}
 
 pub with_front-with_front : {A : Type 0} (front more : List A) (read : Reading (List A)) → with_front front (with_front more read) ≡ with_front (front ++ more) read
 with_front-with_front front more (Ok x) = ap (λ (bs : List _). Ok (bs, x.1)) (sym (append_assoc front more x.0))

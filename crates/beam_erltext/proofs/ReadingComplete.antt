@@ -1,20 +1,19 @@
 -- A spelled term is read.
-use Rattle.std.proofs.Common.{◌≡◌, ℕ, zero, suc, ◌^◌, ◌<◌, ◌≤◌, Bool, true, false, cond, ◌⊎◌, inl, inr, ℤ, pos, List, [], ◌∷◌, length, take, drop, Ok, refl, sym, ap, subst, ◌∙◌, arith}
-use Rattle.std.specs.Prelude.{nat_le, nat_lt, ◌==◌, neg_ℤ}
+use Rattle.std.proofs.Common.{◌≡◌, ℕ, zero, suc, ◌^◌, ◌<◌, ◌≤◌, Bool, true, false, cond, ◌⊎◌, inl, inr, ℤ, pos, List, [], ◌∷◌, length, take, drop, Ok, refl, sym, ap, subst, ◌∙◌, arith, nat_le, nat_lt, ◌==◌, neg_ℤ, eqb-true}
 use Rattle.std.specs.Str.{chars}
-use Rattle.std.proofs.lemmas.Bool.{eqb-true}
 use Rattle.std.proofs.lemmas.Bool.Decides.{nat_tests}
-use Rattle.beam_term.specs.Elements.{terms_of-elements_of}
-use Rattle.beam_term.specs.TermValue.{TermValue, Terms, int_term, atom_term, reference_term, pid_term, nil_term, pair_term, tuple_term, no_terms, more_terms, elements_of, tuple_of, count_of, depth_of, items_depth, IsInRange, AreInRange, IsTerm}
-use Rattle.beam_model.specs.Text.{is_digit, is_name, is_unquoted}
-use Rattle.beam_model.specs.TextReading.{Reading, ◌>>=◌, fault_at, after_blanks, digits_after, digits_at, integer_at, quoted_at, name_len, checked_atom, unquoted_atom_at, atom_at, string_at, list_of_characters, string_within, closed_by, tail_by, pairs_by, items_after, items_by, tuple_by, list_by, term_by, term_at, pairs_at, tuple_at, whole, read_text, at_line, term_of_text}
-use Rattle.beam_model.specs.TextGrammar.{Mark, Then, IsString, Barred, IsText, IsTail, AreFurther, IsTextOf}
+use Rattle.std.proofs.lemmas.Bool.{and_parts}
+use Rattle.beam_lemmas.proofs.Tests.{chosen}
+use Rattle.beam_lemmas.proofs.Steps.{bind_ok}
+use Rattle.beam_model.specs.Prelude.{is_digit, is_name, is_unquoted, Reading, fault_at, after_blanks, digits_after, digits_at, integer_at, quoted_at, name_len, checked_atom, unquoted_atom_at, atom_at, string_at, list_of_characters, string_within, closed_by, tail_by, pairs_by, items_after, items_by, tuple_by, list_by, term_by, term_at, pairs_at, tuple_at, whole, read_text, at_line, term_of_text, Mark, Then, IsString, Barred, IsText, IsTail, AreFurther, IsTextOf}
+use Rattle.beam_term.specs.Prelude.{terms_of-elements_of, TermValue, Terms, int_term, atom_term, reference_term, pid_term, nil_term, pair_term, tuple_term, no_terms, more_terms, elements_of, tuple_of, count_of, depth_of, items_depth, IsInRange, AreInRange, IsTerm}
+use Rattle.beam_model.specs.TextReading.{◌>>=◌}
 use Rattle.beam_erltext.proofs.Texts.{differ}
 use Rattle.beam_erltext.proofs.Rooms.{term_at_is}
 use Rattle.beam_erltext.proofs.IntegerRoundTrip.{le_true, lt_true}
-use Rattle.beam_erltext.proofs.AtomRoundTrip.{and_true, bare_is}
+use Rattle.beam_erltext.proofs.AtomRoundTrip.{bare_is}
 use Rattle.beam_erltext.proofs.TermRoundTrip.{IsIntegerByte, IsAtomByte, reads_integer, reads_atom, pairs_again, item_again, count_is}
-use Rattle.beam_erltext.proofs.ReadingSound.{bind_ok, chosen, got, not_lost}
+use Rattle.beam_erltext.proofs.ReadingSound.{got, not_lost}
 use Rattle.beam_erltext.proofs.Within.{blanks_within, left_of_term}
 
 -- ---- first bytes
@@ -42,7 +41,7 @@ quoted_name c cs = quoted_at 39 cs >>= λ n. checked_atom (c ∷ cs) n.0 n.1
 
 digit_byte : (c : ℕ) → is_digit c ≡ true → IsIntegerByte c
 digit_byte c e =
-    let both = and_true (nat_le 48 c) (nat_le c 57) e in
+    let both = and_parts (nat_le 48 c) (nat_le c 57) e in
     inr (grind (arith, nat_tests, both.0), grind (arith, nat_tests, both.1))
 
 integer_byte : (c : ℕ) (cs : List ℕ) (z : ℤ) (rest : List ℕ) → integer_at (c ∷ cs) ≡ Ok (z, rest) → IsIntegerByte c

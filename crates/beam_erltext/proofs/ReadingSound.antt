@@ -1,20 +1,11 @@
 -- The text spells the term that is read from it.
-use Rattle.std.proofs.Common.{◌≡◌, ℕ, zero, suc, ◌^◌, Bool, true, false, cond, ◌⊎◌, inl, inr, List, [], ◌∷◌, ◌++◌, length, Result, Ok, Err, refl, sym, ap, subst}
-use Rattle.std.specs.Prelude.{nat_lt, nat_le, ◌==◌, ◌||◌}
+use Rattle.std.proofs.Common.{◌≡◌, ℕ, zero, suc, ◌^◌, true, false, cond, ◌⊎◌, inl, inr, List, [], ◌∷◌, ◌++◌, length, Result, Ok, Err, refl, sym, ap, subst, nat_lt, nat_le, ◌==◌, ◌||◌, eqb-true}
 use Rattle.std.specs.Str.{chars}
-use Rattle.std.proofs.lemmas.Bool.{eqb-true}
-use Rattle.beam_term.specs.TermValue.{TermValue, int_term, atom_term, reference_term, pid_term, nil_term, pair_term, tuple_term, terms_of, tuple_of}
-use Rattle.beam_model.specs.Text.{is_digit}
-use Rattle.beam_model.specs.TextReading.{Reading, ◌>>=◌, fault_at, with_front, after_blanks, integer_at, atom_at, string_at, list_of_characters, string_within, closed_by, tail_by, pairs_by, items_after, items_by, tuple_by, list_by, term_by, term_at, pairs_at, whole, read_text, at_line, term_of_text}
-use Rattle.beam_model.specs.TextGrammar.{Front, Mark, Then, IsString, Barred, IsText, IsTail, AreItems, AreFurther, IsTextOf}
-
-pub bind_ok : {A B : Type 0} (r : Result A ℕ) (f : A → Result B ℕ) (y : B) → (r >>= f) ≡ Ok y → (x : A) × (r ≡ Ok x) × (f x ≡ Ok y)
-bind_ok (Ok x) f y e = (x, refl, e)
-bind_ok (Err d) f y e = absurd cc
-
-pub chosen : {A : Type 0} (b : Bool) (x y z : A) → cond b x y ≡ z → ((b ≡ true) × (x ≡ z)) ⊎ ((b ≡ false) × (y ≡ z))
-chosen true x y z e = inl (refl, e)
-chosen false x y z e = inr (refl, e)
+use Rattle.beam_lemmas.proofs.Tests.{chosen}
+use Rattle.beam_lemmas.proofs.Steps.{bind_ok}
+use Rattle.beam_model.specs.Prelude.{is_digit, Reading, fault_at, with_front, after_blanks, integer_at, atom_at, string_at, list_of_characters, string_within, closed_by, tail_by, pairs_by, items_after, items_by, tuple_by, list_by, term_by, term_at, pairs_at, whole, read_text, at_line, term_of_text, Front, Mark, Then, IsString, Barred, IsText, IsTail, AreItems, AreFurther, IsTextOf}
+use Rattle.beam_term.specs.Prelude.{TermValue, int_term, atom_term, reference_term, pid_term, nil_term, pair_term, tuple_term, terms_of, tuple_of}
+use Rattle.beam_model.specs.TextReading.{◌>>=◌}
 
 abbrev done : {A : Type 0} → A → Result A ℕ
 done x = Ok x

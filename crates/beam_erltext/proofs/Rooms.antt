@@ -1,6 +1,6 @@
 -- Readers of terms, at any depth.
 use Rattle.std.proofs.Common.{◌≡◌, ℕ, zero, suc, ◌<◌, ◌-◌, List, refl, arith}
-use Rattle.beam_model.specs.TextReading.{fault_at, term_by, pairs_by, tuple_by, term_at, pairs_at, tuple_at}
+use Rattle.beam_model.specs.Prelude.{fault_at, term_by, pairs_by, tuple_by, term_at, pairs_at, tuple_at}
 
 pub term_at_is : (depth : ℕ) (text : List ℕ) → term_at depth text ≡ term_by depth (pairs_at depth) (tuple_at depth) text
 unfolding term_at pairs_at tuple_at

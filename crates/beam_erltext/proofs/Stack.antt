@@ -1,12 +1,10 @@
 -- The stack of the terms that were read, split where a list's or a tuple's parts begin.
-use Rattle.std.proofs.Common.{◌≡◌, ℕ, ◌≤◌, List, [], ◌∷◌, ◌++◌, Result, Ok, Err, length, take, drop, refl, sym, ap, ◌∙◌, append_assoc, length-append, arith}
-use Rattle.std.specs.Prelude.{MatchResult}
+use Rattle.std.proofs.Common.{◌≡◌, ℕ, ◌≤◌, List, [], ◌∷◌, ◌++◌, Result, Ok, Err, length, take, drop, refl, sym, ap, ◌∙◌, append_assoc, length-append, arith, MatchResult, take_at, drop_at}
 use Rattle.std.specs.Result.{IsErrAnd}
-use Rattle.std.proofs.lemmas.List.{take_at, drop_at}
-use Rattle.beam_term.specs.TermValue.{TermValue}
+use Rattle.beam_term.specs.Prelude.{TermValue}
 use Rattle.beam_term.specs.declared.error.TermError.{TermError}
 use Rattle.beam_term.specs.declared.error.TermError.TheVariants as terms
-use Rattle.beam_model.specs.TextReading.{Reading}
+use Rattle.beam_model.specs.Prelude.{Reading}
 use Rattle.beam_erltext.specs.declared.read.ReadStop.{ReadStop}
 use Rattle.beam_erltext.specs.declared.read.ReadStop.TheVariants as stops
 use Rattle.beam_erltext.specs.Puts.{Puts, Stopped, stop_of}

@@ -1,16 +1,12 @@
 -- A term that is printed is read again.
-use Rattle.std.proofs.Common.{◌≡◌, ℕ, zero, suc, ◌^◌, ◌<◌, ◌≤◌, Bool, true, false, cond, ◌⊎◌, inl, inr, ℤ, pos, negsuc, List, [], ◌∷◌, ◌++◌, length, Ok, refl, sym, ap, ◌∙◌, append_assoc, arith}
-use Rattle.std.specs.Prelude.{◌||◌, ◌==◌}
+use Rattle.std.proofs.Common.{◌≡◌, ℕ, zero, suc, ◌^◌, ◌<◌, ◌≤◌, Bool, true, false, cond, ◌⊎◌, inl, inr, ℤ, pos, negsuc, List, [], ◌∷◌, ◌++◌, length, Ok, refl, sym, ap, ◌∙◌, append_assoc, arith, ◌||◌, ◌==◌, length-append, append-nil}
 use Rattle.std.specs.List.{flat_map}
-use Rattle.std.specs.Fmt.{decimal, signed_decimal}
+use Rattle.std.specs.Fmt.{signed_decimal, decimal}
 use Rattle.std.proofs.lemmas.Bool.Decides.{nat_tests}
 use Rattle.std.proofs.lemmas.Int.{ints}
-use Rattle.std.proofs.lemmas.List.{length-append, append-nil}
-use Rattle.beam_term.specs.Atom.{IsAtomText}
-use Rattle.beam_term.specs.Elements.{terms_of-elements_of}
-use Rattle.beam_term.specs.TermValue.{TermValue, Terms, int_term, atom_term, reference_term, pid_term, nil_term, pair_term, tuple_term, no_terms, more_terms, elements_of, tuple_of, count_of, depth_of, items_depth, IsSmall, IsInRange, AreInRange, IsTerm}
-use Rattle.beam_model.specs.Text.{is_digit, is_unquoted, escaped, atom_text, text_of, tail_text, items_text, HasText, AllHaveText}
-use Rattle.beam_model.specs.TextReading.{Reading, ◌>>=◌, with_front, is_blank, after_blanks, integer_at, atom_at, tail_by, pairs_by, items_after, items_by, tuple_by, list_by, term_by, term_at, pairs_at, tuple_at, whole, read_text, at_line, term_of_text}
+use Rattle.beam_model.specs.Prelude.{is_digit, is_unquoted, escaped, atom_text, text_of, tail_text, items_text, HasText, AllHaveText, Reading, with_front, is_blank, after_blanks, integer_at, atom_at, tail_by, pairs_by, items_after, items_by, tuple_by, list_by, term_by, term_at, pairs_at, tuple_at, whole, read_text, at_line, term_of_text}
+use Rattle.beam_term.specs.Prelude.{IsAtomText, terms_of-elements_of, TermValue, Terms, int_term, atom_term, reference_term, pid_term, nil_term, pair_term, tuple_term, no_terms, more_terms, elements_of, tuple_of, count_of, depth_of, items_depth, IsSmall, IsInRange, AreInRange, IsTerm}
+use Rattle.beam_model.specs.TextReading.{◌>>=◌}
 use Rattle.beam_erltext.proofs.Texts.{differ}
 use Rattle.beam_erltext.proofs.Rooms.{term_at_is}
 use Rattle.beam_erltext.proofs.IntegerRoundTrip.{IsApart, digit_is, decimal_begins, integer_again, lt_true}

@@ -1,13 +1,11 @@
 -- The text after a token is no longer than the text before it.
-use Rattle.std.proofs.Common.{◌≡◌, ℕ, zero, suc, ◌+◌, ◌-◌, ◌*◌, ◌^◌, ◌≤◌, Bool, true, false, cond, List, [], ◌∷◌, length, take, drop, Ok, Err, subst, arith}
-use Rattle.std.specs.Prelude.{nat_lt, nat_le, ◌==◌, ◌||◌, encode_utf8, Option, Some, None, neg_ℤ, pos}
+use Rattle.std.proofs.Common.{◌≡◌, ℕ, zero, suc, ◌+◌, ◌-◌, ◌*◌, ◌^◌, ◌≤◌, Bool, true, false, cond, List, [], ◌∷◌, length, take, drop, Ok, Err, subst, arith, nat_lt, nat_le, ◌==◌, ◌||◌, encode_utf8, Option, Some, None, neg_ℤ, pos, length-drop}
 use Rattle.std.specs.Char.{digit_value}
-use Rattle.std.specs.Str.{chars, is_utf8}
-use Rattle.std.proofs.lemmas.List.{length-drop}
+use Rattle.std.specs.Str.{is_utf8, chars}
 use lib.Utf8.{scalar}
-use Rattle.beam_term.specs.TermValue.{TermValue, int_term, atom_term, nil_term, pair_term, tuple_of}
-use Rattle.beam_model.specs.Text.{is_digit, is_unquoted}
-use Rattle.beam_model.specs.TextReading.{Reading, ◌>>=◌, fault_at, with_front, is_blank, after_blanks, digits_after, digits_at, integer_at, hexadecimal_after, hexadecimal_at, code_point_at, escape_of, or_fault, escape_at, quoted_within, quoted_at, name_len, is_atom_text, checked_atom, atom_at, string_at, list_of_characters, string_within, closed_by, tail_by, pairs_by, items_after, items_by, tuple_by, list_by, term_by, term_at, pairs_at}
+use Rattle.beam_model.specs.Prelude.{is_digit, is_unquoted, Reading, fault_at, with_front, is_blank, after_blanks, digits_after, digits_at, integer_at, hexadecimal_after, hexadecimal_at, code_point_at, escape_of, or_fault, escape_at, quoted_within, quoted_at, name_len, is_atom_text, checked_atom, atom_at, string_at, list_of_characters, string_within, closed_by, tail_by, pairs_by, items_after, items_by, tuple_by, list_by, term_by, term_at, pairs_at}
+use Rattle.beam_term.specs.Prelude.{TermValue, int_term, atom_term, nil_term, pair_term, tuple_of}
+use Rattle.beam_model.specs.TextReading.{◌>>=◌}
 
 -- at most this many bytes are left after a reading
 abbrev pub IsWithin : {A : Type 0} → Reading A → ℕ → Type 0

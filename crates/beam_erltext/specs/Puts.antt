@@ -1,10 +1,11 @@
 -- The stack of the terms that were read, after a reader of terms with parts. `place` is how many bytes of the text are left at a fault.
 use Rattle.std.specs.Prelude.{◌≡◌, ℕ, ◌-◌, ◌^◌, ◌<◌, ◌≤◌, nat_lt, if◌then◌else◌, Bool, true, false, List, [], ◌∷◌, ◌++◌, length, Result, Ok, Err}
 use Rattle.std.specs.Borrow.{Bor}
-use Rattle.beam_term.specs.TermValue.{TermValue, nil_term, tuple_of, depth_of}
+use Rattle.beam_term.specs.Prelude.{TermValue, nil_term, tuple_of, depth_of}
 use Rattle.beam_term.specs.declared.error.TermError.{TermError}
 use Rattle.beam_term.specs.declared.error.TermError.TheVariants as terms
-use Rattle.beam_model.specs.TextReading.{Reading, ◌>>=◌, fault_at, closed_by, tail_by, items_by, term_at, pairs_at}
+use Rattle.beam_model.specs.Prelude.{Reading, fault_at, closed_by, tail_by, items_by, term_at, pairs_at}
+use Rattle.beam_model.specs.TextReading.{◌>>=◌}
 use Rattle.beam_erltext.specs.declared.read_fault.ReadFault.{ReadFault}
 use Rattle.beam_erltext.specs.declared.read_fault.ReadFault.TheVariants as faults
 use Rattle.beam_erltext.specs.declared.read.ReadStop.{ReadStop}

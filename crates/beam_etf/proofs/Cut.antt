@@ -1,14 +1,12 @@
 -- A term that ends too early is Truncated.
-use Rattle.std.proofs.Common.{◌≡◌, ◌≢◌, ℕ, List, [], ◌++◌, length, Result, Ok, Err, refl, sym, ap, ◌∙◌, arith}
-use Rattle.std.specs.Prelude.{MatchResult}
+use Rattle.std.proofs.Common.{◌≡◌, ◌≢◌, ℕ, List, [], ◌++◌, length, Result, Ok, Err, refl, sym, ap, ◌∙◌, arith, MatchResult, append-nil, length-append}
 use Rattle.std.specs.Result.{IsErrAnd}
-use Rattle.std.proofs.lemmas.List.{append-nil, length-append, nil_from_length}
-use Rattle.beam_term.specs.TermValue.{TermValue}
-use Rattle.beam_model.specs.External.{IsExternal}
-use Rattle.beam_model.specs.ExternalFault.{ExternalFault, truncated, bad_tag, out_of_profile, integer_too_large, too_deep, bad_utf8}
+use Rattle.std.proofs.lemmas.List.{nil_from_length}
+use Rattle.beam_model.specs.Prelude.{IsExternal, ExternalFault, bad_tag, out_of_profile, too_deep, bad_utf8, external_at}
+use Rattle.beam_term.specs.Prelude.{TermValue}
+use Rattle.beam_model.specs.ExternalFault.{truncated, integer_too_large}
 use Rattle.beam_etf.specs.declared.error.EtfError.{EtfError}
 use Rattle.beam_etf.specs.declared.error.EtfError.TheVariants.{Truncated, BadTag, OutOfProfile, IntegerTooLarge, TooDeep, BadUtf8, NoMemory}
-use Rattle.beam_model.specs.ExternalReading.{external_at}
 use Rattle.beam_etf.specs.Faults.{fault_of}
 use Rattle.beam_etf.proofs.ReadingComplete.{external_again}
 use Rattle.beam_etf.proofs.ReadingSound.{ok_is}

@@ -3,8 +3,8 @@ use Rattle.std.proofs.Common.{◌≡◌, ℕ, ◌-◌, ◌≤◌, Bool, true, fa
 use Rattle.std.specs.List.{starts_with}
 use Rattle.std.proofs.lemmas.List.{take_rest}
 use Rattle.std.proofs.lemmas.Bool.{cases_lt}
-use Rattle.std.specs.Int.{w32, from_be_bytes}
-use Rattle.beam_model.specs.ExternalReading.{after_empty_lists, empty_list, byte_at, big_endian_at}
+use Rattle.std.specs.Int.{from_be_bytes, w32}
+use Rattle.beam_model.specs.Prelude.{after_empty_lists, empty_list, byte_at, big_endian_at}
 use Rattle.beam_etf.proofs.ReadingSound.{byte_takes, number_takes}
 
 skipped : (bytes : List ℕ) → 5 ≤ length bytes → starts_with nat_eq bytes empty_list ≡ true → after_empty_lists (drop 5 bytes) ≡ after_empty_lists bytes

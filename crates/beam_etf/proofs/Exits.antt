@@ -1,12 +1,11 @@
 -- Errors that a `?` passes on.
-use Rattle.std.proofs.Common.{◌≡◌, ◌≢◌, Result, Ok, Err, refl}
-use Rattle.std.specs.Prelude.{MatchResult, IfErr}
+use Rattle.std.proofs.Common.{◌≡◌, ◌≢◌, Result, Ok, Err, refl, MatchResult, IfErr}
 use Rattle.std.specs.Result.{IsErrAnd, IsOkUnless}
 use Rattle.beam_term.specs.declared.error.TermError.{TermError}
 use Rattle.beam_term.specs.declared.error.TermError.TheVariants as terms
 use Rattle.beam_etf.specs.declared.error.EtfError.{EtfError}
 use Rattle.beam_etf.specs.declared.error.EtfError.TheVariants.{Truncated, BadTag, OutOfProfile, IntegerTooLarge, TooDeep, BadUtf8, NoMemory}
-use Rattle.beam_model.specs.ExternalFault.{ExternalFault}
+use Rattle.beam_model.specs.Prelude.{ExternalFault}
 use Rattle.beam_etf.specs.Faults.{from_term_error, fault_of, Gives}
 
 -- an error that a `?` passes on unchanged

@@ -1,25 +1,21 @@
 -- Each fault that is answered stands in the bytes.
-use Rattle.std.proofs.Common.{◌≡◌, ◌≢◌, ℕ, zero, suc, ◌+◌, ◌*◌, ◌≤◌, ◌<◌, ◌&&◌, Bool, true, false, cond, eqb, ltb, List, [], ◌∷◌, ◌++◌, length, take, drop, Result, Ok, Err, refl, sym, ap, subst, ◌∙◌, append_assoc, arith, inl, inr}
-use Rattle.std.specs.Prelude.{◌⊎◌, ℤ, pos, nat_eq}
+use Rattle.std.proofs.Common.{◌≡◌, ◌≢◌, ℕ, zero, suc, ◌+◌, ◌*◌, ◌≤◌, ◌<◌, ◌&&◌, Bool, true, false, cond, eqb, ltb, List, [], ◌∷◌, ◌++◌, length, take, drop, Result, Ok, Err, refl, sym, ap, subst, ◌∙◌, append_assoc, arith, inl, inr, ◌⊎◌, ℤ, pos, nat_eq, ltb-true, ltb-false, eqb-true, eq-eqb, length-append}
 use Rattle.std.specs.List.{starts_with}
-use Rattle.std.specs.Int.{Width, w16, w32, byte_len, from_be_bytes, cast_signed}
+use Rattle.std.specs.Int.{Width, byte_len, from_be_bytes, cast_signed, w16, w32}
 use Rattle.std.specs.Cmp.Lexicographic.{bytes_decides}
-use Rattle.std.specs.Str.{chars, is_utf8}
+use Rattle.std.specs.Str.{is_utf8, chars}
 use Rattle.std.proofs.lemmas.Str.{is_utf8-from_IsUtf8}
-use Rattle.std.proofs.lemmas.Bool.{ltb-true, ltb-false, eqb-true, eq-eqb}
 use Rattle.std.proofs.lemmas.Int.{ints}
-use Rattle.std.proofs.lemmas.List.{length-append}
-use Rattle.beam_term.specs.TermValue.{TermValue, int_term, atom_term, reference_term, pid_term, pair_term, tuple_of, IsSmall}
-use Rattle.beam_model.specs.External.{IsHalf, IsWord, little, IsSigned, plus_sign, minus_sign}
-use Rattle.beam_model.specs.ExternalFault.{ExternalFault, truncated, bad_tag, out_of_profile, integer_too_large, too_deep, bad_utf8, is_left_out, byte_of_integer, word_of_integer, count_of_string, count_of_list, count_of_small_tuple, count_of_large_tuple, count_of_big, sign_of_big, count_of_reference, TextFault, text_cut, text_bad, text_long, AtomFault, small_count_cut, small_text, count_cut, long_text, NodeFault, node_missing, node_left_out, node_no_atom, node_atom, HasFault, tag_missing, tag_unknown, tag_left_out, field_cut, sign_bad, digits_cut, integer_large, atom_fault, node_fault, pid_cut, reference_left_out, reference_node, reference_cut, string_deep, string_cut, list_deep, list_fault, small_tuple_deep, large_tuple_deep, small_tuple_fault, large_tuple_fault, ItemsFault, this_item, later_item, ListFault, this_element, later_element, no_depth_left, in_tail, HasExternalFault, version_missing, version_bad, after_version}
+use Rattle.beam_model.specs.Prelude.{IsHalf, little, IsSigned, plus_sign, minus_sign, ExternalFault, bad_tag, out_of_profile, too_deep, bad_utf8, is_left_out, byte_of_integer, word_of_integer, count_of_string, count_of_list, count_of_small_tuple, count_of_large_tuple, count_of_big, sign_of_big, count_of_reference, TextFault, text_cut, text_bad, text_long, AtomFault, small_count_cut, small_text, count_cut, long_text, NodeFault, node_missing, node_left_out, node_no_atom, node_atom, HasFault, tag_missing, tag_unknown, tag_left_out, field_cut, sign_bad, digits_cut, integer_large, atom_fault, node_fault, pid_cut, reference_left_out, reference_node, reference_cut, string_deep, string_cut, list_deep, list_fault, small_tuple_deep, large_tuple_deep, small_tuple_fault, large_tuple_fault, ItemsFault, this_item, later_item, ListFault, this_element, later_element, no_depth_left, in_tail, HasExternalFault, version_missing, version_bad, after_version, form_of, bytes_at, big_endian_at, byte_at, text_at, signed, greatest, big_at, small_atom_at, long_atom_at, atom_of_form, external_atom_at, pid_at, words_at, reference_at, leaf_at, Inner, text_list, external_string_at, pair_at, external_list_at, items_at, external_tuple_at, term_of_form, empty_list, after_empty_lists, whole_at, read_at, external_at}
+use Rattle.beam_term.specs.Prelude.{TermValue, int_term, atom_term, reference_term, pid_term, pair_term, tuple_of, IsSmall}
+use Rattle.beam_model.specs.External.{IsWord}
+use Rattle.beam_model.specs.ExternalFault.{truncated, integer_too_large}
 use Rattle.beam_model.specs.declared.external.Form.{Form}
 use Rattle.beam_model.specs.declared.external.Form.TheVariants as forms
-use Rattle.beam_model.specs.ExternalForm.{form_of}
-use Rattle.beam_model.specs.ExternalReading.{◌>>=◌, bytes_at, big_endian_at, byte_at, text_at, signed, greatest, big_at, small_atom_at, long_atom_at, atom_of_form, external_atom_at, pid_at, words_at, reference_at, leaf_at, Inner, text_list, external_string_at, pair_at, external_list_at, items_at, external_tuple_at, term_of_form, empty_list, after_empty_lists, whole_at, read_at, external_at}
+use Rattle.beam_model.specs.ExternalReading.{◌>>=◌}
 use Rattle.beam_etf.proofs.Empty.{no_empty}
-use Rattle.beam_etf.proofs.ReadingSound.{Field, byte_takes, bytes_takes, number_takes, atom_takes, is_within, counted_at}
+use Rattle.beam_etf.proofs.ReadingSound.{Field, byte_takes, bytes_takes, number_takes, atom_takes, is_within, counted_at, Taken}
 use Rattle.beam_etf.proofs.ReadingSoundParts.{term_takes}
-use Rattle.beam_etf.proofs.ReadingSound.{Taken}
 use Rattle.beam_etf.proofs.Tags.{Tagged, tagged}
 
 bind_err : {A B : Type 0} (r : Result A ExternalFault) (f : A → Result B ExternalFault) (e : ExternalFault) → (r >>= f) ≡ Err e → (r ≡ Err e) ⊎ ((x : A) × (r ≡ Ok x) × (f x ≡ Err e))

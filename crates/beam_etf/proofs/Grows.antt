@@ -1,18 +1,15 @@
 -- A term that is read at the front is read also with more bytes after it, and each fault except truncated stays one.
-use Rattle.std.proofs.Common.{◌≡◌, ◌≢◌, ℕ, zero, suc, ◌≤◌, Bool, true, false, cond, eqb, ltb, ◌&&◌, List, [], ◌∷◌, ◌++◌, length, take, drop, Result, Ok, Err, refl, sym, ap, subst, ◌∙◌, arith}
-use Rattle.std.specs.Prelude.{pos, nat_eq}
+use Rattle.std.proofs.Common.{◌≡◌, ◌≢◌, ℕ, zero, suc, ◌≤◌, Bool, true, false, cond, eqb, ltb, ◌&&◌, List, [], ◌∷◌, ◌++◌, length, take, drop, Result, Ok, Err, refl, sym, ap, subst, ◌∙◌, arith, pos, nat_eq, le-ltb, ltb-false, eqb-true, length-append}
 use Rattle.std.specs.List.{starts_with}
-use Rattle.std.specs.Int.{Width, w16, w32, byte_len, from_be_bytes, cast_signed}
-use Rattle.std.specs.Str.{chars, is_utf8}
-use Rattle.std.proofs.lemmas.Bool.{le-ltb, ltb-false, eqb-true}
-use Rattle.std.proofs.lemmas.List.{length-append, take-append-le, drop-append-le}
-use Rattle.beam_term.specs.TermValue.{TermValue, int_term, atom_term, reference_term, pid_term, pair_term, tuple_of}
-use Rattle.beam_model.specs.External.{little}
-use Rattle.beam_model.specs.ExternalFault.{ExternalFault, truncated, bad_tag, out_of_profile, integer_too_large, too_deep, bad_utf8}
+use Rattle.std.specs.Int.{Width, byte_len, from_be_bytes, cast_signed, w16, w32}
+use Rattle.std.specs.Str.{is_utf8, chars}
+use Rattle.std.proofs.lemmas.List.{take-append-le, drop-append-le}
+use Rattle.beam_model.specs.Prelude.{little, ExternalFault, bad_tag, out_of_profile, too_deep, bad_utf8, form_of, bytes_at, big_endian_at, byte_at, text_at, signed, greatest, big_at, small_atom_at, long_atom_at, atom_of_form, external_atom_at, pid_at, words_at, reference_at, leaf_at, Inner, text_list, external_string_at, pair_at, external_list_at, items_at, external_tuple_at, term_of_form, empty_list, after_empty_lists, whole_at, read_at, external_at}
+use Rattle.beam_term.specs.Prelude.{TermValue, int_term, atom_term, reference_term, pid_term, pair_term, tuple_of}
+use Rattle.beam_model.specs.ExternalFault.{truncated, integer_too_large}
 use Rattle.beam_model.specs.declared.external.Form.{Form}
 use Rattle.beam_model.specs.declared.external.Form.TheVariants as forms
-use Rattle.beam_model.specs.ExternalForm.{form_of}
-use Rattle.beam_model.specs.ExternalReading.{◌>>=◌, bytes_at, big_endian_at, byte_at, text_at, signed, greatest, big_at, small_atom_at, long_atom_at, atom_of_form, external_atom_at, pid_at, words_at, reference_at, leaf_at, Inner, text_list, external_string_at, pair_at, external_list_at, items_at, external_tuple_at, term_of_form, empty_list, after_empty_lists, whole_at, read_at, external_at}
+use Rattle.beam_model.specs.ExternalReading.{◌>>=◌}
 use Rattle.beam_etf.proofs.Empty.{skip_none}
 use Rattle.beam_etf.proofs.ReadingSound.{counted_at}
 

@@ -1,10 +1,9 @@
 -- The spelling of an integer, by where it lies.
-use Rattle.std.proofs.Common.{◌≡◌, ◌^◌, true, false, [], ◌∷◌, refl, arith}
-use Rattle.std.specs.Prelude.{ℤ, pos, neg_ℤ, ◌≤ℤ◌, ◌<ℤ◌, unsigned_abs}
-use Rattle.std.specs.Int.{w32, to_be_bytes, cast_unsigned}
+use Rattle.std.proofs.Common.{◌≡◌, ◌^◌, true, false, [], ◌∷◌, refl, arith, ℤ, pos, neg_ℤ, ◌≤ℤ◌, ◌<ℤ◌, unsigned_abs}
+use Rattle.std.specs.Int.{to_be_bytes, cast_unsigned, w32}
 use Rattle.std.specs.Int.Signed.{lt_z, le_z}
 use Rattle.std.proofs.lemmas.Int.{ints}
-use Rattle.beam_model.specs.External.{written_integer, written_big, sign_of}
+use Rattle.beam_model.specs.Prelude.{written_integer, written_big, sign_of}
 
 le_true : (a b : ℤ) → a ≤ℤ b → le_z a b ≡ true
 le_true a b h = grind (arith, ints)

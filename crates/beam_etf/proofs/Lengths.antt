@@ -1,10 +1,9 @@
 -- How many bytes the text of an atom has.
-use Rattle.std.proofs.Common.{ℕ, ◌*◌, ◌≤◌, List, [], ◌∷◌, length, ap, arith}
+use Rattle.std.proofs.Common.{ℕ, ◌*◌, ◌≤◌, List, [], ◌∷◌, length, ap, arith, length-append}
 use Rattle.std.specs.Str.{chars}
 use Rattle.std.proofs.lemmas.Str.{encodes-chars, length-encode, len_utf8_bounds}
-use Rattle.std.proofs.lemmas.List.{length-append}
 use lib.Utf8.{encode, encodes}
-use Rattle.beam_term.specs.Atom.{IsAtomText}
+use Rattle.beam_term.specs.Prelude.{IsAtomText}
 
 encodes_short : (cs : List ℕ) → length (encodes cs) ≤ 4 * length cs
 encodes_short [] = omega arith

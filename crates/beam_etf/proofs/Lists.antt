@@ -1,9 +1,8 @@
 -- The spelling of a list, by whether it is a text.
-use Rattle.std.proofs.Common.{◌≡◌, ℕ, zero, suc, ◌≤◌, ◌<◌, true, false, List, [], ◌∷◌, ◌++◌, length, get_or, refl, ap, subst, arith}
-use Rattle.std.specs.Int.{w16, w32, to_be_bytes}
-use Rattle.std.proofs.lemmas.Bool.{lt-ltb}
-use Rattle.beam_term.specs.TermValue.{TermValue, pair_term, terms_of, depth_of, items_depth}
-use Rattle.beam_model.specs.External.{is_byte_list, pair_count, bytes_of_list, written_list, written_part}
+use Rattle.std.proofs.Common.{◌≡◌, ℕ, zero, suc, ◌≤◌, ◌<◌, true, false, List, [], ◌∷◌, ◌++◌, length, get_or, refl, ap, subst, arith, lt-ltb}
+use Rattle.std.specs.Int.{to_be_bytes, w16, w32}
+use Rattle.beam_model.specs.Prelude.{is_byte_list, pair_count, bytes_of_list, written_list, written_part}
+use Rattle.beam_term.specs.Prelude.{TermValue, pair_term, terms_of, depth_of, items_depth}
 
 as_string : (list : TermValue) (elements : List ℕ) → is_byte_list list ≡ true → pair_count list ≤ 4096 → written_list list elements ≡ 107 ∷ (to_be_bytes w16 (pair_count list) ++ bytes_of_list list)
 unfolding written_list

@@ -1,6 +1,6 @@
 -- Numbers whose lowest byte stands first.
 use Rattle.std.proofs.Common.{◌≡◌, ℕ, zero, suc, ◌*◌, ◌^◌, ◌<◌, ◌≤◌, List, [], ◌∷◌, drop, arith}
-use Rattle.beam_model.specs.External.{little}
+use Rattle.beam_model.specs.Prelude.{little}
 
 -- the higher bytes, where at least one stands below them
 pub little_rise : (digits : List ℕ) (i : ℕ) → 0 < i → 256 * little (drop i digits) ≤ little digits

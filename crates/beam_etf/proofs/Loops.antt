@@ -1,10 +1,8 @@
 -- Reading terms one after the other, as the loops do.
-use Rattle.std.proofs.Common.{◌≡◌, ℕ, suc, ◌-◌, ◌+◌, ◌≤◌, ◌<◌, List, [], ◌∷◌, ◌++◌, Result, Ok, Err, refl, sym, ap, ◌∙◌, append_assoc, arith}
-use Rattle.std.proofs.lemmas.List.{append-nil}
-use Rattle.beam_term.specs.TermValue.{TermValue, pair_term, list_before}
-use Rattle.beam_term.specs.Depth.{list_before-append}
-use Rattle.beam_model.specs.ExternalFault.{ExternalFault}
-use Rattle.beam_model.specs.ExternalReading.{◌>>=◌, read_at, items_at, pair_at}
+use Rattle.std.proofs.Common.{◌≡◌, ℕ, suc, ◌-◌, ◌+◌, ◌≤◌, ◌<◌, List, [], ◌∷◌, ◌++◌, Result, Ok, Err, refl, sym, ap, ◌∙◌, append_assoc, arith, append-nil}
+use Rattle.beam_model.specs.Prelude.{ExternalFault, read_at, items_at, pair_at}
+use Rattle.beam_term.specs.Prelude.{TermValue, pair_term, list_before, list_before-append}
+use Rattle.beam_model.specs.ExternalReading.{◌>>=◌}
 
 -- the elements of a tuple that were read, and then those of the rest
 abbrev pub before_rest : List TermValue → Result (List TermValue × List ℕ) ExternalFault → Result (List TermValue × List ℕ) ExternalFault

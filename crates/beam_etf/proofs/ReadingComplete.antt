@@ -1,20 +1,14 @@
 -- A spelled term is read, whatever bytes follow it.
-use Rattle.std.proofs.Common.{◌≡◌, ℕ, zero, suc, ◌≤◌, Bool, true, false, ltb, List, [], ◌∷◌, ◌++◌, length, drop, Ok, refl, sym, ap, ◌∙◌, append_assoc, arith}
-use Rattle.std.specs.Prelude.{ℤ, pos, neg_ℤ, nat_eq}
-use Rattle.std.specs.List.{starts_with}
-use Rattle.std.specs.Int.{Width, w16, w32, byte_len, from_be_bytes}
-use Rattle.std.specs.Cmp.Lexicographic.{bytes_decides}
+use Rattle.std.proofs.Common.{◌≡◌, ℕ, zero, suc, ◌≤◌, Bool, true, false, ltb, List, [], ◌∷◌, ◌++◌, length, drop, Ok, refl, sym, ap, ◌∙◌, append_assoc, arith, ℤ, pos, neg_ℤ, nat_eq, le-ltb, lt-ltb, take_at, drop_at, length-append}
 use Rattle.std.specs.Str.{chars}
+use Rattle.std.specs.List.{starts_with}
+use Rattle.std.specs.Int.{Width, byte_len, from_be_bytes, w16, w32}
+use Rattle.std.specs.Cmp.Lexicographic.{bytes_decides}
 use Rattle.std.proofs.lemmas.Str.{is_utf8-from_IsUtf8}
-use Rattle.std.proofs.lemmas.Bool.{le-ltb, lt-ltb}
 use Rattle.std.proofs.lemmas.Int.{ints}
-use Rattle.std.proofs.lemmas.List.{take_at, drop_at, length-append}
-use Rattle.beam_term.specs.Atom.{IsAtomText}
-use Rattle.beam_term.specs.TermValue.{TermValue, Terms, atom_term, reference_term, pid_term, tuple_term, elements_of, count_of, depth_of, items_depth, IsSmall}
-use Rattle.beam_term.specs.Elements.{terms_of-elements_of}
-use Rattle.beam_model.specs.External.{IsHalf, IsWord, little, IsSigned, plus_sign, minus_sign, SpellsAtom, small_atom_utf8_ext, atom_utf8_ext, AreWords, no_words, one_word, SpellsTerm, small_integer_ext, integer_ext, small_big_ext, nil_ext, utf8_atom, new_pid_ext, newer_reference_ext, small_tuple_ext, large_tuple_ext, string_ext, list_ext, empty_list_ext, SpellsAll, no_elements, one_element, SpellsList, only_tail, head_before, IsExternal}
-use Rattle.beam_model.specs.ExternalForm.{form_of}
-use Rattle.beam_model.specs.ExternalReading.{bytes_at, big_endian_at, byte_at, text_at, greatest, big_at, small_atom_at, long_atom_at, atom_of_form, external_atom_at, pid_at, words_at, reference_at, leaf_at, text_list, external_string_at, pair_at, items_at, external_tuple_at, term_of_form, empty_list, after_empty_lists, whole_at, read_at, below, external_at}
+use Rattle.beam_model.specs.Prelude.{IsHalf, little, IsSigned, plus_sign, minus_sign, SpellsAtom, small_atom_utf8_ext, atom_utf8_ext, AreWords, no_words, one_word, SpellsTerm, small_integer_ext, integer_ext, small_big_ext, nil_ext, utf8_atom, new_pid_ext, newer_reference_ext, small_tuple_ext, large_tuple_ext, string_ext, list_ext, empty_list_ext, SpellsAll, no_elements, one_element, SpellsList, only_tail, head_before, IsExternal, form_of, bytes_at, big_endian_at, byte_at, text_at, greatest, big_at, small_atom_at, long_atom_at, atom_of_form, external_atom_at, pid_at, words_at, reference_at, leaf_at, text_list, external_string_at, pair_at, items_at, external_tuple_at, term_of_form, empty_list, after_empty_lists, whole_at, read_at, below, external_at}
+use Rattle.beam_term.specs.Prelude.{IsAtomText, TermValue, Terms, atom_term, reference_term, pid_term, tuple_term, elements_of, count_of, depth_of, items_depth, IsSmall, terms_of-elements_of}
+use Rattle.beam_model.specs.External.{IsWord}
 use Rattle.beam_etf.proofs.Empty.{skip_none}
 use Rattle.beam_etf.proofs.Rooms.{read_at-whole, list_at-read, as_tuple, tuple_at-items}
 

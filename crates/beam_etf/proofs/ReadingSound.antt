@@ -1,35 +1,17 @@
 -- The bytes spell the term that is read, and the term is no deeper than its room.
-use Rattle.std.proofs.Common.{◌≡◌, ℕ, zero, suc, ◌≤◌, Bool, true, false, cond, ltb, ◌&&◌, List, [], ◌∷◌, ◌++◌, length, take, drop, Result, Ok, Err, refl, sym, ap, subst, ◌∙◌, append_assoc, arith}
-use Rattle.std.specs.Prelude.{ℤ, pos}
-use Rattle.std.specs.Int.{Width, w16, w32, byte_len, from_be_bytes, cast_signed}
-use Rattle.std.specs.Str.{chars, is_utf8}
+use Rattle.std.proofs.Common.{◌≡◌, ℕ, zero, suc, ◌≤◌, Bool, true, false, cond, ltb, ◌&&◌, List, [], ◌∷◌, ◌++◌, length, take, drop, Result, Ok, Err, refl, sym, ap, subst, ◌∙◌, append_assoc, arith, ℤ, pos, ltb-true, ltb-false, take-append-drop, length-take}
+use Rattle.std.specs.Int.{Width, byte_len, from_be_bytes, cast_signed, w16, w32}
+use Rattle.std.specs.Str.{is_utf8, chars}
 use Rattle.std.proofs.lemmas.Str.{IsUtf8-from_is_utf8}
-use Rattle.std.proofs.lemmas.Bool.{ltb-true, ltb-false}
 use Rattle.std.proofs.lemmas.Int.{ints}
-use Rattle.std.proofs.lemmas.List.{take-append-drop, length-take}
-use Rattle.beam_term.specs.Atom.{IsAtomText}
-use Rattle.beam_term.specs.TermValue.{TermValue, int_term, atom_term, reference_term, pid_term, nil_term, depth_of, IsSmall}
-use Rattle.beam_model.specs.External.{little, IsSigned, plus_sign, minus_sign, SpellsAtom, small_atom_utf8_ext, atom_utf8_ext, AreWords, no_words, one_word, SpellsTerm, small_integer_ext, integer_ext, small_big_ext, nil_ext, utf8_atom, new_pid_ext, newer_reference_ext}
-use Rattle.beam_model.specs.ExternalFault.{ExternalFault, truncated, bad_tag, out_of_profile, integer_too_large, bad_utf8}
+use Rattle.beam_lemmas.proofs.Steps.{bind_ok, guard_true, guard_false}
+use Rattle.beam_model.specs.Prelude.{little, IsSigned, plus_sign, minus_sign, SpellsAtom, small_atom_utf8_ext, atom_utf8_ext, AreWords, no_words, one_word, SpellsTerm, small_integer_ext, integer_ext, small_big_ext, nil_ext, utf8_atom, new_pid_ext, newer_reference_ext, ExternalFault, bad_tag, out_of_profile, bad_utf8, form_of, bytes_at, big_endian_at, byte_at, text_at, signed, greatest, big_at, small_atom_at, long_atom_at, atom_of_form, external_atom_at, pid_at, words_at, reference_at, leaf_at}
+use Rattle.beam_term.specs.Prelude.{IsAtomText, TermValue, int_term, atom_term, reference_term, pid_term, nil_term, depth_of, IsSmall}
+use Rattle.beam_model.specs.ExternalFault.{truncated, integer_too_large}
 use Rattle.beam_model.specs.declared.external.Form.{Form}
 use Rattle.beam_model.specs.declared.external.Form.TheVariants as forms
-use Rattle.beam_model.specs.ExternalForm.{form_of}
-use Rattle.beam_model.specs.ExternalReading.{◌>>=◌, bytes_at, big_endian_at, byte_at, text_at, signed, greatest, big_at, small_atom_at, long_atom_at, atom_of_form, external_atom_at, pid_at, words_at, reference_at, leaf_at}
+use Rattle.beam_model.specs.ExternalReading.{◌>>=◌}
 use Rattle.beam_etf.proofs.Tags.{Tagged, tagged}
-
--- the value of a step that did not fail
-pub bind_ok : {A B : Type 0} (r : Result A ExternalFault) (f : A → Result B ExternalFault) (y : B) → (r >>= f) ≡ Ok y → (x : A) × (r ≡ Ok x) × (f x ≡ Ok y)
-bind_ok (Ok x) f y e = (x, refl, e)
-bind_ok (Err d) f y e = absurd cc
-
--- a test that did not fail
-pub guard_ok : {A : Type 0} (b : Bool) (d : ExternalFault) (r : Result A ExternalFault) (y : A) → cond b (Err d) r ≡ Ok y → (b ≡ false) × (r ≡ Ok y)
-guard_ok true d r y e = absurd cc
-guard_ok false d r y e = (refl, e)
-
-guard_true : {A : Type 0} (b : Bool) (d : ExternalFault) (r : Result A ExternalFault) (y : A) → cond b r (Err d) ≡ Ok y → (b ≡ true) × (r ≡ Ok y)
-guard_true true d r y e = (refl, e)
-guard_true false d r y e = absurd cc
 
 abbrev done : {A : Type 0} → A → Result A ExternalFault
 done x = Ok x
@@ -53,7 +35,7 @@ byte_takes (c ∷ bytes) b rest e =
 pub bytes_takes : (n : ℕ) (bytes front rest : List ℕ) → bytes_at n bytes ≡ Ok (front, rest) → Field bytes front rest n
 unfolding bytes_at
 bytes_takes n bytes front rest e =
-    let g = guard_ok (ltb (length bytes) n) truncated (Ok (take n bytes, drop n bytes)) (front, rest) e in
+    let g = guard_false (ltb (length bytes) n) truncated (Ok (take n bytes, drop n bytes)) (front, rest) e in
     let k = ok_is (take n bytes, drop n bytes) (front, rest) g.1 in
     let long : n ≤ length bytes = ltb-false _ _ g.0 in
     let f : Field bytes (take n bytes) (drop n bytes) n = record { parts = sym (take-append-drop n bytes); wide = omega (arith, length-take n bytes) } in
@@ -73,7 +55,7 @@ unfolding text_at
 text_takes n bytes text rest e =
     let b = bind_ok (bytes_at n bytes) (λ field. cond (is_utf8 field.0) (cond (ltb 255 (length (chars field.0))) (Err out_of_profile) (Ok field)) (Err bad_utf8)) (text, rest) e in
     let u = guard_true (is_utf8 b.0.0) bad_utf8 (cond (ltb 255 (length (chars b.0.0))) (Err out_of_profile) (Ok b.0)) (text, rest) b.2 in
-    let g = guard_ok (ltb 255 (length (chars b.0.0))) out_of_profile (Ok b.0) (text, rest) u.1 in
+    let g = guard_false (ltb 255 (length (chars b.0.0))) out_of_profile (Ok b.0) (text, rest) u.1 in
     let k = ok_is b.0 (text, rest) g.1 in
     let f = bytes_takes n bytes b.0.0 b.0.1 b.1 in
     let short : length (chars b.0.0) ≤ 255 = ltb-false _ _ g.0 in
@@ -249,9 +231,9 @@ unfolding big_at
 big_takes depth_left tag is bytes z rest e =
     let a = bind_ok (byte_at bytes) (λ count. byte_at count.1 >>= λ sign. cond (ltb 1 sign.0) (Err bad_tag) (bytes_at count.0 sign.1 >>= λ digits. cond (ltb (greatest sign.0) (little digits.0)) (Err integer_too_large) (Ok (signed sign.0 (little digits.0), digits.1)))) (z, rest) e in
     let b = bind_ok (byte_at a.0.1) (λ sign. cond (ltb 1 sign.0) (Err bad_tag) (bytes_at a.0.0 sign.1 >>= λ digits. cond (ltb (greatest sign.0) (little digits.0)) (Err integer_too_large) (Ok (signed sign.0 (little digits.0), digits.1)))) (z, rest) a.2 in
-    let g = guard_ok (ltb 1 b.0.0) bad_tag (bytes_at a.0.0 b.0.1 >>= λ digits. cond (ltb (greatest b.0.0) (little digits.0)) (Err integer_too_large) (Ok (signed b.0.0 (little digits.0), digits.1))) (z, rest) b.2 in
+    let g = guard_false (ltb 1 b.0.0) bad_tag (bytes_at a.0.0 b.0.1 >>= λ digits. cond (ltb (greatest b.0.0) (little digits.0)) (Err integer_too_large) (Ok (signed b.0.0 (little digits.0), digits.1))) (z, rest) b.2 in
     let d = bind_ok (bytes_at a.0.0 b.0.1) (λ digits. cond (ltb (greatest b.0.0) (little digits.0)) (Err integer_too_large) (Ok (signed b.0.0 (little digits.0), digits.1))) (z, rest) g.1 in
-    let h = guard_ok (ltb (greatest b.0.0) (little d.0.0)) integer_too_large (Ok (signed b.0.0 (little d.0.0), d.0.1)) (z, rest) d.2 in
+    let h = guard_false (ltb (greatest b.0.0) (little d.0.0)) integer_too_large (Ok (signed b.0.0 (little d.0.0), d.0.1)) (z, rest) d.2 in
     let k = ok_is (signed b.0.0 (little d.0.0), d.0.1) (z, rest) h.1 in
     let s = signs b.0.0 (little d.0.0) (ltb-false _ _ g.0) (ltb-false _ _ h.0) in
     let f = bytes_takes a.0.0 b.0.1 d.0.0 d.0.1 d.1 in

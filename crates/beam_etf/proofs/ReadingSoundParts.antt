@@ -1,19 +1,15 @@
 -- The bytes spell the term that is read, and the term is no deeper than its room: terms with parts.
-use Rattle.std.proofs.Common.{◌≡◌, ℕ, zero, suc, ◌≤◌, Bool, true, false, cond, eqb, ltb, List, [], ◌∷◌, ◌++◌, length, Result, Ok, Err, refl, sym, ap, subst, ◌∙◌, append_assoc, arith}
-use Rattle.std.specs.Prelude.{nat_eq}
-use Rattle.std.specs.List.{starts_with}
+use Rattle.std.proofs.Common.{◌≡◌, ℕ, zero, suc, ◌≤◌, Bool, true, false, cond, eqb, ltb, List, [], ◌∷◌, ◌++◌, length, Result, Ok, Err, refl, sym, ap, subst, ◌∙◌, append_assoc, arith, nat_eq, ltb-false, eqb-true}
 use Rattle.std.specs.Int.{w16, w32}
+use Rattle.std.specs.List.{starts_with}
 use Rattle.std.specs.Cmp.Lexicographic.{bytes_decides}
-use Rattle.std.proofs.lemmas.Bool.{ltb-false, eqb-true}
-use Rattle.beam_term.specs.TermValue.{TermValue, Terms, pair_term, tuple_term, terms_of, tuple_of, count_of, depth_of, items_depth}
-use Rattle.beam_term.specs.Elements.{count_of-terms_of}
-use Rattle.beam_model.specs.External.{SpellsTerm, small_tuple_ext, large_tuple_ext, string_ext, list_ext, empty_list_ext, SpellsAll, no_elements, one_element, SpellsList, only_tail, head_before, IsExternal}
-use Rattle.beam_model.specs.ExternalFault.{ExternalFault, too_deep, bad_tag}
+use Rattle.beam_lemmas.proofs.Steps.{bind_ok, guard_false}
+use Rattle.beam_model.specs.Prelude.{SpellsTerm, small_tuple_ext, large_tuple_ext, string_ext, list_ext, empty_list_ext, SpellsAll, no_elements, one_element, SpellsList, only_tail, head_before, IsExternal, ExternalFault, too_deep, bad_tag, form_of, bytes_at, big_endian_at, byte_at, Inner, text_list, external_string_at, pair_at, external_list_at, items_at, external_tuple_at, term_of_form, empty_list, after_empty_lists, whole_at, read_at, external_at}
+use Rattle.beam_term.specs.Prelude.{TermValue, Terms, pair_term, tuple_term, terms_of, tuple_of, count_of, depth_of, items_depth, count_of-terms_of}
 use Rattle.beam_model.specs.declared.external.Form.{Form}
 use Rattle.beam_model.specs.declared.external.Form.TheVariants as forms
-use Rattle.beam_model.specs.ExternalForm.{form_of}
-use Rattle.beam_model.specs.ExternalReading.{◌>>=◌, bytes_at, big_endian_at, byte_at, Inner, text_list, external_string_at, pair_at, external_list_at, items_at, external_tuple_at, term_of_form, empty_list, after_empty_lists, whole_at, read_at, external_at}
-use Rattle.beam_etf.proofs.ReadingSound.{bind_ok, guard_ok, ok_is, byte_takes, bytes_takes, number_takes, Taken, leaf_takes}
+use Rattle.beam_model.specs.ExternalReading.{◌>>=◌}
+use Rattle.beam_etf.proofs.ReadingSound.{ok_is, byte_takes, bytes_takes, number_takes, Taken, leaf_takes}
 use Rattle.beam_etf.proofs.TextDepth.{text_depth}
 use Rattle.beam_etf.proofs.Tags.{Tagged, tagged}
 
@@ -88,7 +84,7 @@ string_takes : (depth_left tag : ℕ) → tag ≡ 107 → (bytes : List ℕ) (t 
 unfolding external_string_at
 string_takes depth_left tag is bytes t rest e =
     let a = bind_ok (big_endian_at w16 bytes) (λ count. cond (ltb depth_left count.0) (Err too_deep) (bytes_at count.0 count.1 >>= λ text. Ok (text_list text.0, text.1))) (t, rest) e in
-    let g = guard_ok (ltb depth_left a.0.0) too_deep (bytes_at a.0.0 a.0.1 >>= λ text. Ok (text_list text.0, text.1)) (t, rest) a.2 in
+    let g = guard_false (ltb depth_left a.0.0) too_deep (bytes_at a.0.0 a.0.1 >>= λ text. Ok (text_list text.0, text.1)) (t, rest) a.2 in
     let b = bind_ok (bytes_at a.0.0 a.0.1) (λ text. Ok (text_list text.0, text.1)) (t, rest) g.1 in
     let k = ok_is (text_list b.0.0, b.0.1) (t, rest) b.2 in
     let n = number_takes w16 bytes a.0.0 a.0.1 a.1 in
@@ -111,11 +107,11 @@ list_takes : (depth_left : ℕ) (inner : Inner) → Deeper depth_left inner → 
 unfolding external_list_at
 list_takes depth_left inner deeper zero bytes t rest e = absurd cc
 list_takes zero inner deeper (suc n) bytes t rest e =
-    let g = guard_ok (ltb 0 (suc n)) too_deep (pair_at inner n bytes) (t, rest) e in
+    let g = guard_false (ltb 0 (suc n)) too_deep (pair_at inner n bytes) (t, rest) e in
     let k : suc n ≤ 0 = ltb-false _ _ g.0 in
     absurd (omega arith)
 list_takes (suc depth_left) inner deeper (suc n) bytes t rest e =
-    let g = guard_ok (ltb (suc depth_left) (suc n)) too_deep (pair_at inner n bytes) (t, rest) e in
+    let g = guard_false (ltb (suc depth_left) (suc n)) too_deep (pair_at inner n bytes) (t, rest) e in
     (pair_takes depth_left inner (deeper depth_left refl) n bytes t rest g.1, (n, refl))
 
 tuple_takes : (depth_left : ℕ) (inner : Inner) → Deeper depth_left inner → (count : ℕ) (bytes : List ℕ) (t : TermValue) (rest : List ℕ) → external_tuple_at inner depth_left count bytes ≡ Ok (t, rest)
@@ -123,7 +119,7 @@ tuple_takes : (depth_left : ℕ) (inner : Inner) → Deeper depth_left inner →
 unfolding external_tuple_at
 tuple_takes zero inner deeper count bytes t rest e = absurd cc
 tuple_takes (suc depth_left) inner deeper count bytes t rest e =
-    let g = guard_ok (eqb (suc depth_left) 0) too_deep (items_at (inner 0) count bytes >>= λ items. Ok (tuple_of items.0, items.1)) (t, rest) e in
+    let g = guard_false (eqb (suc depth_left) 0) too_deep (items_at (inner 0) count bytes >>= λ items. Ok (tuple_of items.0, items.1)) (t, rest) e in
     let a = bind_ok (items_at (inner 0) count bytes) (λ items. Ok (tuple_of items.0, items.1)) (t, rest) g.1 in
     let k = ok_is (tuple_of a.0.0, a.0.1) (t, rest) a.2 in
     let x = items_takes depth_left (inner 0) (λ bs u r h. single depth_left bs u r (deeper depth_left refl 0 bs u r h)) count bytes a.0.0 a.0.1 a.1 in

@@ -1,9 +1,8 @@
 -- How a term's room passes to its parts.
-use Rattle.std.proofs.Common.{◌≡◌, ℕ, zero, suc, ◌≤◌, Bool, true, false, eqb, List, Result, Ok, refl, ap, arith}
-use Rattle.std.proofs.lemmas.Bool.{le-ltb, eqb-true}
-use Rattle.beam_model.specs.ExternalReading.{◌>>=◌, read_at, below, external_list_at, whole_at, pair_at, external_tuple_at, items_at}
-use Rattle.beam_term.specs.TermValue.{TermValue, tuple_of}
-use Rattle.beam_model.specs.ExternalFault.{ExternalFault}
+use Rattle.std.proofs.Common.{◌≡◌, ℕ, zero, suc, ◌≤◌, Bool, true, false, eqb, List, Result, Ok, refl, ap, arith, le-ltb, eqb-true}
+use Rattle.beam_model.specs.Prelude.{read_at, below, external_list_at, whole_at, pair_at, external_tuple_at, items_at, ExternalFault}
+use Rattle.beam_model.specs.ExternalReading.{◌>>=◌}
+use Rattle.beam_term.specs.Prelude.{TermValue, tuple_of}
 
 pub read_at-whole : (depth_left : ℕ) (bytes : List ℕ) → read_at depth_left 0 bytes ≡ whole_at (below depth_left) depth_left bytes
 unfolding read_at below

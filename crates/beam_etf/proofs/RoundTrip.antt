@@ -1,9 +1,7 @@
 -- The bytes that are written for a term are read as that term.
-use Rattle.std.proofs.Common.{◌≡◌, [], Ok, sym, ap, ◌∙◌}
-use Rattle.std.proofs.lemmas.List.{append-nil}
-use Rattle.beam_term.specs.TermValue.{TermValue, IsTerm}
-use Rattle.beam_model.specs.External.{external_bytes}
-use Rattle.beam_model.specs.ExternalReading.{external_at}
+use Rattle.std.proofs.Common.{◌≡◌, [], Ok, sym, ap, ◌∙◌, append-nil}
+use Rattle.beam_model.specs.Prelude.{external_bytes, external_at}
+use Rattle.beam_term.specs.Prelude.{TermValue, IsTerm}
 use Rattle.beam_etf.proofs.ReadingComplete.{external_again}
 use Rattle.beam_etf.proofs.Written.{written_spelled}
 

@@ -1,12 +1,10 @@
 -- The stack of the terms that were read, split where a list's or a tuple's parts begin.
-use Rattle.std.proofs.Common.{◌≡◌, ◌≢◌, ℕ, List, [], ◌∷◌, ◌++◌, Result, Ok, Err, length, take, drop, refl, sym, ap, ◌∙◌, append_assoc, length-append, arith}
-use Rattle.std.specs.Prelude.{MatchResult}
+use Rattle.std.proofs.Common.{◌≡◌, ◌≢◌, ℕ, List, [], ◌∷◌, ◌++◌, Result, Ok, Err, length, take, drop, refl, sym, ap, ◌∙◌, append_assoc, length-append, arith, MatchResult, take_at, drop_at}
 use Rattle.std.specs.Result.{IsErrAnd}
-use Rattle.std.proofs.lemmas.List.{take_at, drop_at}
-use Rattle.beam_term.specs.TermValue.{TermValue}
+use Rattle.beam_term.specs.Prelude.{TermValue}
 use Rattle.beam_term.specs.declared.error.TermError.{TermError}
 use Rattle.beam_term.specs.declared.error.TermError.TheVariants as terms
-use Rattle.beam_model.specs.ExternalFault.{ExternalFault}
+use Rattle.beam_model.specs.Prelude.{ExternalFault}
 use Rattle.beam_etf.specs.declared.error.EtfError.{EtfError}
 use Rattle.beam_etf.specs.declared.error.EtfError.TheVariants.{NoMemory}
 use Rattle.beam_etf.specs.Faults.{from_term_error, fault_of}

@@ -1,10 +1,8 @@
 -- The tag of each form.
-use Rattle.std.proofs.Common.{◌≡◌, ◌≢◌, ℕ, Bool, true, false, cond, eqb, refl, sym, subst, ◌∙◌}
-use Rattle.std.proofs.lemmas.Bool.{eqb-true, eq-eqb}
-use Rattle.beam_model.specs.ExternalFault.{is_left_out, IsUnknown}
+use Rattle.std.proofs.Common.{◌≡◌, ◌≢◌, ℕ, Bool, true, false, cond, eqb, refl, sym, subst, ◌∙◌, eqb-true, eq-eqb}
+use Rattle.beam_model.specs.Prelude.{is_left_out, IsUnknown, form_of}
 use Rattle.beam_model.specs.declared.external.Form.{Form}
 use Rattle.beam_model.specs.declared.external.Form.TheVariants as forms
-use Rattle.beam_model.specs.ExternalForm.{form_of}
 
 -- the tag of each form, and what is known of a tag that is none
 abbrev pub Tagged : Form → ℕ → Type 0

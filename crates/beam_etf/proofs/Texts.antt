@@ -1,10 +1,8 @@
 -- The texts of atoms, by the tests of the code.
-use Rattle.std.proofs.Common.{◌≡◌, ℕ, ◌≤◌, ◌<◌, Bool, true, false, List, length, Ok, Err, refl, arith}
-use Rattle.std.specs.Str.{chars, is_utf8, IsUtf8}
+use Rattle.std.proofs.Common.{◌≡◌, ℕ, ◌≤◌, ◌<◌, Bool, true, false, List, length, Ok, Err, refl, arith, le-ltb, lt-ltb}
+use Rattle.std.specs.Str.{is_utf8, chars, IsUtf8}
 use Rattle.std.proofs.lemmas.Str.{IsUtf8-from_is_utf8, is_utf8-from_IsUtf8}
-use Rattle.std.proofs.lemmas.Bool.{le-ltb, lt-ltb}
-use Rattle.beam_model.specs.ExternalFault.{out_of_profile, bad_utf8}
-use Rattle.beam_model.specs.ExternalReading.{bytes_at, text_at}
+use Rattle.beam_model.specs.Prelude.{out_of_profile, bad_utf8, bytes_at, text_at}
 
 not_utf8 : (bytes : List ℕ) → ¬ (IsUtf8 bytes) → is_utf8 bytes ≡ false
 not_utf8 bytes h = by (is_utf8 bytes) refl

@@ -1,9 +1,8 @@
 -- Reading the words of a reference one after the other, as the loop does.
-use Rattle.std.proofs.Common.{◌≡◌, ℕ, suc, ◌-◌, ◌+◌, ◌≤◌, ◌<◌, List, [], ◌∷◌, ◌++◌, Result, Ok, Err, refl, sym, ap, ◌∙◌, append_assoc, arith}
+use Rattle.std.proofs.Common.{◌≡◌, ℕ, suc, ◌-◌, ◌+◌, ◌≤◌, ◌<◌, List, [], ◌∷◌, ◌++◌, Result, Ok, Err, refl, sym, ap, ◌∙◌, append_assoc, arith, append-nil}
 use Rattle.std.specs.Int.{w32}
-use Rattle.std.proofs.lemmas.List.{append-nil}
-use Rattle.beam_model.specs.ExternalFault.{ExternalFault}
-use Rattle.beam_model.specs.ExternalReading.{◌>>=◌, big_endian_at, words_at}
+use Rattle.beam_model.specs.Prelude.{ExternalFault, big_endian_at, words_at}
+use Rattle.beam_model.specs.ExternalReading.{◌>>=◌}
 
 -- the words that were read, and then those of the rest
 abbrev pub before_words : List ℕ → Result (List ℕ × List ℕ) ExternalFault → Result (List ℕ × List ℕ) ExternalFault

@@ -1,17 +1,15 @@
 -- The bytes that are written for a term spell it.
-use Rattle.std.proofs.Common.{◌≡◌, ℕ, suc, ◌≤◌, ◌<◌, ◌^◌, Bool, true, false, cond, ltb, List, [], ◌∷◌, ◌++◌, length, take, refl, sym, ap, subst, arith}
-use Rattle.std.specs.Prelude.{ℤ, pos, negsuc, neg_ℤ, ◌≤ℤ◌, ◌<ℤ◌, unsigned_abs, FitsSigned, map, ◌&&◌}
+use Rattle.std.proofs.Common.{◌≡◌, ℕ, suc, ◌≤◌, ◌<◌, ◌^◌, Bool, true, false, cond, ltb, List, [], ◌∷◌, ◌++◌, length, take, refl, sym, ap, subst, arith, ℤ, pos, negsuc, neg_ℤ, ◌≤ℤ◌, ◌<ℤ◌, unsigned_abs, FitsSigned, map, ◌&&◌, ltb-true}
 use Rattle.std.specs.List.{All, flat_map}
-use Rattle.std.specs.Int.{w16, w32, w64, to_be_bytes, to_le_bytes, cast_unsigned}
-use Rattle.std.proofs.lemmas.Bool.{ltb-true}
+use Rattle.std.specs.Int.{to_be_bytes, to_le_bytes, cast_unsigned, w16, w32, w64}
 use Rattle.std.proofs.lemmas.List.Elements.{All-head, All-tail}
-use Rattle.std.proofs.lemmas.Int.{ints, to_z-of_z, by_lt_z}
+use Rattle.std.proofs.lemmas.Int.{ints, by_lt_z, to_z-of_z}
 use Rattle.std.proofs.Math.Facts.{Fits-of_z}
 use Rattle.std.proofs.lemmas.Nat.{from_be_bytes-to_be_bytes_2, from_be_bytes-to_be_bytes_4}
-use Rattle.beam_term.specs.Atom.{IsAtomText}
-use Rattle.beam_term.specs.Reference.{AreReferenceWords}
-use Rattle.beam_term.specs.TermValue.{TermValue, Terms, int_term, atom_term, reference_term, pid_term, nil_term, pair_term, tuple_term, no_terms, more_terms, count_of, list_of, depth_of, items_depth, IsSmall, IsInRange, AreInRange, IsTerm}
-use Rattle.beam_model.specs.External.{IsHalf, IsWord, little, IsSigned, plus_sign, minus_sign, SpellsAtom, small_atom_utf8_ext, atom_utf8_ext, AreWords, no_words, one_word, SpellsTerm, small_integer_ext, integer_ext, small_big_ext, nil_ext, utf8_atom, new_pid_ext, newer_reference_ext, small_tuple_ext, large_tuple_ext, string_ext, list_ext, SpellsAll, no_elements, one_element, SpellsList, only_tail, head_before, IsExternal, byte_count, written_big, sign_of, written_integer, written_atom, written_pid, written_reference, tuple_front, is_byte, byte_of, is_byte_list, bytes_of_list, pair_count, written_list, written_part, all_written, external_bytes}
+use Rattle.std.proofs.lemmas.Bool.{and_parts}
+use Rattle.beam_model.specs.Prelude.{IsHalf, little, IsSigned, plus_sign, minus_sign, SpellsAtom, small_atom_utf8_ext, atom_utf8_ext, AreWords, no_words, one_word, SpellsTerm, small_integer_ext, integer_ext, small_big_ext, nil_ext, utf8_atom, new_pid_ext, newer_reference_ext, small_tuple_ext, large_tuple_ext, string_ext, list_ext, SpellsAll, no_elements, one_element, SpellsList, only_tail, head_before, IsExternal, byte_count, written_big, sign_of, written_integer, written_atom, written_pid, written_reference, tuple_front, is_byte, byte_of, is_byte_list, bytes_of_list, pair_count, written_list, written_part, all_written, external_bytes}
+use Rattle.beam_term.specs.Prelude.{IsAtomText, AreReferenceWords, TermValue, Terms, int_term, atom_term, reference_term, pid_term, nil_term, pair_term, tuple_term, no_terms, more_terms, count_of, list_of, depth_of, items_depth, IsSmall, IsInRange, AreInRange, IsTerm}
+use Rattle.beam_model.specs.External.{IsWord}
 use Rattle.beam_etf.proofs.Integers.{small_is, word_below, word_above, big_below, big_above}
 use Rattle.beam_etf.proofs.Lengths.{atom_short}
 
@@ -131,10 +129,6 @@ text_long nil_term = refl
 text_long (pair_term h t) = ap suc (text_long t)
 text_long (tuple_term xs) = refl
 
-both : (a b : Bool) → (a && b) ≡ true → (a ≡ true) × (b ≡ true)
-both true b e = (refl, e)
-both false b e = absurd cc
-
 byte_is : (t : TermValue) → is_byte t ≡ true → int_term (pos (byte_of t)) ≡ t
 byte_is (int_term (pos n)) e = refl
 byte_is (int_term (negsuc n)) e = absurd cc
@@ -151,7 +145,7 @@ text_is (atom_term text) e = absurd cc
 text_is (reference_term node creation words) e = absurd cc
 text_is (pid_term node id serial creation) e = absurd cc
 text_is nil_term e = refl
-text_is (pair_term h t) e = let k = both (is_byte h) (is_byte_list t) e in λ i. pair_term (byte_is h k.0 i) (text_is t k.1 i)
+text_is (pair_term h t) e = let k = and_parts (is_byte h) (is_byte_list t) e in λ i. pair_term (byte_is h k.0 i) (text_is t k.1 i)
 text_is (tuple_term xs) e = absurd cc
 
 list_spelled : (t : TermValue) (elements : List ℕ) (n : ℕ) → pair_count t ≡ suc n → depth_of t ≤ 4096 → SpellsList (suc n) elements t → SpellsTerm (written_list t elements) t
@@ -161,7 +155,7 @@ list_spelled t elements n c d s = by (is_byte_list t && ltb (pair_count t) 65536
     by : (b : Bool) → (is_byte_list t && ltb (pair_count t) 65536) ≡ b
         → SpellsTerm (cond b (107 ∷ (to_be_bytes w16 (pair_count t) ++ bytes_of_list t)) (108 ∷ (to_be_bytes w32 (pair_count t) ++ elements))) t
     by true e =
-        let k = both (is_byte_list t) (ltb (pair_count t) 65536) e in
+        let k = and_parts (is_byte_list t) (ltb (pair_count t) 65536) e in
         let half : IsHalf (to_be_bytes w16 (pair_count t)) (length (bytes_of_list t)) =
         subst (λ (m : ℕ). IsHalf (to_be_bytes w16 (pair_count t)) m) (sym (text_long t)) (half_of (pair_count t) (omega (arith, pairs_deep t))) in
         subst (λ (u : TermValue). SpellsTerm (107 ∷ (to_be_bytes w16 (pair_count t) ++ bytes_of_list t)) u) (text_is t k.0) (string_ext (to_be_bytes w16 (pair_count t)) (bytes_of_list t) half)

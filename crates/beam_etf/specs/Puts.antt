@@ -1,9 +1,8 @@
 -- The stack of the terms that were read, after a reader of terms with parts.
 use Rattle.std.specs.Prelude.{◌≡◌, ◌≢◌, ℕ, ◌≤◌, List, [], ◌∷◌, ◌++◌, Result, Ok, Err}
 use Rattle.std.specs.Borrow.{Bor}
-use Rattle.beam_term.specs.TermValue.{TermValue}
-use Rattle.beam_model.specs.ExternalFault.{ExternalFault}
-use Rattle.beam_model.specs.ExternalReading.{below, whole_at, external_list_at, external_tuple_at}
+use Rattle.beam_model.specs.Prelude.{ExternalFault, below, whole_at, external_list_at, external_tuple_at}
+use Rattle.beam_term.specs.Prelude.{TermValue}
 use Rattle.beam_etf.specs.declared.error.EtfError.{EtfError}
 use Rattle.beam_etf.specs.declared.error.EtfError.TheVariants.{NoMemory}
 use Rattle.beam_etf.specs.declared.reading.Front.{Front}

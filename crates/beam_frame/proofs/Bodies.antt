@@ -1,15 +1,11 @@
 -- The results of the readers of bodies, by the terms that the bodies spell.
-use Rattle.std.proofs.Common.{◌≡◌, ◌≢◌, ℕ, ◌<◌, ◌≤◌, Bool, true, false, List, [], ◌∷◌, ◌++◌, length, drop, Result, Ok, Err, Option, Some, None, refl, sym, ap, ◌∙◌, arith, append_assoc, length-drop}
+use Rattle.std.proofs.Common.{◌≡◌, ◌≢◌, ℕ, ◌<◌, ◌≤◌, Bool, true, false, List, [], ◌∷◌, ◌++◌, length, drop, Result, Ok, Err, Option, Some, None, refl, sym, ap, ◌∙◌, arith, append_assoc, length-drop, le-ltb}
 use Rattle.std.specs.Option.{option_map}
-use Rattle.std.specs.Str.{chars, is_utf8, IsUtf8}
-use Rattle.std.proofs.lemmas.Bool.{le-ltb}
+use Rattle.std.specs.Str.{is_utf8, chars, IsUtf8}
 use Rattle.std.proofs.lemmas.Str.{IsUtf8-from_is_utf8, is_utf8-from_IsUtf8}
-use Rattle.beam_term.specs.TermValue.{TermValue, int_term, atom_term, reference_term, pid_term, nil_term, pair_term, tuple_term}
-use Rattle.beam_term.specs.Order.{rank_of}
-use Rattle.beam_model.specs.ExternalFault.{ExternalFault}
-use Rattle.beam_model.specs.ExternalReading.{external_at}
-use Rattle.beam_model.specs.Native.{elements_in, put_before}
-use Rattle.beam_machine.specs.Frames.{only_term, term_read, term_in, fields_of, spawn_of, send_of, spot_of, atom_in_body}
+use Rattle.beam_machine.specs.Prelude.{only_term, term_read, term_in, fields_of, spawn_of, send_of, spot_of, atom_in_body}
+use Rattle.beam_model.specs.Prelude.{ExternalFault, external_at, elements_in, put_before}
+use Rattle.beam_term.specs.Prelude.{TermValue, int_term, atom_term, reference_term, pid_term, nil_term, pair_term, tuple_term, rank_of}
 
 empty_rest : (t : TermValue) (rest : List ℕ) → length rest ≡ 0 → only_term t rest ≡ Some t
 empty_rest t [] e = refl

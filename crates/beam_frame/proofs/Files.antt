@@ -1,9 +1,7 @@
 -- Files that are read one after another, as a loop does.
-use Rattle.std.proofs.Common.{◌≡◌, ℕ, suc, ◌-◌, ◌+◌, ◌≤◌, ◌<◌, Bool, true, false, cond, List, [], ◌∷◌, ◌++◌, length, take, drop, Option, Some, None, refl, sym, ap, ◌∙◌, append_assoc, arith}
-use Rattle.std.specs.Prelude.{nat_lt}
+use Rattle.std.proofs.Common.{◌≡◌, ℕ, suc, ◌-◌, ◌+◌, ◌≤◌, ◌<◌, Bool, true, false, cond, List, [], ◌∷◌, ◌++◌, length, take, drop, Option, Some, None, refl, sym, ap, ◌∙◌, append_assoc, arith, nat_lt, append-nil}
 use Rattle.std.specs.Option.{option_map, option_and_then}
-use Rattle.std.proofs.lemmas.List.{append-nil}
-use Rattle.beam_machine.specs.Frames.{number_in_body, after_number, file_before, files_in}
+use Rattle.beam_machine.specs.Prelude.{number_in_body, after_number, file_before, files_in}
 use Rattle.beam_frame.specs.Faults.{Misses}
 use Rattle.beam_frame.specs.Files.{sized_file}
 use Rattle.beam_frame.specs.declared.error.FrameError.{FrameError}

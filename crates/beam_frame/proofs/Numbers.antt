@@ -3,7 +3,7 @@ use Rattle.std.proofs.Common.{◌≡◌, ℕ, ◌+◌, ◌<◌, List, [], ◌∷
 use Rattle.std.specs.List.{flat_map}
 use Rattle.std.proofs.lemmas.List.{take_more, flat_map_more}
 use Rattle.beam_machine.specs.declared.event.Numbers.{Numbers}
-use Rattle.beam_machine.specs.Frames.{numbers_bytes}
+use Rattle.beam_machine.specs.Prelude.{numbers_bytes}
 
 pub goes_on : (list : List Numbers) (i : ℕ) (d : Numbers) (front out new : List ℕ) → i < length list → out ≡ front ++ flat_map numbers_bytes (take i list)
     → new ≡ out ++ numbers_bytes (get_or list i d) → new ≡ front ++ flat_map numbers_bytes (take (i + 1) list)

@@ -1,33 +1,26 @@
 -- The bytes that spell a command are read as that command, and bytes spell the command that is read from them.
-use Rattle.std.proofs.Common.{◌≡◌, ℕ, ◌≤◌, Bool, true, false, not, cond, eqb, IsTrue, List, [], ◌∷◌, ◌++◌, length, take, drop, Result, Ok, Err, Option, Some, None, refl, sym, ap, subst, ◌∙◌, suc, zero, arith}
-use Rattle.std.specs.Prelude.{◌&&◌, nat_lt, ℤ, codes}
+use Rattle.std.proofs.Common.{◌≡◌, ℕ, ◌≤◌, Bool, true, false, not, cond, eqb, IsTrue, List, [], ◌∷◌, ◌++◌, length, take, drop, Result, Ok, Err, Option, Some, None, refl, sym, ap, subst, ◌∙◌, suc, zero, arith, ◌&&◌, nat_lt, ℤ, codes, ltb-false, le-ltb, eqb-true, eq-eqb, append-nil, length-append, length-take-le, take-append-drop}
 use Rattle.std.specs.Option.{option_map, option_and_then}
-use Rattle.std.specs.Str.{chars, is_utf8}
+use Rattle.std.specs.Str.{is_utf8, chars}
 use Rattle.std.proofs.lemmas.Str.{IsUtf8-from_is_utf8, is_utf8-from_IsUtf8}
-use Rattle.std.proofs.lemmas.Bool.{ltb-false, le-ltb, eqb-true, eq-eqb}
-use Rattle.std.proofs.lemmas.List.{append-nil, length-append, length-take-le, take-append-drop}
-use Rattle.std.proofs.lemmas.Slice.Eq.{bytes_eq-Decides}
+use Rattle.beam_lemmas.proofs.SameText.{text_is}
+use Rattle.beam_lemmas.proofs.Options.{chained, mapped}
 use Rattle.byteorder.specs.Endian.{big_number}
-use Rattle.beam_term.specs.Atom.{IsAtomText}
-use Rattle.beam_term.specs.Elements.{elements_of-terms_of, terms_of-elements_of}
-use Rattle.beam_term.specs.TermValue.{TermValue, int_term, atom_term, reference_term, pid_term, nil_term, pair_term, tuple_term, terms_of, elements_of, tuple_of, list_of}
-use Rattle.beam_model.specs.External.{IsExternal}
-use Rattle.beam_model.specs.ExternalFault.{ExternalFault}
-use Rattle.beam_model.specs.ExternalReading.{external_at}
-use Rattle.beam_model.specs.Native.{elements_in, put_before}
-use Rattle.beam_model.specs.SameText.{same_text}
+use Rattle.beam_model.specs.Prelude.{IsExternal, ExternalFault, external_at, elements_in, put_before, same_text}
+use Rattle.beam_term.specs.Prelude.{IsAtomText, elements_of-terms_of, terms_of-elements_of, TermValue, int_term, atom_term, reference_term, pid_term, nil_term, pair_term, tuple_term, terms_of, elements_of, tuple_of, list_of}
 use Rattle.beam_etf.proofs.ReadingComplete.{external_again}
 use Rattle.beam_etf.proofs.ReadingSoundParts.{external_takes}
 use Rattle.beam_machine.specs.declared.command.CommandKind.{CommandKind}
-use Rattle.beam_machine.specs.declared.command.CommandKind.TheVariants as kind
-use Rattle.beam_machine.specs.declared.debug.DebugEvent.TheVariants.{Node, SetBreak, ClearBreak, Resume, StepOne, Inspect}
+use Rattle.beam_machine.specs.declared.debug.DebugEvent.TheVariants.{SetBreak, ClearBreak, Resume, StepOne, Inspect, Node}
 use Rattle.beam_machine.specs.declared.debug.Spot.{Spot}
 use Rattle.beam_machine.specs.declared.debug.Version.{Version}
 use Rattle.beam_machine.specs.declared.debug.Version.TheVariants.{Current, Old}
-use Rattle.beam_machine.specs.declared.event.Event.TheVariants as event
 use Rattle.beam_machine.specs.declared.event.UpgradeMode.{UpgradeMode}
 use Rattle.beam_machine.specs.declared.event.UpgradeMode.TheVariants.{Strict, Soft, Hard}
-use Rattle.beam_machine.specs.Frames.{Command, IsNumber, names_process, version_text, spot_term, spot_at, mode_number, AreFiles, no_files, one_file, SpellsCommand, load, load_strict, delete, soft_purge, purge, spawn, send, steps, deliver, clock, timeout, set_break, clear_break, resume, step_one, inspect, versions, atomic_load, kind_of, atom_in_body, number_in_body, only_term, term_read, term_in, fields_of, fields_in, spawned, spawn_of, send_of, version_of, spot_of, steps_in, mode_of, after_number, file_before, files_in, atomic_load_in, command_in, command_of}
+use Rattle.beam_machine.specs.Prelude.{Command, IsNumber, names_process, version_text, spot_term, spot_at, mode_number, AreFiles, no_files, one_file, SpellsCommand, load, load_strict, delete, soft_purge, purge, spawn, send, deliver, timeout, set_break, clear_break, resume, step_one, inspect, versions, atomic_load, kind_of, atom_in_body, number_in_body, only_term, term_read, term_in, fields_of, fields_in, spawned, spawn_of, send_of, version_of, spot_of, steps_in, mode_of, after_number, file_before, files_in, atomic_load_in, command_in, command_of}
+use Rattle.beam_machine.specs.declared.command.CommandKind.TheVariants as kind
+use Rattle.beam_machine.specs.declared.event.Event.TheVariants as event
+use Rattle.beam_machine.specs.Frames.{steps, clock}
 
 -- ---- a spelled command is read
 
@@ -142,14 +135,6 @@ some_is x y e = cc
 pub none_is : {A B : Type 0} (y : A) → ◌≡◌ {A = Option A} None (Some y) → B
 none_is y e = absurd cc
 
-map_some : {A B : Type 0} (f : A → B) (o : Option A) (y : B) → option_map f o ≡ Some y → (x : A) × (o ≡ Some x) × (f x ≡ y)
-map_some f (Some x) y e = (x, refl, some_is (f x) y e)
-map_some f None y e = none_is y e
-
-then_some : {A B : Type 0} (f : A → Option B) (o : Option A) (y : B) → option_and_then f o ≡ Some y → (x : A) × (o ≡ Some x) × (f x ≡ Some y)
-then_some f (Some x) y e = (x, refl, e)
-then_some f None y e = none_is y e
-
 -- a value that a test lets through
 if_some : {A : Type 0} (b : Bool) (o : Option A) (y : A) → cond b o None ≡ Some y → (b ≡ true) × (o ≡ Some y)
 if_some true o y e = (refl, e)
@@ -206,7 +191,7 @@ tuple_is (pair_term a b) xs e = none_is xs e
 
 fields_are : (body : List ℕ) (xs : List TermValue) → fields_in body ≡ Some xs → IsExternal body (tuple_of xs)
 fields_are body xs e =
-    let p = then_some fields_of (term_in body) xs e in
+    let p = chained fields_of (term_in body) xs e in
     subst (λ (t : TermValue). IsExternal body t) (tuple_is p.0 xs p.2) (term_is body p.0 p.1)
 
 put_is : (x : TermValue) (o : Option (List TermValue)) (xs : List TermValue) → put_before x o ≡ Some xs → (rest : List TermValue) × (o ≡ Some rest) × (x ∷ rest ≡ xs)
@@ -226,7 +211,7 @@ list_is (tuple_term items) xs e = none_is xs e
 
 spawn_is : (body : List ℕ) (xs : List TermValue) (c : Command) → IsExternal body (tuple_of xs) → spawn_of xs ≡ Some c → SpellsCommand 6 body c
 spawn_is body (atom_term name ∷ atom_term function ∷ list ∷ []) c h e =
-    let p = then_some (spawned name function) (elements_in list) c e in
+    let p = chained (spawned name function) (elements_in list) c e in
     let q = unless_some (nat_lt 255 (length p.0)) (Some (Node (event.Spawn name function p.0))) c p.2 in
     let whole : IsExternal body (tuple_of (atom_term name ∷ atom_term function ∷ list_of p.0 ∷ [])) =
     subst (λ (l : TermValue). IsExternal body (tuple_of (atom_term name ∷ atom_term function ∷ l ∷ []))) (list_is list p.0 p.1) h in
@@ -239,13 +224,10 @@ send_is body (to ∷ message ∷ []) c h e =
     subst (λ (d : Command). SpellsCommand 7 body d) (some_is (Node (event.Send to message)) c p.1) (send body to message p.0 h)
 send_is body _ c h e = none_is c e
 
-same_is : (s t : List ℕ) → same_text s t ≡ true → s ≡ t
-same_is s t e = (bytes_eq-Decides s t).0 e
-
 version_by : (text : List ℕ) (v : Version) (current old : Bool) → same_text text (codes "current") ≡ current → same_text text (codes "old") ≡ old
     → cond current (Some Current) (cond old (Some Old) None) ≡ Some v → text ≡ version_text v
-version_by text v true old f g e = same_is text (codes "current") f ∙ ap version_text (some_is Current v e)
-version_by text v false true f g e = same_is text (codes "old") g ∙ ap version_text (some_is Old v e)
+version_by text v true old f g e = text_is text (codes "current") f ∙ ap version_text (some_is Current v e)
+version_by text v false true f g e = text_is text (codes "old") g ∙ ap version_text (some_is Old v e)
 version_by text v false false f g e = none_is v e
 
 version_is : (text : List ℕ) (v : Version) → version_of text ≡ Some v → text ≡ version_text v
@@ -262,7 +244,7 @@ record SpotIs (body : List ℕ) (s : Spot) : Type 0 where
 
 spot_is : (body : List ℕ) (xs : List TermValue) (s : Spot) → IsExternal body (tuple_of xs) → spot_of xs ≡ Some s → SpotIs body s
 spot_is body (atom_term text ∷ atom_term name ∷ int_term label ∷ int_term rows ∷ []) s h e =
-    let p = map_some (λ version. spot_at version name label rows) (version_of text) s e in
+    let p = mapped (λ version. spot_at version name label rows) (version_of text) s e in
     record {
       version = p.0;
       name = name;
@@ -275,34 +257,34 @@ spot_is body _ s h e = none_is s e
 
 spot_in : (body : List ℕ) (s : Spot) → option_and_then spot_of (fields_in body) ≡ Some s → SpotIs body s
 spot_in body s e =
-    let p = then_some spot_of (fields_in body) s e in
+    let p = chained spot_of (fields_in body) s e in
     spot_is body p.0 s (fields_are body p.0 p.1) p.2
 
 by_atom : (n : ℕ) (make : List ℕ → Command) (body : List ℕ) (c : Command) → ((name : List ℕ) → IsAtomText name → SpellsCommand n name (make name))
     → option_map make (atom_in_body body) ≡ Some c → SpellsCommand n body c
 by_atom n make body c spells e =
-    let p = map_some make (atom_in_body body) c e in
+    let p = mapped make (atom_in_body body) c e in
     let a = atom_is body p.0 p.1 in
     subst (λ (d : Command). SpellsCommand n body d) (ap make (sym a.is) ∙ p.2) (spells body a.lawful)
 
 by_number : (n count : ℕ) (make : ℕ → Command) (body : List ℕ) (c : Command) → ((field : List ℕ) (m : ℕ) → IsNumber count field m → SpellsCommand n field (make m))
     → option_map make (number_in_body count body) ≡ Some c → SpellsCommand n body c
 by_number n count make body c spells e =
-    let p = map_some make (number_in_body count body) c e in
+    let p = mapped make (number_in_body count body) c e in
     subst (λ (d : Command). SpellsCommand n body d) p.2 (spells body p.0 (number_is count body p.0 p.1))
 
 by_spot : (n : ℕ) (make : Spot → Command) (body : List ℕ) (c : Command)
     → ((version : Version) (name : List ℕ) (label rows : ℤ) → IsExternal body (spot_term version name label rows) → SpellsCommand n body (make (spot_at version name label rows)))
     → option_map make (option_and_then spot_of (fields_in body)) ≡ Some c → SpellsCommand n body c
 by_spot n make body c spells e =
-    let p = map_some make (option_and_then spot_of (fields_in body)) c e in
+    let p = mapped make (option_and_then spot_of (fields_in body)) c e in
     let s = spot_in body p.0 p.1 in
     subst (λ (d : Command). SpellsCommand n body d) (ap make s.is ∙ p.2) (spells s.version s.name s.label s.rows s.whole)
 
 steps_is : (body : List ℕ) (c : Command) → steps_in body ≡ Some c → SpellsCommand 8 body c
 steps_is body c e =
-    let p = then_some (λ pid. option_map (λ rows. Node (event.Steps pid rows)) (number_in_body 4 (drop 4 body))) (number_in_body 4 (take 4 body)) c e in
-    let q = map_some (λ rows. Node (event.Steps p.0 rows)) (number_in_body 4 (drop 4 body)) c p.2 in
+    let p = chained (λ pid. option_map (λ rows. Node (event.Steps pid rows)) (number_in_body 4 (drop 4 body))) (number_in_body 4 (take 4 body)) c e in
+    let q = mapped (λ rows. Node (event.Steps p.0 rows)) (number_in_body 4 (drop 4 body)) c p.2 in
     let both : SpellsCommand 8 (take 4 body ++ drop 4 body) (Node (event.Steps p.0 q.0)) =
     steps (take 4 body) (drop 4 body) p.0 q.0 (number_is 4 (take 4 body) p.0 p.1) (number_is 4 (drop 4 body) q.0 q.1) in
     subst (λ (b : List ℕ). SpellsCommand 8 b c) (take-append-drop 4 body) (subst (λ (d : Command). SpellsCommand 8 (take 4 body ++ drop 4 body) d) q.2 both)
@@ -328,10 +310,10 @@ files_are zero [] files e = subst (λ (files : List (List ℕ)). FilesAre zero [
 files_are zero (byte ∷ rest) files e = none_is files e
 files_are (suc n) bytes files e =
     let rest : List ℕ = drop 4 bytes in
-    let p = then_some (λ size. file_before (files_in n) size rest) (number_in_body 4 (take 4 bytes)) files e in
+    let p = chained (λ size. file_before (files_in n) size rest) (number_in_body 4 (take 4 bytes)) files e in
     let size : ℕ = p.0 in
     let q = unless_some (nat_lt (length rest) size) (option_map (λ others. take size rest ∷ others) (files_in n (drop size rest))) files p.2 in
-    let r = map_some (λ others. take size rest ∷ others) (files_in n (drop size rest)) files q.1 in
+    let r = mapped (λ others. take size rest ∷ others) (files_in n (drop size rest)) files q.1 in
     let others = files_are n (drop size rest) r.0 r.1 in
     let long : length (take size rest) ≡ size = length-take-le size rest (ltb-false (length rest) size q.0) in
     let field = number_is 4 (take 4 bytes) (length (take size rest)) (p.1 ∙ ap Some (sym long)) in
@@ -346,9 +328,9 @@ files_are (suc n) bytes files e =
 atomic_is : (body : List ℕ) (c : Command) → atomic_load_in body ≡ Some c → SpellsCommand 18 body c
 atomic_is [] c e = none_is c e
 atomic_is (n ∷ body) c e =
-    let p = then_some (λ mode. option_map (λ files. Node (event.AtomicLoad mode files)) (after_number files_in body)) (mode_of n) c e in
-    let q = map_some (λ files. Node (event.AtomicLoad p.0 files)) (after_number files_in body) c p.2 in
-    let r = then_some (λ count. files_in count (drop 4 body)) (number_in_body 4 (take 4 body)) q.0 q.1 in
+    let p = chained (λ mode. option_map (λ files. Node (event.AtomicLoad mode files)) (after_number files_in body)) (mode_of n) c e in
+    let q = mapped (λ files. Node (event.AtomicLoad p.0 files)) (after_number files_in body) c p.2 in
+    let r = chained (λ count. files_in count (drop 4 body)) (number_in_body 4 (take 4 body)) q.0 q.1 in
     let files = files_are r.0 (drop 4 body) q.0 r.2 in
     let field = number_is 4 (take 4 body) (length q.0) (r.1 ∙ ap Some (sym files.counts)) in
     let whole : SpellsCommand 18 (mode_number p.0 ∷ (take 4 body ++ drop 4 body)) (Node (event.AtomicLoad p.0 q.0)) =
@@ -414,8 +396,8 @@ spelled_by kind.LoadStrict body c e = subst (λ (d : Command). SpellsCommand 2 b
 spelled_by kind.Delete body c e = by_atom 3 (λ name. Node (event.Delete name)) body c delete e
 spelled_by kind.SoftPurge body c e = by_atom 4 (λ name. Node (event.SoftPurge name)) body c soft_purge e
 spelled_by kind.Purge body c e = by_atom 5 (λ name. Node (event.Purge name)) body c purge e
-spelled_by kind.Spawn body c e = let p = then_some spawn_of (fields_in body) c e in spawn_is body p.0 c (fields_are body p.0 p.1) p.2
-spelled_by kind.Send body c e = let p = then_some send_of (fields_in body) c e in send_is body p.0 c (fields_are body p.0 p.1) p.2
+spelled_by kind.Spawn body c e = let p = chained spawn_of (fields_in body) c e in spawn_is body p.0 c (fields_are body p.0 p.1) p.2
+spelled_by kind.Send body c e = let p = chained send_of (fields_in body) c e in send_is body p.0 c (fields_are body p.0 p.1) p.2
 spelled_by kind.Steps body c e = steps_is body c e
 spelled_by kind.Deliver body c e = by_number 9 4 (λ pid. Node (event.Deliver pid)) body c deliver e
 spelled_by kind.Clock body c e = by_number 10 8 (λ now. Node (event.Clock now)) body c clock e
@@ -430,7 +412,7 @@ spelled_by kind.AtomicLoad body c e = atomic_is body c e
 
 pub read_is_spelled : (n : ℕ) (body : List ℕ) (c : Command) → command_of n body ≡ Some c → SpellsCommand n body c
 read_is_spelled n body c e =
-    let p = then_some (λ k. command_in k body) (kind_of n) c e in
+    let p = chained (λ k. command_in k body) (kind_of n) c e in
     subst (λ (m : ℕ). SpellsCommand m body c) (sym (kind_is n p.0 p.1)) (spelled_by p.0 body c p.2)
 
 pub one_spelling : (n : ℕ) (body : List ℕ) (c d : Command) → SpellsCommand n body c → SpellsCommand n body d → c ≡ d

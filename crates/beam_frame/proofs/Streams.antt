@@ -1,15 +1,13 @@
 -- A stream that comes in pieces: commands stay as they were found, and `next` answers each once.
-use Rattle.std.proofs.Common.{◌≡◌, ◌≢◌, ℕ, zero, suc, ◌<◌, ◌≤◌, Bool, true, false, List, [], ◌∷◌, ◌++◌, length, take, drop, Option, Some, None, refl, sym, ap, ◌∙◌, arith, length-drop, length-append, append_assoc}
-use Rattle.std.specs.Prelude.{nat_lt}
+use Rattle.std.proofs.Common.{◌≡◌, ◌≢◌, ℕ, zero, suc, ◌<◌, ◌≤◌, Bool, true, false, List, [], ◌∷◌, ◌++◌, length, take, drop, Option, Some, None, refl, sym, ap, ◌∙◌, arith, length-drop, length-append, append_assoc, nat_lt, ltb-false, le-ltb, append-nil}
 use Rattle.std.specs.List.{flat_map}
-use Rattle.std.proofs.lemmas.Bool.{ltb-false, le-ltb}
-use Rattle.std.proofs.lemmas.List.{append-nil, take-append-le, drop-append-le}
+use Rattle.std.proofs.lemmas.List.{take-append-le, drop-append-le}
 use Rattle.byteorder.specs.Endian.{big_number}
 use Rattle.byteorder.specs.Numbers.{big_from-append}
 use Rattle.beam_machine.specs.declared.command.CommandKind.{CommandKind}
 use Rattle.beam_machine.specs.declared.command.FrameFault.{FrameFault}
 use Rattle.beam_machine.specs.declared.command.FrameFault.TheVariants.{TooLong}
-use Rattle.beam_machine.specs.Frames.{Command, FirstFrame, no_frame, one_frame, bad_frame, longest_frame, command_or_fault, of_kind, kind_of, command_in, frame_content, after_length, frame_in, at_fault, Stream, stream_end, empty_stream, with_command, stream_by, stream_within, stream_of}
+use Rattle.beam_machine.specs.Prelude.{Command, FirstFrame, no_frame, one_frame, bad_frame, longest_frame, command_or_fault, of_kind, kind_of, command_in, frame_content, after_length, frame_in, at_fault, Stream, stream_end, empty_stream, with_command, stream_by, stream_within, stream_of}
 use Rattle.beam_frame.specs.Reader.{before_more, Left, waits, broken, Decoded, decode_step, decoded_within, decoded_of, then_stream, stream_in}
 
 spelled_more : (o : Option Command) (rest more : List ℕ) → command_or_fault o (rest ++ more) ≡ before_more more (command_or_fault o rest)

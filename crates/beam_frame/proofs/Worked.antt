@@ -1,21 +1,19 @@
 -- Worked bytes.
-use Rattle.std.proofs.Common.{◌≡◌, ◌≤◌, ℕ, zero, suc, List, [], ◌∷◌, length, Some, None, refl, ap, arith}
-use Rattle.std.specs.Prelude.{codes, pos}
-use Rattle.std.specs.Option.{option_map}
+use Rattle.std.proofs.Common.{◌≡◌, ◌≤◌, ℕ, zero, suc, List, [], ◌∷◌, length, Some, None, refl, ap, arith, codes, pos}
 use Rattle.std.specs.Str.{IsAscii}
+use Rattle.std.specs.Option.{option_map}
 use Rattle.std.proofs.lemmas.Str.{IsUtf8-from_ascii, chars-IsAscii}
-use Rattle.beam_term.specs.Atom.{IsAtomText}
-use Rattle.beam_term.specs.TermValue.{int_term, atom_term, tuple_of, list_of, terms_of, no_terms}
-use Rattle.beam_model.specs.External.{written_integer, written_atom, small_atom_utf8_ext, SpellsTerm, utf8_atom, string_ext, small_tuple_ext, no_elements, one_element}
 use Rattle.beam_machine.specs.declared.command.FrameFault.TheVariants.{TooLong, BadKind, BadCommand}
-use Rattle.beam_machine.specs.declared.command.Response.TheVariants as response
-use Rattle.beam_machine.specs.declared.debug.DebugEvent.TheVariants.{Node}
 use Rattle.beam_machine.specs.declared.event.Event.TheVariants.{AtomicLoad, Spawn, Steps, Versions}
 use Rattle.beam_machine.specs.declared.event.UpgradeMode.TheVariants.{Soft}
 use Rattle.beam_machine.specs.declared.event.Reply.TheVariants.{Ran, Started, Upgraded, Versions as InstancesOf}
+use Rattle.beam_machine.specs.Prelude.{SpellsCommand, spawn, kind_of, number_in_body, files_in, command_or_fault, after_length, frame_in, one_frame, bad_frame, reply_body, frame_of, fault_frame}
+use Rattle.beam_model.specs.Prelude.{written_integer, written_atom, small_atom_utf8_ext, SpellsTerm, utf8_atom, string_ext, small_tuple_ext, no_elements, one_element}
+use Rattle.beam_term.specs.Prelude.{IsAtomText, int_term, atom_term, tuple_of, list_of, terms_of, no_terms}
+use Rattle.beam_machine.specs.declared.command.Response.TheVariants as response
+use Rattle.beam_machine.specs.declared.debug.DebugEvent.TheVariants.{Node}
 use Rattle.beam_machine.specs.declared.event.Then.TheVariants.{Ended}
 use Rattle.beam_frame.proofs.Spelling.{atom_again}
-use Rattle.beam_machine.specs.Frames.{SpellsCommand, spawn, kind_of, number_in_body, files_in, command_or_fault, after_length, frame_in, one_frame, bad_frame, reply_body, frame_of, fault_frame}
 
 pub steps_frame : frame_in (0 ∷ 0 ∷ 0 ∷ 9 ∷ 8 ∷ 0 ∷ 0 ∷ 0 ∷ 1 ∷ 0 ∷ 0 ∷ 0 ∷ 100 ∷ []) ≡ one_frame (Node (Steps 1 100)) []
 unfolding frame_in after_length kind_of number_in_body

@@ -1,8 +1,8 @@
 -- The errors of this crate, and the faults of frames.
 use Rattle.std.specs.Prelude.{◌≡◌, ℕ, Option, Some, None, Result, Ok, Err}
 use Rattle.beam_machine.specs.declared.command.FrameFault.{FrameFault}
+use Rattle.beam_machine.specs.Prelude.{FirstFrame, one_frame, bad_frame}
 use Rattle.beam_machine.specs.declared.command.FrameFault.TheVariants as faults
-use Rattle.beam_machine.specs.Frames.{FirstFrame, one_frame, bad_frame}
 use Rattle.beam_frame.specs.declared.error.FrameError.{FrameError}
 use Rattle.beam_frame.specs.declared.error.FrameError.TheVariants.{TooLong, BadKind, BadCommand, NoMemory, Failed}
 

@@ -1,7 +1,7 @@
 -- The state of a reader of frames.
 use Rattle.std.specs.Prelude.{◌≡◌, ℕ, zero, suc, Bool, true, false, List, [], ◌∷◌, ◌++◌, length}
 use Rattle.beam_machine.specs.declared.command.FrameFault.{FrameFault}
-use Rattle.beam_machine.specs.Frames.{Command, FirstFrame, no_frame, one_frame, bad_frame, frame_in, at_fault, Stream, stream_end, empty_stream}
+use Rattle.beam_machine.specs.Prelude.{Command, FirstFrame, no_frame, one_frame, bad_frame, frame_in, at_fault, Stream, stream_end, empty_stream}
 use Rattle.beam_frame.specs.declared.error.FrameError.{FrameError}
 use Rattle.beam_frame.specs.declared.error.FrameError.TheVariants.{Failed}
 use Rattle.beam_frame.specs.Faults.{IsErrorOf}

@@ -1,23 +1,15 @@
 -- Reading a form gives the contents that its chunks spell.
-use Rattle.std.proofs.Common.{◌≡◌, inl, inr, ℕ, ◌+◌, ◌-◌, ◌≤◌, Bool, true, false, cond, ltb, List, [], ◌∷◌, ◌++◌, length, take, drop, codes, Option, Some, None, Result, Ok, Err, refl, sym, ap, subst, ◌∙◌, arith}
-use Rattle.std.specs.Option.{option_to_list}
+use Rattle.std.proofs.Common.{◌≡◌, inl, inr, ℕ, ◌+◌, ◌-◌, ◌≤◌, Bool, true, false, ltb, List, [], ◌∷◌, ◌++◌, length, take, drop, codes, Option, Some, None, Result, Ok, refl, sym, ap, subst, ◌∙◌, arith, ltb-false, le-ltb, append-nil, take_at, drop_at, drop-drop, take-append-drop, length-take, length-drop, length-append}
 use Rattle.std.specs.Str.{bytes_eq}
-use Rattle.std.proofs.lemmas.Bool.{cases_lt, ltb-false, le-ltb}
-use Rattle.std.proofs.lemmas.List.{append-nil, take_at, drop_at, drop_all, drop-drop, take-append-drop, length-take, length-drop, length-append}
+use Rattle.std.specs.Option.{option_to_list}
+use Rattle.std.proofs.lemmas.Bool.{cases_lt}
+use Rattle.std.proofs.lemmas.List.{drop_all}
+use Rattle.beam_lemmas.proofs.Steps.{guard_false}
 use Rattle.byteorder.specs.Endian.{big_number}
-use Rattle.beam_model.specs.Form.{Form, FormFault, Chunk, truncated, ◌>>=◌, size_at, padded, chunk_at}
-use Rattle.beam_model.specs.FormLaws.{chunk_takes}
-use Rattle.beam_model.specs.ChunkForm.{IsChunk, IsPadding, contents_of}
+use Rattle.beam_model.specs.Prelude.{FormFault, Chunk, size_at, padded, chunk_at, chunk_takes, IsChunk, IsPadding, contents_of, Form}
+use Rattle.beam_model.specs.Form.{truncated}
 
 -- ---- steps of reading
-
-pub guard_ok : {A : Type 0} (b : Bool) (d : FormFault) (r : Result A FormFault) (y : A) → cond b (Err d) r ≡ Ok y → (b ≡ false) × (r ≡ Ok y)
-guard_ok true d r y e = absurd cc
-guard_ok false d r y e = (refl, e)
-
-pub bind_ok : {A B : Type 0} (r : Result A FormFault) (f : A → Result B FormFault) (y : B) → (r >>= f) ≡ Ok y → (x : A) × (r ≡ Ok x) × (f x ≡ Ok y)
-bind_ok (Ok x) f y e = (x, refl, e)
-bind_ok (Err d) f y e = absurd cc
 
 abbrev done : {A : Type 0} → A → Result A FormFault
 done x = Ok x
@@ -93,8 +85,8 @@ pub chunk_told : (bytes rest : List ℕ) (chunk : Chunk) → chunk_at bytes ≡ 
 unfolding chunk_at
 chunk_told (a ∷ b ∷ c ∷ d ∷ e ∷ f ∷ g ∷ h ∷ more) rest chunk is =
     let bytes : List ℕ = a ∷ b ∷ c ∷ d ∷ e ∷ f ∷ g ∷ h ∷ more in
-    let first = guard_ok (ltb (length bytes) 8) truncated _ (chunk, rest) is in
-    let second = guard_ok (ltb (length bytes) (8 + size_at bytes)) truncated _ (chunk, rest) first.1 in
+    let first = guard_false (ltb (length bytes) 8) truncated _ (chunk, rest) is in
+    let second = guard_false (ltb (length bytes) (8 + size_at bytes)) truncated _ (chunk, rest) first.1 in
     let both = ok_is _ (chunk, rest) second.1 in
     let within : 8 + size_at bytes ≤ length bytes = ltb-false _ _ second.0 in
     let front = front_at a b c d e f g h more (size_at bytes) refl (omega (arith, within)) in

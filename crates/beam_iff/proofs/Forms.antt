@@ -1,17 +1,16 @@
 -- A form is read exactly from the bytes that spell it.
-use Rattle.std.proofs.Common.{◌≡◌, ℕ, zero, suc, ◌+◌, ◌-◌, ◌≤◌, Bool, true, false, cond, ltb, List, [], ◌∷◌, ◌++◌, length, take, drop, codes, Option, Some, None, Result, Ok, Err, refl, sym, ap, subst, ◌∙◌, arith}
-use Rattle.std.specs.Prelude.{nat_eq, ◌==◌, ◌&&◌, ◌||◌}
-use Rattle.std.specs.List.{list_all, zip, starts_with}
-use Rattle.std.specs.Option.{option_to_list}
+use Rattle.std.proofs.Common.{◌≡◌, ℕ, zero, suc, ◌+◌, ◌-◌, ◌≤◌, Bool, true, false, cond, ltb, List, [], ◌∷◌, ◌++◌, length, take, drop, codes, Option, Some, None, Result, Ok, refl, sym, ap, subst, ◌∙◌, arith, nat_eq, ◌==◌, ◌&&◌, ◌||◌, ltb-false, le-ltb, eqb-true, append-nil, take_at, take-append-drop, length-take, length-drop, length-append}
 use Rattle.std.specs.Str.{bytes_eq}
-use Rattle.std.proofs.lemmas.Bool.{ltb-false, le-ltb, eqb-true}
-use Rattle.std.proofs.lemmas.List.{append-nil, take_at, take-append-drop, length-take, length-drop, length-append}
+use Rattle.std.specs.Option.{option_to_list}
+use Rattle.std.specs.List.{list_all, starts_with, zip}
 use Rattle.std.proofs.lemmas.Slice.Eq.{bytes_eq-Decides}
+use Rattle.std.proofs.lemmas.Bool.{and_parts, or_parts}
+use Rattle.beam_lemmas.proofs.Steps.{bind_ok, guard_true, guard_false}
 use Rattle.byteorder.specs.Endian.{big_number}
-use Rattle.beam_model.specs.Form.{Form, FormFault, Chunk, not_form, truncated, compressed_file, ◌>>=◌, agree, size_at, content_at, chunk_at, once, with_chunk, with_chunks, empty_form, form_at}
-use Rattle.beam_model.specs.FormLaws.{after_chunk, is_done}
-use Rattle.beam_model.specs.ChunkForm.{IsWord, AreChunks, contents_of, IsForm}
-use Rattle.beam_iff.proofs.EachChunk.{guard_ok, bind_ok, ok_is, four, chunk_told, chunk_read, Added, Adds, contents_by, contents_more, added_on}
+use Rattle.beam_model.specs.Prelude.{FormFault, Chunk, not_form, compressed_file, agree, size_at, content_at, chunk_at, once, with_chunk, with_chunks, empty_form, form_at, after_chunk, is_done, AreChunks, contents_of, IsForm, Form}
+use Rattle.beam_model.specs.Form.{truncated, ◌>>=◌}
+use Rattle.beam_model.specs.ChunkForm.{IsWord}
+use Rattle.beam_iff.proofs.EachChunk.{ok_is, four, chunk_told, chunk_read, Added, Adds, contents_by, contents_more, added_on}
 
 abbrev done : {A : Type 0} → A → Result A FormFault
 done x = Ok x
@@ -301,23 +300,11 @@ record Content (bytes content : List ℕ) : Type 0 where
   parts : bytes ≡ codes "FOR1" ++ (size ++ (codes "BEAM" ++ (content ++ after)))
   is_size : IsWord (4 + length content) size
 
-guard_true : {A : Type 0} (b : Bool) (d : FormFault) (r : Result A FormFault) (y : A) → cond b r (Err d) ≡ Ok y → (b ≡ true) × (r ≡ Ok y)
-guard_true true d r y e = (refl, e)
-guard_true false d r y e = absurd cc
-
-both_true : (p q : Bool) → (p && q) ≡ true → (p ≡ true) × (q ≡ true)
-both_true true q h = (refl, h)
-both_true false q h = absurd cc
-
-both_false : (p q : Bool) → (p || q) ≡ false → (p ≡ false) × (q ≡ false)
-both_false true q h = absurd cc
-both_false false q h = (refl, h)
-
 agreed : (name bytes : List ℕ) → agree bytes name ≡ true → length name ≤ length bytes → bytes ≡ name ++ drop (length name) bytes
 agreed [] bytes e le = refl
 agreed (x ∷ name) [] e le = absurd (omega arith)
 agreed (x ∷ name) (b ∷ bytes) e le =
-    let p = both_true (b == x) (agree bytes name) e in
+    let p = and_parts (b == x) (agree bytes name) e in
     let same : b ≡ x = eqb-true b x p.0 in
     ap (λ (y : ℕ). y ∷ bytes) same ∙ ap (λ (t : List ℕ). x ∷ t) (agreed name bytes p.1 (omega arith))
 
@@ -332,12 +319,12 @@ record Opened (bytes content : List ℕ) : Type 0 where
 opened : (bytes content : List ℕ) → content_at bytes ≡ Ok content → Opened bytes content
 unfolding content_at
 opened bytes content e =
-    let a = guard_ok (starts_with nat_eq bytes (0x1F ∷ 0x8B ∷ [])) compressed_file _ content e in
+    let a = guard_false (starts_with nat_eq bytes (0x1F ∷ 0x8B ∷ [])) compressed_file _ content e in
     let b = guard_true (agree bytes (codes "FOR1") && agree (drop 8 bytes) (codes "BEAM")) not_form _ content a.1 in
-    let names = both_true (agree bytes (codes "FOR1")) (agree (drop 8 bytes) (codes "BEAM")) b.0 in
-    let c = guard_ok (ltb (length bytes) 12) truncated _ content b.1 in
-    let d = guard_ok (ltb (size_at bytes) 4 || ltb (length bytes) (8 + size_at bytes)) truncated _ content c.1 in
-    let sizes = both_false (ltb (size_at bytes) 4) (ltb (length bytes) (8 + size_at bytes)) d.0 in
+    let names = and_parts (agree bytes (codes "FOR1")) (agree (drop 8 bytes) (codes "BEAM")) b.0 in
+    let c = guard_false (ltb (length bytes) 12) truncated _ content b.1 in
+    let d = guard_false (ltb (size_at bytes) 4 || ltb (length bytes) (8 + size_at bytes)) truncated _ content c.1 in
+    let sizes = or_parts (ltb (size_at bytes) 4) (ltb (length bytes) (8 + size_at bytes)) d.0 in
     record { name = names.0; type = names.1; long = ltb-false _ _ c.0; some = ltb-false _ _ sizes.0; within = ltb-false _ _ sizes.1; is = ok_is _ content d.1 }
 
 -- eight bytes, and what stands after them

@@ -1,7 +1,7 @@
 -- One round of the loop over the chunks: the rest has the result of the whole.
 use Rattle.std.proofs.Common.{◌≡◌, ℕ, zero, suc, ◌<◌, ◌≤◌, List, [], ◌∷◌, length, Result, Ok, Err, refl, sym, ◌∙◌, arith}
-use Rattle.beam_model.specs.Form.{Form, FormFault, Chunk, chunk_at, with_chunk, with_chunks, not_form, truncated, compressed_file, duplicate_chunk}
-use Rattle.beam_model.specs.FormLaws.{chunk_takes}
+use Rattle.beam_model.specs.Prelude.{FormFault, Chunk, chunk_at, with_chunk, with_chunks, not_form, compressed_file, duplicate_chunk, chunk_takes, Form}
+use Rattle.beam_model.specs.Form.{truncated}
 use Rattle.beam_iff.specs.declared.error.IffError.{IffError}
 use Rattle.beam_iff.specs.declared.error.IffError.TheVariants as errors
 use Rattle.beam_iff.specs.Chunks.{Fails}

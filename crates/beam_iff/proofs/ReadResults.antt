@@ -1,13 +1,12 @@
 -- From the answer of a reading to the form that bytes spell.
-use Rattle.std.proofs.Common.{◌≡◌, ℕ, List, length, Result, Ok, Err, sym, subst, ◌∙◌}
-use Rattle.std.specs.Prelude.{IfOk, MatchResult}
-use Rattle.beam_model.specs.Form.{Form, FormFault, empty_form, content_at, with_chunks, form_at}
-use Rattle.beam_model.specs.ChunkForm.{IsForm}
+use Rattle.std.proofs.Common.{◌≡◌, ℕ, List, length, Result, Ok, Err, sym, subst, ◌∙◌, IfOk, MatchResult}
+use Rattle.beam_lemmas.proofs.Steps.{bind_ok}
+use Rattle.beam_model.specs.Prelude.{FormFault, empty_form, content_at, with_chunks, form_at, IsForm, Form}
 use Rattle.beam_iff.specs.declared.form.Chunks.{Chunks}
 use Rattle.beam_iff.specs.declared.error.IffError.{IffError}
 use Rattle.beam_iff.specs.declared.error.IffError.TheVariants.{NotForm, Truncated, CompressedFile, DuplicateChunk, NoMemory}
 use Rattle.beam_iff.specs.Chunks.{form_of, Fails, Gives}
-use Rattle.beam_iff.proofs.EachChunk.{bind_ok, ok_is}
+use Rattle.beam_iff.proofs.EachChunk.{ok_is}
 use Rattle.beam_iff.proofs.Forms.{form_told, form_read}
 
 -- a reading that gives something has no fault

@@ -1,7 +1,8 @@
 -- Slices of a file as the chunks of its form.
 use Rattle.std.specs.Prelude.{◌≡◌, ℕ, Result, Ok, Err}
 use Rattle.std.specs.Option.{option_copied}
-use Rattle.beam_model.specs.Form.{Form, FormFault, not_form, truncated, compressed_file, duplicate_chunk}
+use Rattle.beam_model.specs.Prelude.{FormFault, not_form, compressed_file, duplicate_chunk, Form}
+use Rattle.beam_model.specs.Form.{truncated}
 use Rattle.beam_iff.specs.declared.form.Chunks.{Chunks}
 use Rattle.beam_iff.specs.declared.error.IffError.{IffError}
 use Rattle.beam_iff.specs.declared.error.IffError.TheVariants as errors

@@ -5,3 +5,4 @@ pub mod ModuleFile
 pub mod InstructionRecord
 pub mod Reading
 pub mod Shapes
+pub mod Prelude

@@ -1,14 +1,9 @@
 -- Journals that are run, entry by entry.
-use Rattle.std.proofs.Common.{◌≡◌, ◌↔◌, ℕ, suc, ◌||◌, Bool, true, false, List, [], ◌∷◌, ◌++◌, length, refl, ap, ◌∙◌, arith, Ok}
-use Rattle.std.specs.Prelude.{map, not, Option, is_ok}
+use Rattle.std.proofs.Common.{◌≡◌, ◌↔◌, ℕ, suc, ◌||◌, Bool, true, false, List, [], ◌∷◌, ◌++◌, length, refl, ap, ◌∙◌, arith, Ok, map, not, Option, is_ok}
+use Rattle.beam_model.specs.Prelude.{Listing}
 use Rattle.beam_machine.specs.declared.debug.DebugEvent.{DebugEvent}
 use Rattle.beam_machine.specs.declared.debug.DebugReply.{DebugReply}
-use Rattle.beam_model.specs.Listing.{Listing}
-use Rattle.beam_machine.specs.State.{empty}
-use Rattle.beam_machine.specs.View.{View}
-use Rattle.beam_machine.specs.Debug.{Debugged, DebugAnswer, debug_next, debug_run, undisturbed}
-use Rattle.beam_machine.specs.DebugRun.{debug_cut_event, is_quiet_debug_event}
-use Rattle.beam_machine.specs.Journal.{Entry, IsLawful, replay}
+use Rattle.beam_machine.specs.Prelude.{empty, View, Debugged, DebugAnswer, debug_next, debug_run, undisturbed, debug_cut_event, is_quiet_debug_event, Entry, IsLawful, replay}
 use Rattle.beam_journal.specs.Entering.{SentEvent, Accepts, Accepted, entry_of, sent_event_of, reply_in, answered_from, entries_of, takes_memory}
 
 abbrev pub events_of : List Entry → List (DebugEvent Listing)

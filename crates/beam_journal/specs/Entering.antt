@@ -2,14 +2,10 @@
 use Rattle.std.specs.Prelude.{◌≡◌, ℕ, List, [], ◌∷◌, Bool, true, false, not, ◌||◌, Option, Ok, Err, is_ok}
 use Rattle.beam_machine.specs.declared.debug.DebugEvent.{DebugEvent}
 use Rattle.beam_machine.specs.declared.debug.DebugReply.{DebugReply}
-use Rattle.beam_machine.specs.declared.debug.DebugReply.TheVariants.{Node}
 use Rattle.beam_machine.specs.declared.event.Reply.TheVariants.{Done}
-use Rattle.beam_model.specs.Listing.{Listing}
-use Rattle.beam_machine.specs.Debug.{Debugged, DebugAnswer, debug_next, undisturbed}
-use Rattle.beam_machine.specs.DebugRun.{debug_cut_event, is_quiet_debug_event}
-use Rattle.beam_machine.specs.Journal.{Entry}
-use Rattle.beam_machine.specs.State.{empty}
-use Rattle.beam_machine.specs.View.{View}
+use Rattle.beam_machine.specs.Prelude.{Debugged, DebugAnswer, debug_next, undisturbed, debug_cut_event, is_quiet_debug_event, Entry, empty, View}
+use Rattle.beam_machine.specs.declared.debug.DebugReply.TheVariants.{Node}
+use Rattle.beam_model.specs.Prelude.{Listing}
 
 -- what callers see of a journal
 pub record Journal : Type 0 where

@@ -1,10 +1,7 @@
 -- Over events, the signals sent to a process are those that arrived, and then those in transit to it.
-use Rattle.std.proofs.Common.{◌≡◌, ◌≢◌, ℕ, ◌+◌, ◌-◌, ◌==◌, eq-eqb, true≢false, Bool, true, false, cond, nat_lt, List, [], ◌∷◌, ◌++◌, append-nil, length, map, not, slice_get, refl, sym, ap, subst, ◌∙◌, arith}
+use Rattle.std.proofs.Common.{◌≡◌, ◌≢◌, ℕ, ◌+◌, ◌-◌, ◌==◌, eq-eqb, true≢false, Bool, true, false, cond, nat_lt, List, [], ◌∷◌, ◌++◌, append-nil, length, map, not, slice_get, refl, sym, ap, subst, ◌∙◌, arith, Option, Some, None, option_map, nat_le, ◌&&◌, is_some, is_ok, Ok, Err, flat_map}
 use Rattle.std.proofs.lemmas.Bool.Decides.{nat_tests}
-use Rattle.std.specs.Prelude.{Option, Some, None, option_map, nat_le, ◌&&◌, is_some, is_ok, Ok, Err, flat_map}
-use Rattle.beam_term.specs.TermValue.{TermValue, nil_term}
 use Rattle.beam_machine.specs.declared.event.Event.{Event}
-use Rattle.beam_machine.specs.declared.event.Event.TheVariants as event
 use Rattle.beam_machine.specs.declared.event.Refused.TheVariants.{BackwardClock, NotReady, TooMany}
 use Rattle.beam_machine.specs.declared.event.Reply.{Reply}
 use Rattle.beam_machine.specs.declared.event.Reply.TheVariants.{Done, Changed, Started}
@@ -12,16 +9,12 @@ use Rattle.beam_machine.specs.declared.process.Deadline.{Deadline}
 use Rattle.beam_machine.specs.declared.process.Signal.{Signal}
 use Rattle.beam_machine.specs.declared.process.Signal.TheVariants.{Message}
 use Rattle.beam_machine.specs.declared.process.Status.TheVariants.{Running}
-use Rattle.beam_model.specs.Listing.{Listing}
-use Rattle.beam_machine.specs.Process.{Process, is_ended, is_waiting, started, ended, killed}
-use Rattle.beam_machine.specs.Row.{goes_on}
-use Rattle.beam_machine.specs.State.{State, empty, process_of, with_process, alive, live_process, receiver_of, posted_to, posted, with_signals, downs, with_made}
-use Rattle.beam_machine.specs.NodeNative.{most_processes}
-use Rattle.beam_machine.specs.Change.{current_of, old_of, lingers_in_old, lingers_in_olds, pids_of, ends_or_hears, killing}
-use Rattle.beam_machine.specs.Next.{Answer, Next, refused, replied, put_process, made_process, steps, next_steps, delivered, is_nothing, next_deliver, timed_out, next_timeout, sent_to, next_send, next}
-use Rattle.beam_machine.specs.Run.{run}
-use Rattle.beam_machine.specs.Private.{Sent}
-use Rattle.beam_laws.specs.Signals.{signal_to, signal_if, each_sent, end_sends, steps_send, deliver_sends, event_sends, sent, signals_to, on_its_way, event_brings, brought, messages_for}
+use Rattle.beam_machine.specs.Prelude.{Process, is_ended, is_waiting, started, ended, killed, goes_on, State, empty, process_of, with_process, alive, live_process, receiver_of, posted_to, posted, with_signals, downs, with_made, most_processes, current_of, old_of, lingers_in_old, lingers_in_olds, pids_of, ends_or_hears, killing, Answer, Next, refused, replied, put_process, made_process, next_steps, delivered, is_nothing, next_deliver, timed_out, next_timeout, sent_to, next_send, next, run, Sent}
+use Rattle.beam_term.specs.Prelude.{TermValue, nil_term}
+use Rattle.beam_machine.specs.declared.event.Event.TheVariants as event
+use Rattle.beam_model.specs.Prelude.{Listing}
+use Rattle.beam_machine.specs.Next.{steps}
+use Rattle.beam_laws.specs.Prelude.{signal_to, signal_if, each_sent, end_sends, steps_send, deliver_sends, event_sends, sent, signals_to, on_its_way, event_brings, brought, messages_for}
 use Rattle.beam_laws.proofs.Ending.{alive_is}
 use Rattle.beam_laws.proofs.Numbered.{positive, put_here, put_elsewhere, alive_of}
 use Rattle.beam_laws.proofs.Hearing.{hearing_here, process_map}

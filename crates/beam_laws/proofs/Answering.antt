@@ -1,21 +1,14 @@
 -- Processes that are set, started, named and sent to stay in live instances.
-use Rattle.std.proofs.Common.{ℕ, suc, zero, ◌+◌, ◌-◌, ◌&&◌, cond, true, false, nat_lt, List, [], ◌∷◌, ◌++◌, length, slice_get}
+use Rattle.std.proofs.Common.{ℕ, suc, zero, ◌+◌, ◌-◌, ◌&&◌, cond, true, false, nat_lt, List, [], ◌∷◌, ◌++◌, length, slice_get, Option, Some, None, Ok, is_some, not, codes}
 use Rattle.std.proofs.Math.ListN.{set}
-use Rattle.std.specs.Prelude.{Option, Some, None, Ok, is_some, not, codes}
-use Rattle.beam_model.specs.SameText.{same_text}
-use Rattle.beam_term.specs.TermValue.{TermValue, nil_term, int_term, atom_term, reference_term, pid_term, pair_term, tuple_term}
+use Rattle.beam_machine.specs.declared.process.Signal.{Signal}
+use Rattle.beam_machine.specs.declared.process.Signal.TheVariants.{Message, Exit as ExitSignal, Down}
+use Rattle.beam_machine.specs.Prelude.{Code, IsHome, AreHome, Process, is_ended, started, own_pid, own_reference, own_number, process_of, with_process, alive, live_process, registered, posted_to, posted, Answered, answer, fault, most_processes, spawns, spawns_with, is_free, names, registers, unnames, unregisters, is_alive, posted_if_own, sends_named, most_references, makes_reference, or_noproc, put_monitor, monitored, monitors_by, answer_of}
+use Rattle.beam_term.specs.Prelude.{TermValue, nil_term, int_term, atom_term, reference_term, pid_term, pair_term, tuple_term}
+use Rattle.beam_model.specs.Prelude.{same_text, truth, elements_in}
 use Rattle.beam_model.specs.declared.exception.Fault.TheVariants.{Badarg, SystemLimit}
 use Rattle.beam_model.specs.declared.native.NodeNative.{NodeNative}
 use Rattle.beam_model.specs.declared.native.NodeNative.TheVariants.{Spawn, Register, Unregister, Whereis, IsProcessAlive, Exit, Send, MakeRef, Monitor}
-use Rattle.beam_machine.specs.declared.process.Signal.{Signal}
-use Rattle.beam_machine.specs.declared.process.Signal.TheVariants.{Message, Exit as ExitSignal, Down}
-use Rattle.beam_machine.specs.Code.{Code}
-use Rattle.beam_model.specs.Native.{truth, elements_in}
-use Rattle.beam_machine.specs.Change.{IsHome, AreHome}
-use Rattle.beam_machine.specs.Process.{Process, is_ended, started, own_pid, own_reference}
-use Rattle.beam_machine.specs.Row.{own_number}
-use Rattle.beam_machine.specs.State.{process_of, with_process, alive, live_process, registered, posted_to, posted}
-use Rattle.beam_machine.specs.NodeNative.{Answered, answer, fault, most_processes, spawns, spawns_with, is_free, names, registers, unnames, unregisters, is_alive, posted_if_own, sends_named, most_references, makes_reference, or_noproc, put_monitor, monitored, monitors_by, answer_of}
 
 -- ---- the list of processes
 

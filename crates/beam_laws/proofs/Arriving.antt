@@ -1,24 +1,18 @@
 -- The signals sent to a process are those that arrived, and then those in transit to it.
-use Rattle.std.proofs.Common.{◌≡◌, ℕ, zero, suc, true≢false, ◌+◌, nat_lt, Bool, true, false, cond, List, [], ◌∷◌, ◌++◌, append_assoc, append-nil, refl, sym, ap, subst, ◌∙◌}
-use Rattle.std.specs.Prelude.{Option, Some, None, Result, Ok, unwrap_or, codes}
-use Rattle.beam_term.specs.TermValue.{TermValue, int_term, atom_term, reference_term, pid_term, nil_term, pair_term, tuple_term}
-use Rattle.beam_model.specs.declared.native.NodeNative.{NodeNative}
-use Rattle.beam_model.specs.declared.native.NodeNative.TheVariants.{Monitor}
-use Rattle.beam_model.specs.declared.exception.Exception.{Exception}
-use Rattle.beam_model.specs.declared.exception.Fault.TheVariants.{Badarg, SystemLimit}
-use Rattle.beam_model.specs.SameText.{same_text}
+use Rattle.std.proofs.Common.{◌≡◌, ℕ, zero, suc, true≢false, ◌+◌, nat_lt, Bool, true, false, cond, List, [], ◌∷◌, ◌++◌, append_assoc, append-nil, refl, sym, ap, subst, ◌∙◌, Option, Some, None, Result, Ok, unwrap_or, codes}
 use Rattle.beam_machine.specs.declared.callee.After.{After}
 use Rattle.beam_machine.specs.declared.process.Monitor.{Monitor as MonitorValue}
 use Rattle.beam_machine.specs.declared.process.Signal.{Signal}
 use Rattle.beam_machine.specs.declared.process.Status.TheVariants.{Running}
-use Rattle.beam_machine.specs.Process.{Process, is_running, is_ended, own_reference}
-use Rattle.beam_machine.specs.Row.{Outcome, makes, sends, asks, sleeps, arguments_of, answers, outcome}
-use Rattle.beam_machine.specs.State.{State, process_of, with_process, alive, posted, with_made}
-use Rattle.beam_machine.specs.NodeNative.{Answered, fault, most_references, or_noproc, put_monitor, with_new_monitor, monitored, monitors_by, answer_of}
-use Rattle.beam_machine.specs.Next.{Rows, raised, continues, goes_on_with, done_by, row, running, row_and, steps, next}
-use Rattle.beam_machine.specs.Private.{Sent}
-use Rattle.beam_laws.specs.Private.{with_name_and_transit, downs_of_end}
-use Rattle.beam_laws.specs.Signals.{signal_to, end_sends, noproc_sends, native_sends, asker_sends, row_sends, row_and_send, steps_send, signals_to, on_its_way}
+use Rattle.beam_machine.specs.Prelude.{Process, is_running, is_ended, own_reference, Outcome, makes, sends, asks, sleeps, arguments_of, answers, outcome, State, process_of, with_process, alive, posted, with_made, Answered, fault, most_references, or_noproc, put_monitor, with_new_monitor, monitored, monitors_by, answer_of, Rows, raised, continues, goes_on_with, done_by, row, running, row_and, next, Sent}
+use Rattle.beam_model.specs.declared.native.NodeNative.{NodeNative}
+use Rattle.beam_model.specs.declared.native.NodeNative.TheVariants.{Monitor}
+use Rattle.beam_model.specs.declared.exception.Exception.{Exception}
+use Rattle.beam_model.specs.declared.exception.Fault.TheVariants.{Badarg, SystemLimit}
+use Rattle.beam_model.specs.Prelude.{same_text}
+use Rattle.beam_term.specs.Prelude.{TermValue, int_term, atom_term, reference_term, pid_term, nil_term, pair_term, tuple_term}
+use Rattle.beam_machine.specs.Next.{steps}
+use Rattle.beam_laws.specs.Prelude.{with_name_and_transit, downs_of_end, signal_to, end_sends, noproc_sends, native_sends, asker_sends, row_sends, row_and_send, steps_send, signals_to, on_its_way}
 use Rattle.beam_laws.proofs.Ending.{running_is}
 use Rattle.beam_laws.proofs.Hearing.{hearing_here, none_heard}
 use Rattle.beam_laws.proofs.Numbered.{put_here, alive_of}

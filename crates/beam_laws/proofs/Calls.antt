@@ -1,35 +1,28 @@
 -- Calls, jumps, returns and messages: each row leaves its process in live instances.
-use Rattle.std.proofs.Common.{ℕ, ◌==◌, ◌&&◌, cond, true, false, IsTrue, List, [], ◌∷◌}
-use Rattle.std.specs.Prelude.{Option, Some, None, Result, Ok, Err, is_some, not, nat_lt}
-use Rattle.beam_term.specs.TermValue.{TermValue, nil_term, int_term, atom_term, reference_term, pid_term, pair_term, tuple_term, count_of}
+use Rattle.std.proofs.Common.{ℕ, ◌==◌, ◌&&◌, cond, true, false, IsTrue, List, [], ◌∷◌, Option, Some, None, Result, Ok, Err, is_some, not, nat_lt}
 use Rattle.beam_machine.specs.declared.action.SizeChoice.{SizeChoice}
+use Rattle.beam_machine.specs.declared.action.Action.{Action}
+use Rattle.beam_machine.specs.declared.action.Step.{Step}
+use Rattle.beam_machine.specs.declared.callee.Callee.{Callee}
+use Rattle.beam_machine.specs.declared.process.Deadline.{Deadline}
+use Rattle.beam_machine.specs.declared.process.Frame.{Frame}
+use Rattle.beam_machine.specs.declared.process.Goes.TheVariants.{At, Enter, Nowhere}
+use Rattle.beam_machine.specs.Prelude.{Code, step_of, entry_of, callee_named, is_live, Process, read, read_x, put_x, dropped, words_of, own_pid, bared, Outcome, makes, sends, asks, sleeps, returns_to, returns_from, returns, follows, answers, changed_by, answers_true, arguments_of, enters, with_new_frame, pushes, calls, calls_only, after_dropping, applies, callee_at, chosen, selects, size_chosen, selects_size, controls, own_number, sends_own, sends_to, peeks, with_message_at, waits, Duration, forever, milliseconds, duration_of, sleeps_at, sleeps_for, waits_for, waits_with, message_rows, perform, performs, outcome_at, outcome, goes_on, goes_to, faults, illegal, exits, finds_message}
+use Rattle.beam_machine.specs.declared.callee.After.{After}
+use Rattle.beam_machine.specs.declared.callee.After.TheVariants.{NextRow, Return}
+use Rattle.beam_term.specs.Prelude.{TermValue, nil_term, int_term, atom_term, reference_term, pid_term, pair_term, tuple_term, count_of}
 use Rattle.beam_machine.specs.declared.action.Control.{Control}
 use Rattle.beam_machine.specs.declared.action.Control.TheVariants as control
 use Rattle.beam_machine.specs.declared.action.Messaging.{Messaging}
 use Rattle.beam_machine.specs.declared.action.Messaging.TheVariants as messaging
-use Rattle.beam_machine.specs.declared.action.Action.{Action}
 use Rattle.beam_machine.specs.declared.action.Action.TheVariants.{Test, Compute, Data, Control as ControlAction, Stack, Catching, Messaging as MessagingAction}
-use Rattle.beam_machine.specs.declared.action.Step.{Step}
-use Rattle.beam_machine.specs.declared.callee.Callee.{Callee}
 use Rattle.beam_machine.specs.declared.callee.Callee.TheVariants as callee
 use Rattle.beam_model.specs.declared.exception.Exception.{Exception}
 use Rattle.beam_model.specs.declared.exception.Fault.TheVariants.{Undef, Badarg, SystemLimit, TimeoutValue}
-use Rattle.beam_machine.specs.declared.process.Deadline.{Deadline}
-use Rattle.beam_machine.specs.declared.process.Frame.{Frame}
-use Rattle.beam_machine.specs.declared.process.Goes.{Goes}
-use Rattle.beam_machine.specs.declared.process.Goes.TheVariants.{At, Enter, Nowhere}
-use Rattle.beam_model.specs.Place.{Place}
-use Rattle.beam_machine.specs.Code.{Code, step_of, entry_of}
-use Rattle.beam_machine.specs.Callee.{callee_named}
-use Rattle.beam_model.specs.Mailbox.{message_at, with_next, with_removed}
+use Rattle.beam_model.specs.Prelude.{Place, message_at, with_next, with_removed, native_value, truth}
 use Rattle.beam_model.specs.declared.native.ProcessNative.{ProcessNative}
-use Rattle.beam_model.specs.Native.{native_value, truth}
-use Rattle.beam_machine.specs.Change.{is_live}
+use Rattle.beam_machine.specs.declared.process.Goes.{Goes}
 use Rattle.beam_laws.proofs.LivePlaces.{IsLivePlace, GoesHome, FramesHome, IsDeadlineHome, Stands, Whole}
-use Rattle.beam_machine.specs.Process.{Process, read, read_x, put_x, dropped, words_of, own_pid, bared}
-use Rattle.beam_machine.specs.declared.callee.After.{After}
-use Rattle.beam_machine.specs.declared.callee.After.TheVariants.{NextRow, Return}
-use Rattle.beam_machine.specs.Row.{Outcome, makes, sends, asks, sleeps, returns_to, returns_from, returns, follows, answers, changed_by, answers_true, arguments_of, enters, with_new_frame, pushes, calls, calls_only, after_dropping, applies, callee_at, chosen, selects, size_chosen, selects_size, controls, own_number, sends_own, sends_to, peeks, with_message_at, waits, Duration, forever, milliseconds, duration_of, sleeps_at, sleeps_for, waits_for, waits_with, message_rows, perform, performs, outcome_at, outcome, goes_on, goes_to, faults, illegal, exits, finds_message}
 use Rattle.beam_laws.proofs.Demonitoring.{answers_keep}
 use Rattle.beam_laws.proofs.Lookups.{entry_live}
 use Rattle.beam_laws.proofs.Registers.{WholeIf, raises_home, faults_home, illegal_home, dropped_whole, bared_whole}

@@ -1,18 +1,12 @@
 -- Changes of code, with the processes that they end, leave the others in live instances.
-use Rattle.std.proofs.Common.{◌≡◌, ℕ, ◌==◌, cond, Bool, true, false, IsTrue, List, [], ◌∷◌, map, refl, sym, ap, subst, ◌∙◌, true≢false, arith}
+use Rattle.std.proofs.Common.{◌≡◌, ℕ, ◌==◌, cond, Bool, true, false, IsTrue, List, [], ◌∷◌, map, refl, sym, ap, subst, ◌∙◌, true≢false, arith, Option, Some, None, is_some, option_map, flat_map, eqb-true}
 use Rattle.std.proofs.lemmas.Bool.Decides.{nat_tests}
-use Rattle.std.specs.Prelude.{Option, Some, None, is_some, option_map, flat_map}
 use Rattle.beam_machine.specs.declared.process.Signal.{Signal}
-use Rattle.beam_machine.specs.State.{with_signals, downs}
+use Rattle.beam_machine.specs.Prelude.{with_signals, downs, Instance, Code, versions_of, listing_in, listing_of, Process, ended, killed, old_of, loaded, deleted, purged, with_versions, lingers, lingers_at, lingers_in_old, pids_of, ends_or_hears, killing, is_live, IsHome, AreHome, Versions}
 use Rattle.beam_laws.proofs.Hearing.{as_before}
-use Rattle.beam_term.specs.TermValue.{nil_term}
-use Rattle.beam_model.specs.Listing.{Listing}
-use Rattle.beam_model.specs.SameText.{same_text}
-use Rattle.beam_machine.specs.Code.{Instance, Versions, Code, versions_of, listing_in, listing_of}
-use Rattle.beam_machine.specs.Process.{Process, ended, killed}
-use Rattle.beam_machine.specs.Change.{old_of, loaded, deleted, purged, with_versions, lingers, lingers_at, lingers_in_old, pids_of, ends_or_hears, killing, is_live, IsHome, AreHome}
+use Rattle.beam_model.specs.Prelude.{Listing, same_text}
+use Rattle.beam_term.specs.Prelude.{nil_term}
 use Rattle.beam_laws.proofs.Lookups.{behind, more_live, live_with}
-use Rattle.beam_laws.proofs.LivePlaces.{equal}
 
 -- ---- a process whose instances stay live stays home
 
@@ -87,7 +81,7 @@ purged_keeps (v ∷ rest) name =
 -- an instance in which a process lingers differs from one in which it doesn't
 apart : (n m : ℕ) (p : Process) → lingers n p ≡ false → lingers m p ≡ true → (b : Bool) → (m == n) ≡ b → (m == n) ≡ false
 apart n m p e f false i = i
-apart n m p e f true i = absurd (true≢false (sym f ∙ (ap (λ m. lingers m p) (equal m n i) ∙ e)))
+apart n m p e f true i = absurd (true≢false (sym f ∙ (ap (λ m. lingers m p) (eqb-true m n i) ∙ e)))
 
 -- processes end, among them all that linger in removed instances
 ends_home : (test : Process → Bool) (pids : List ℕ) (new : Code) (p : Process) → (test p ≡ false → IsHome new p) → IsHome new (ends_or_hears test pids p)

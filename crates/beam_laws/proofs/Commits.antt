@@ -1,17 +1,12 @@
 -- Private rows of a process are its next rows in the node.
-use Rattle.std.proofs.Common.{◌≡◌, ◌≢◌, ℕ, zero, suc, ◌+◌, ◌==◌, eq-eqb, true≢false, Bool, true, false, cond, List, [], ◌∷◌, ◌++◌, refl, sym, ap, subst, ◌∙◌, arith}
+use Rattle.std.proofs.Common.{◌≡◌, ◌≢◌, ℕ, zero, suc, ◌+◌, ◌==◌, eq-eqb, true≢false, Bool, true, false, cond, List, [], ◌∷◌, ◌++◌, refl, sym, ap, subst, ◌∙◌, arith, Option, Some, None}
 use Rattle.std.proofs.lemmas.Bool.Decides.{nat_tests}
-use Rattle.std.specs.Prelude.{Option, Some, None}
 use Rattle.beam_machine.specs.declared.process.Signal.{Signal}
 use Rattle.beam_machine.specs.declared.process.Status.{Status}
 use Rattle.beam_machine.specs.declared.process.Status.TheVariants.{Running, Waiting, Ended}
-use Rattle.beam_machine.specs.Code.{Code}
-use Rattle.beam_machine.specs.Process.{Process, is_running, is_ended}
-use Rattle.beam_machine.specs.Row.{Outcome, makes, sends, asks, sleeps, outcome}
-use Rattle.beam_machine.specs.State.{State, process_of, with_process, alive, live_process, posted_to, posted, hearing_by}
-use Rattle.beam_machine.specs.Next.{Rows, put_process, made_process, done_by, row, one_more, running, row_and, steps}
-use Rattle.beam_machine.specs.Private.{Private, End, at_limit, after_row, before_node_row, stops, with_first_row, with_first_sending, private_by, private_rows}
-use Rattle.beam_laws.specs.Private.{with_name_and_transit, posted_all, after_private, before}
+use Rattle.beam_machine.specs.Prelude.{Code, Process, is_running, is_ended, Outcome, makes, sends, asks, sleeps, outcome, State, process_of, with_process, alive, live_process, posted_to, posted, hearing_by, Rows, put_process, made_process, done_by, row, one_more, running, row_and, Private, End, at_limit, after_row, before_node_row, stops, with_first_row, with_first_sending, private_by, private_rows}
+use Rattle.beam_machine.specs.Next.{steps}
+use Rattle.beam_laws.specs.Prelude.{with_name_and_transit, posted_all, after_private, before}
 use Rattle.beam_laws.proofs.Ending.{alive_is}
 use Rattle.beam_laws.proofs.Numbered.{positive, put_same, put_put, put_commutes, put_here, put_elsewhere, alive_of, gone}
 use Rattle.beam_laws.proofs.Hearing.{none_hear}
@@ -30,7 +25,7 @@ posted_commutes ps pid to signal p r (Some x) e ne l =
     let there : process_of ps to ≡ Some x = (alive_is (process_of ps to) x l).0 in
     sym (put_commutes ps pid to r (record x { transit = x.transit ++ signal ∷ [] }) ne (positive ps pid p e) (positive ps to x there))
 
-elsewhere : (ps : List Process) (pid to : ℕ) (signal : Signal) (p r : Process) → process_of ps pid ≡ Some p → pid ≢ to
+pub elsewhere : (ps : List Process) (pid to : ℕ) (signal : Signal) (p r : Process) → process_of ps pid ≡ Some p → pid ≢ to
     → with_process (posted ps to signal) pid r ≡ posted (with_process ps pid r) to signal
 elsewhere ps pid to signal p r e ne =
     posted_commutes ps pid to signal p r (live_process ps to) e ne refl

@@ -1,28 +1,21 @@
 -- A slice that is committed later.
-use Rattle.std.proofs.Common.{◌≡◌, ℕ, ◌+◌, Bool, true, false, cond, not, List, ◌++◌, refl, sym, ap, subst, ◌∙◌, arith}
-use Rattle.std.specs.Prelude.{◌&&◌, Option, Some, None, option_map}
+use Rattle.std.proofs.Common.{◌≡◌, ℕ, ◌+◌, Bool, true, false, cond, not, List, ◌++◌, refl, sym, ap, subst, ◌∙◌, arith, ◌&&◌, Option, Some, None, option_map}
 use Rattle.beam_machine.specs.declared.debug.DebugEvent.TheVariants.{Node as NodeEvent}
-use Rattle.beam_machine.specs.declared.debug.DebugReply.TheVariants.{Node, Held}
-use Rattle.beam_machine.specs.declared.event.Event.TheVariants as event
+use Rattle.beam_machine.specs.declared.debug.DebugReply.TheVariants.{Held, Node}
 use Rattle.beam_machine.specs.declared.event.Refused.TheVariants.{NotReady, Stopped}
 use Rattle.beam_machine.specs.declared.event.Reply.TheVariants.{Ran}
 use Rattle.beam_machine.specs.declared.process.Signal.{Signal}
-use Rattle.beam_model.specs.Place.{Place}
-use Rattle.beam_machine.specs.Debug.{Debugged, DebugNext, is_among, is_at_spot, with_pid, Halting, no_rows, and_one, halts_or, halting, refuses, replies, after_rows, halted, halts, debug_steps, debug_next}
-use Rattle.beam_machine.specs.Process.{Process, is_running, is_waiting, is_ended, then_of}
-use Rattle.beam_machine.specs.State.{State, process_of, with_process, alive, live_process}
-use Rattle.beam_machine.specs.Next.{row, running, row_and, steps}
-use Rattle.beam_machine.specs.Private.{Private, before_node_row, at_spot, private_to_spot}
-use Rattle.beam_laws.specs.Private.{IsStill, with_name_and_transit, with_signals, posted_all, after_private, with_name_and_transit_of}
-use Rattle.beam_laws.specs.Signals.{signals_to}
+use Rattle.beam_machine.specs.Prelude.{Debugged, DebugNext, is_among, is_at_spot, with_pid, Halting, no_rows, and_one, halts_or, halting, refuses, replies, after_rows, halted, halts, debug_steps, debug_next, Process, is_running, is_waiting, is_ended, then_of, State, process_of, with_process, alive, live_process, row, running, row_and, Private, before_node_row, at_spot, private_to_spot}
+use Rattle.beam_machine.specs.declared.event.Event.TheVariants as event
+use Rattle.beam_model.specs.Prelude.{Place}
+use Rattle.beam_machine.specs.Next.{steps}
+use Rattle.beam_laws.specs.Prelude.{IsStill, with_name_and_transit, with_signals, posted_all, after_private, with_name_and_transit_of, signals_to, Origin, slice_of, CanCommit, committed, and_next_row, passes_after, before_halting}
 use Rattle.beam_laws.proofs.Ending.{runs_on}
 use Rattle.beam_laws.proofs.Hearing.{as_before, hearing_here}
 use Rattle.beam_laws.proofs.Numbered.{put_here, alive_of}
 use Rattle.beam_laws.proofs.Posting.{all_posted_at}
 use Rattle.beam_laws.proofs.Refusing.{steps_longer, stays}
 use Rattle.beam_laws.proofs.Slices.{having_status, running_waits}
-use Rattle.beam_laws.specs.Origin.{Origin}
-use Rattle.beam_laws.specs.Slice.{slice_of, CanCommit, committed, and_next_row, passes_after, before_halting}
 use Rattle.beam_laws.proofs.Spots.{spot_later}
 use Rattle.beam_laws.proofs.Halts.{halting_goes_on}
 use Rattle.beam_laws.proofs.SpotEnds.{slice_ends}

@@ -1,28 +1,22 @@
 -- The debugger changes nothing of the node but how many rows are done.
-use Rattle.std.proofs.Common.{◌≡◌, ℕ, zero, suc, ◌+◌, Bool, true, false, cond, not, nat_lt, List, [], ◌∷◌, ◌++◌, refl, ap, ◌∙◌, arith}
-use Rattle.std.specs.Prelude.{◌&&◌, Option, Some, None, Ok, Err, filter}
+use Rattle.std.proofs.Common.{◌≡◌, ℕ, zero, suc, ◌+◌, Bool, true, false, cond, not, nat_lt, List, [], ◌∷◌, ◌++◌, refl, ap, ◌∙◌, arith, ◌&&◌, Option, Some, None, Ok, Err}
 use Rattle.std.specs.List.{AllByRecursion}
 use Rattle.beam_machine.specs.declared.debug.DebugEvent.{DebugEvent}
-use Rattle.beam_machine.specs.declared.debug.DebugEvent.TheVariants.{Node as NodeEvent, SetBreak, ClearBreak, Resume, StepOne, Inspect}
-use Rattle.beam_machine.specs.declared.debug.DebugReply.TheVariants.{Node}
+use Rattle.beam_machine.specs.declared.debug.DebugEvent.TheVariants.{SetBreak, ClearBreak, Resume, StepOne, Inspect, Node as NodeEvent}
 use Rattle.beam_machine.specs.declared.event.Event.{Event}
-use Rattle.beam_machine.specs.declared.event.Event.TheVariants as event
 use Rattle.beam_machine.specs.declared.event.Reply.TheVariants.{Done, Ran}
 use Rattle.beam_machine.specs.declared.event.Refused.TheVariants.{NotReady}
 use Rattle.beam_machine.specs.declared.event.Then.{Then}
 use Rattle.beam_machine.specs.declared.event.Then.TheVariants.{GoesOn, Waits, Ended}
-use Rattle.beam_machine.specs.declared.process.Goes.{Goes}
-use Rattle.beam_machine.specs.declared.process.Goes.TheVariants.{At, Enter, Nowhere}
-use Rattle.beam_model.specs.Listing.{Listing}
-use Rattle.beam_model.specs.Place.{Place}
-use Rattle.beam_machine.specs.Change.{is_live}
-use Rattle.beam_machine.specs.Process.{Process, is_waiting, then_of}
-use Rattle.beam_machine.specs.State.{State, process_of, live_process}
-use Rattle.beam_machine.specs.Next.{Answer, Next, Rows, next, one_more, ran, ran_to, refused, row, row_and, running, steps, next_steps}
-use Rattle.beam_machine.specs.Run.{run}
-use Rattle.beam_machine.specs.Debug.{Debugged, DebugAnswer, DebugNext, undisturbed, is_among, is_live_process, is_at_spot, with_pid, without_pid, with_spot, without_spot, after_rows, Halting, no_rows, and_one, halts_or, halting, refuses, replies, pruned, answered, of_node, halted, halts, debug_steps, held_at, stepped, debug_step_one, debug_resume, debug_set, debug_clear, debug_inspect, place_named, debug_next, debug_run, rows_of_answer, steps_of, erased, erase}
+use Rattle.beam_machine.specs.Prelude.{is_live, Process, is_waiting, then_of, State, process_of, live_process, Answer, Next, Rows, next, one_more, ran, ran_to, refused, row, row_and, running, next_steps, run, Debugged, DebugAnswer, DebugNext, undisturbed, is_among, is_live_process, is_at_spot, with_pid, without_pid, Halting, no_rows, and_one, halts_or, halting, refuses, replies, pruned, answered, of_node, halted, halts, debug_steps, held_at, stepped, debug_step_one, debug_resume, debug_set, debug_clear, debug_inspect, place_named, debug_next, debug_run, rows_of_answer, steps_of, erased, erase}
+use Rattle.beam_machine.specs.declared.debug.DebugReply.TheVariants.{Node}
+use Rattle.beam_machine.specs.declared.event.Event.TheVariants as event
+use Rattle.beam_model.specs.Prelude.{Listing, Place}
+use Rattle.beam_machine.specs.Next.{steps}
 use Rattle.beam_laws.proofs.Refusing.{refusal, steps_longer, stays, there}
 use Rattle.beam_laws.proofs.Sending.{steps_state}
+use Rattle.beam_laws.proofs.Settling.{kept, event_settled}
+use Rattle.beam_laws.proofs.Spots.{none_at}
 
 -- ---- rows
 
@@ -44,7 +38,7 @@ halts_rows spots passes s pid rest (Some p) e more = at (not passes && is_at_spo
     at false = one_halting spots s pid p (rest (row s pid p)) e (more (row s pid p))
 
 -- rows that stop at break spots are rows
-halting_rows : (n : ℕ) (spots : List Place) (passes : Bool) (s : State) (pid : ℕ)
+pub halting_rows : (n : ℕ) (spots : List Place) (passes : Bool) (s : State) (pid : ℕ)
     → steps s pid (halting spots passes s pid n).rows.count ≡ (halting spots passes s pid n).rows
 halting_rows zero spots passes s pid = refl
 halting_rows (suc n) spots passes s pid =
@@ -166,12 +160,6 @@ run_erased d (e ∷ events) =
 
 -- ---- without break spots
 
-none_at : (passes : Bool) (goes : Goes) → (not passes && is_at_spot [] goes) ≡ false
-none_at true goes = refl
-none_at false (At place) = refl
-none_at false (Enter m f arity) = refl
-none_at false Nowhere = refl
-
 abbrev whole : Rows → Halting
 whole rows = record { rows = rows; stopped = false }
 
@@ -220,14 +208,6 @@ node_as s e = refl
 
 -- ---- what is live
 
-kept_by : {T : Type 0} (test : T → Bool) (x : T) (rest : List T) (b : Bool) → test x ≡ b → AllByRecursion (λ x. test x ≡ true) rest → AllByRecursion (λ x. test x ≡ true) (cond b (x ∷ rest) rest)
-kept_by test x rest true e h = (e, h)
-kept_by test x rest false e h = h
-
-kept : {T : Type 0} (test : T → Bool) (xs : List T) → AllByRecursion (λ x. test x ≡ true) (filter test xs)
-kept test [] = tt
-kept test (x ∷ xs) = kept_by test x (filter test xs) (test x) refl (kept test xs)
-
 -- break spots lie in live instances, and held processes haven't ended
 abbrev Settled : Debugged → Type 0
 Settled d = AllByRecursion (λ (spot : Place). is_live d.node.code spot.instance ≡ true) d.spots × AllByRecursion (λ (pid : ℕ). is_live_process d.node pid ≡ true) d.held
@@ -235,66 +215,9 @@ Settled d = AllByRecursion (λ (spot : Place). is_live d.node.code spot.instance
 settles : (d : Debugged) → Settled (pruned d)
 settles d = (kept (λ (spot : Place). is_live d.node.code spot.instance) d.spots, kept (is_live_process d.node) d.held)
 
-one_of : (b : Bool) (x y : DebugNext) → Settled x.state → Settled y.state → Settled (cond b x y).state
-one_of true x y h k = h
-one_of false x y h k = k
-
-answered_settled : (d : Debugged) (s : State) (a : Answer) → Settled d → Settled (answered d s a).state
-answered_settled d s (Ok reply) h = settles (record d { node = s })
-answered_settled d s (Err r) h = h
-
-node_settled : (d : Debugged) (e : Event Listing) → Settled d → Settled (of_node d (next d.node e)).state
-node_settled d e k = answered_settled d (next d.node e).state (next d.node e).answer k
-
-halted_settled : (d : Debugged) (pid : ℕ) (h : Halting) (o : Option Process) → Settled d → Settled (halted d pid h o).state
-halted_settled d pid h None k = k
-halted_settled d pid h (Some p) k =
-    one_of h.stopped _ _ (settles (record (after_rows d pid h.rows) { held = with_pid pid d.held })) (settles (after_rows d pid h.rows))
-
-steps_settled : (d : Debugged) (pid n : ℕ) (o : Option Process) → Settled d → Settled (debug_steps d pid n o).state
-steps_settled d pid n None k = k
-steps_settled d pid n (Some p) k =
-    let h : Halting = halting d.spots (is_among pid d.passing) d.node pid n in
-    one_of (is_among pid d.held) _ _ k (one_of (is_waiting p.status) _ _ k (halted_settled d pid h (process_of h.rows.state.processes pid) k))
-
-stepped_settled : (d : Debugged) (pid : ℕ) (rows : Rows) (o : Option Process) → Settled d → Settled (stepped d pid rows o).state
-stepped_settled d pid rows None k = k
-stepped_settled d pid rows (Some p) k = settles (after_rows d pid rows)
-
-step_one_settled : (d : Debugged) (pid : ℕ) (o : Option Process) → Settled d → Settled (debug_step_one d pid o).state
-step_one_settled d pid None k = k
-step_one_settled d pid (Some p) k =
-    let rows : Rows = steps d.node pid 1 in
-    one_of (is_among pid d.held && not (is_waiting p.status)) _ _ (stepped_settled d pid rows (process_of rows.state.processes pid) k) k
-
-resume_settled : (d : Debugged) (pid : ℕ) (o : Option Process) → Settled d → Settled (debug_resume d pid o).state
-resume_settled d pid None k = k
-resume_settled d pid (Some p) k = one_of (is_among pid d.held) _ _ (settles (record d { held = without_pid pid d.held; passing = with_pid pid d.passing })) k
-
-set_settled : (d : Debugged) (o : Option Place) → Settled d → Settled (debug_set d o).state
-set_settled d None k = k
-set_settled d (Some place) k = settles (record d { spots = with_spot place d.spots })
-
-clear_settled : (d : Debugged) (o : Option Place) → Settled d → Settled (debug_clear d o).state
-clear_settled d None k = k
-clear_settled d (Some place) k = settles (record d { spots = without_spot place d.spots })
-
-inspect_settled : (d : Debugged) (pid : ℕ) (o : Option Process) → Settled d → Settled (debug_inspect d pid o).state
-inspect_settled d pid None k = k
-inspect_settled d pid (Some p) k = settles d
-
-event_settled : (d : Debugged) (e : DebugEvent Listing) → Settled d → Settled (debug_next d e).state
-event_settled d (NodeEvent (event.Steps pid n)) k = steps_settled d pid n (live_process d.node.processes pid) k
-event_settled d (NodeEvent e) k = node_settled d e k
-event_settled d (SetBreak spot) k = set_settled d (place_named d.node.code spot) k
-event_settled d (ClearBreak spot) k = clear_settled d (place_named d.node.code spot) k
-event_settled d (Resume pid) k = resume_settled d pid (live_process d.node.processes pid) k
-event_settled d (StepOne pid) k = step_one_settled d pid (live_process d.node.processes pid) k
-event_settled d (Inspect pid) k = inspect_settled d pid (process_of d.node.processes pid) k
-
 run_settled : (d : Debugged) (events : List (DebugEvent Listing)) → Settled d → Settled (debug_run d events).state
 run_settled d [] k = k
-run_settled d (e ∷ events) k = run_settled (debug_next d e).state events (event_settled d e k)
+run_settled d (e ∷ events) k = run_settled (debug_next d e).state events (event_settled Settled settles d e k)
 
 pub from_undisturbed : (s : State) (events : List (DebugEvent Listing)) → Settled (debug_run (undisturbed s) events).state
 from_undisturbed s events = run_settled (undisturbed s) events (tt, tt)

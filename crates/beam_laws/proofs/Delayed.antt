@@ -1,15 +1,11 @@
 -- Private rows that are done first and count later.
-use Rattle.std.proofs.Common.{◌≡◌, ℕ, ◌+◌, true, false, cond, ap, subst, ◌∙◌}
-use Rattle.std.specs.Prelude.{Some}
+use Rattle.std.proofs.Common.{◌≡◌, ℕ, ◌+◌, true, false, cond, ap, subst, ◌∙◌, Some}
 use Rattle.beam_machine.specs.declared.event.Event.TheVariants as event
 use Rattle.beam_machine.specs.declared.event.Refused.TheVariants.{NotReady}
 use Rattle.beam_machine.specs.declared.event.Reply.TheVariants.{Ran}
-use Rattle.beam_machine.specs.Code.{Code}
-use Rattle.beam_machine.specs.Process.{Process, is_running, is_ended, then_of}
-use Rattle.beam_machine.specs.State.{State, process_of, alive, live_process}
-use Rattle.beam_machine.specs.Next.{refused, replied, ran, next_steps, steps, next}
-use Rattle.beam_machine.specs.Private.{Private, private_rows}
-use Rattle.beam_laws.specs.Private.{IsStill, after_private, before, with_name_and_transit_of}
+use Rattle.beam_machine.specs.Prelude.{Code, Process, is_running, is_ended, then_of, State, process_of, alive, live_process, refused, replied, ran, next_steps, next, Private, private_rows}
+use Rattle.beam_machine.specs.Next.{steps}
+use Rattle.beam_laws.specs.Prelude.{IsStill, after_private, before, with_name_and_transit_of}
 use Rattle.beam_laws.proofs.Ending.{runs_on}
 use Rattle.beam_laws.proofs.Numbered.{alive_of}
 use Rattle.beam_laws.proofs.Private.{rows_unread}

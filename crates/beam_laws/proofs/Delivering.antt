@@ -1,15 +1,12 @@
 -- A process after a delivery: messages come after the mailbox, in their order.
-use Rattle.std.proofs.Common.{◌≡◌, ℕ, ◌==◌, true≢false, Bool, true, false, cond, not, List, [], ◌∷◌, ◌++◌, append_assoc, append-nil, refl, sym, ap, ◌∙◌}
-use Rattle.std.specs.Prelude.{◌&&◌, Option, Some, None, codes}
-use Rattle.beam_term.specs.TermValue.{TermValue, nil_term, int_term, atom_term, reference_term, pid_term, pair_term, tuple_term}
+use Rattle.std.proofs.Common.{◌≡◌, ℕ, ◌==◌, true≢false, Bool, true, false, cond, not, List, [], ◌∷◌, ◌++◌, append_assoc, append-nil, refl, sym, ap, ◌∙◌, ◌&&◌, Option, Some, None, codes}
+use Rattle.beam_model.specs.Prelude.{same_text, around}
 use Rattle.beam_machine.specs.declared.process.Signal.{Signal}
 use Rattle.beam_machine.specs.declared.process.Signal.TheVariants.{Message, Exit, Down}
 use Rattle.beam_machine.specs.declared.process.Monitor.{Monitor}
-use Rattle.beam_model.specs.SameText.{same_text}
-use Rattle.beam_machine.specs.Process.{Process, is_ended, ended, killed, monitor_of, without_monitor}
-use Rattle.beam_machine.specs.Next.{signalled, down_term, notified, arrived, delivered}
-use Rattle.beam_laws.specs.Signals.{messages_for, down_brings}
-use Rattle.beam_model.specs.Exception.{around}
+use Rattle.beam_machine.specs.Prelude.{Process, is_ended, ended, killed, monitor_of, without_monitor, signalled, down_term, notified, arrived, delivered}
+use Rattle.beam_term.specs.Prelude.{TermValue, nil_term, int_term, atom_term, reference_term, pid_term, pair_term, tuple_term}
+use Rattle.beam_laws.specs.Prelude.{messages_for, down_brings}
 
 -- an exit signal is ignored, or the process ends
 signalled_keeps : (p : Process) (sender : ℕ) (reason : TermValue) → is_ended (signalled p sender reason).status ≡ false → signalled p sender reason ≡ p

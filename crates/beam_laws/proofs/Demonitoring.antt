@@ -1,16 +1,13 @@
 -- A native that changes its process alone keeps each statement that doesn't depend on the mailbox, and holds of fewer monitors too.
-use Rattle.std.proofs.Common.{Bool, true, false, List, [], ◌∷◌}
-use Rattle.std.specs.Prelude.{filter, Option, Some, None, Ok}
-use Rattle.beam_term.specs.TermValue.{TermValue, int_term, atom_term, reference_term, pid_term, nil_term, pair_term, tuple_term}
+use Rattle.std.proofs.Common.{Bool, true, false, List, [], ◌∷◌, filter, Option, Some, None, Ok}
+use Rattle.beam_machine.specs.declared.callee.After.{After}
+use Rattle.beam_machine.specs.declared.process.Monitor.{Monitor}
+use Rattle.beam_machine.specs.Prelude.{Process, faults, answers, demonitored, flushed_if, flush_in, demonitors, changed_by, answers_true}
 use Rattle.beam_model.specs.declared.exception.Fault.TheVariants.{Badarg}
 use Rattle.beam_model.specs.declared.native.ProcessNative.{ProcessNative}
 use Rattle.beam_model.specs.declared.native.ProcessNative.TheVariants.{Demonitor}
-use Rattle.beam_model.specs.Mailbox.{Mailbox}
-use Rattle.beam_model.specs.Native.{truth}
-use Rattle.beam_machine.specs.declared.callee.After.{After}
-use Rattle.beam_machine.specs.declared.process.Monitor.{Monitor}
-use Rattle.beam_machine.specs.Process.{Process}
-use Rattle.beam_machine.specs.Row.{faults, answers, demonitored, flushed_if, flush_in, demonitors, changed_by, answers_true}
+use Rattle.beam_model.specs.Prelude.{Mailbox, truth}
+use Rattle.beam_term.specs.Prelude.{TermValue, int_term, atom_term, reference_term, pid_term, nil_term, pair_term, tuple_term}
 
 module _ (P : Process → Type 0) (other_mailbox : (q : Process) (m : Mailbox) → P q → P (record q { mailbox = m }))
     (fewer : (q : Process) (keep : Monitor → Bool) → P q → P (record q { monitors = filter keep q.monitors })) where

@@ -1,29 +1,20 @@
 -- The end of a process is final.
-use Rattle.std.proofs.Common.{◌≡◌, ◌≢◌, ℕ, zero, suc, ◌+◌, ◌-◌, Bool, true, false, cond, nat_lt, List, [], ◌∷◌, ◌++◌, length, map, slice_get, refl, sym, ap, subst, ◌∙◌, true≢false}
-use Rattle.std.proofs.lemmas.Option.{slice_get-map}
-use Rattle.std.specs.Prelude.{Option, Some, None, Result, option_map, unwrap_or, slice_set, flat_map, codes}
-use Rattle.beam_term.specs.TermValue.{TermValue, atom_term, pid_term, nil_term}
-use Rattle.beam_machine.specs.declared.event.Event.{Event}
+use Rattle.std.proofs.Common.{◌≡◌, ◌≢◌, ℕ, zero, suc, ◌+◌, ◌-◌, Bool, true, false, cond, nat_lt, List, [], ◌∷◌, ◌++◌, length, map, slice_get, refl, sym, ap, subst, ◌∙◌, true≢false, Option, Some, None, Result, option_map, unwrap_or, slice_set, flat_map, codes}
+use Rattle.std.proofs.lemmas.Option.{slice_get-map, same_Some}
 use Rattle.beam_model.specs.declared.exception.Fault.{Fault}
 use Rattle.beam_model.specs.declared.exception.Fault.TheVariants.{Badarg, SystemLimit}
 use Rattle.beam_model.specs.declared.native.NodeNative.{NodeNative}
 use Rattle.beam_model.specs.declared.native.NodeNative.TheVariants.{Spawn, Register, Unregister, Whereis, IsProcessAlive, Exit, Send, MakeRef, Monitor}
+use Rattle.beam_model.specs.Prelude.{Listing, elements_in, same_text}
+use Rattle.beam_machine.specs.declared.event.Event.{Event}
 use Rattle.beam_machine.specs.declared.process.Status.{Status}
 use Rattle.beam_machine.specs.declared.process.Status.TheVariants.{Running, Waiting, Ended}
 use Rattle.beam_machine.specs.declared.process.Signal.{Signal}
 use Rattle.beam_machine.specs.declared.process.Signal.TheVariants.{Message, Exit as ExitSignal, Down}
-use Rattle.beam_model.specs.Listing.{Listing}
-use Rattle.beam_model.specs.Native.{elements_in}
-use Rattle.beam_model.specs.SameText.{same_text}
-use Rattle.beam_machine.specs.Process.{Process, is_running, is_ended, started, own_pid, ended, killed}
+use Rattle.beam_machine.specs.Prelude.{Process, is_running, is_ended, started, own_pid, ended, killed, Outcome, makes, sends, asks, sleeps, answers, outcome, own_number, arguments_of, State, process_of, with_process, alive, live_process, registered, posted_to, posted, with_signals, downs, hearing_by, lingers, old_of, lingers_in_old, lingers_in_olds, pids_of, ends_or_hears, killing, Answered, answer, fault, most_processes, spawns_with, names, registers, unnames, unregisters, is_alive, posted_if_own, sends_named, most_references, makes_reference, or_noproc, put_monitor, monitored, answer_of, Rows, raised, delivered, continues, done_by, row, running, row_and, next, run, Touch, touch_of, Touches, stays, in_turn, loads, deletes, ends, purges, runs, arrives, times_out, ticks, posts, starts}
 use Rattle.beam_machine.specs.declared.callee.After.{After}
-use Rattle.beam_machine.specs.Row.{Outcome, makes, sends, asks, sleeps, answers, outcome, own_number, arguments_of}
-use Rattle.beam_machine.specs.State.{State, process_of, with_process, alive, live_process, registered, posted_to, posted, with_signals, downs, hearing_by}
-use Rattle.beam_machine.specs.Change.{lingers, old_of, lingers_in_old, lingers_in_olds, pids_of, ends_or_hears, killing}
-use Rattle.beam_machine.specs.NodeNative.{Answered, answer, fault, most_processes, spawns_with, names, registers, unnames, unregisters, is_alive, posted_if_own, sends_named, most_references, makes_reference, or_noproc, put_monitor, monitored, answer_of}
-use Rattle.beam_machine.specs.Next.{Rows, raised, delivered, continues, done_by, row, running, row_and, steps, next}
-use Rattle.beam_machine.specs.Run.{run}
-use Rattle.beam_machine.specs.Touch.{Touch, touch_of, Touches, stays, in_turn, loads, deletes, ends, purges, runs, arrives, times_out, ticks, posts, starts}
+use Rattle.beam_term.specs.Prelude.{TermValue, atom_term, pid_term, nil_term}
+use Rattle.beam_machine.specs.Next.{steps}
 use Rattle.beam_laws.proofs.Hearing.{gets_none, lingers_not, in_olds_not}
 use Rattle.beam_laws.proofs.Touching.{next_touches}
 
@@ -34,15 +25,12 @@ runs_on Running e = refl
 runs_on Waiting e = refl
 runs_on (Ended reason value) e = cc
 
-pub is_there : (x q : Process) → Some x ≡ Some q → x ≡ q
-is_there x q e = ap (λ o. unwrap_or o x) e
-
 pub running_is : (o : Option Process) (q : Process) → running o ≡ Some q → (o ≡ Some q) × (is_ended q.status ≡ false)
 running_is None q e = cc
 running_is (Some x) q e = by (is_running x.status) refl e
   where
     by : (b : Bool) → is_running x.status ≡ b → cond b (Some x) None ≡ Some q → (Some x ≡ Some q) × (is_ended q.status ≡ false)
-    by true r h = (h, subst (λ y. is_ended y.status ≡ false) (is_there x q h) (runs_on x.status r))
+    by true r h = (h, subst (λ y. is_ended y.status ≡ false) (same_Some x q h) (runs_on x.status r))
     by false r h = cc
 
 pub alive_is : (o : Option Process) (q : Process) → alive o ≡ Some q → (o ≡ Some q) × (is_ended q.status ≡ false)
@@ -51,7 +39,7 @@ alive_is (Some x) q e = by (is_ended x.status) refl e
   where
     by : (b : Bool) → is_ended x.status ≡ b → cond b None (Some x) ≡ Some q → (Some x ≡ Some q) × (is_ended q.status ≡ false)
     by true r h = cc
-    by false r h = (h, subst (λ y. is_ended y.status ≡ false) (is_there x q h) r)
+    by false r h = (h, subst (λ y. is_ended y.status ≡ false) (same_Some x q h) r)
 
 -- ---- one process in the list
 
@@ -80,7 +68,7 @@ module _ (pid : ℕ) (p : Process) (over : is_ended p.status ≡ true) (nowhere 
   -- a process that hasn't ended is another
   other : (ps : List Process) (at : ℕ) (q : Process) → Stays ps → process_of ps at ≡ Some q → is_ended q.status ≡ false → at - 1 ≢ pid - 1
   other ps at q h there lives e =
-      let one : q ≡ p = is_there q p (sym (at_index ps at q there) ∙ (ap (slice_get ps) e ∙ at_index ps pid p h)) in
+      let one : q ≡ p = same_Some q p (sym (at_index ps at q there) ∙ (ap (slice_get ps) e ∙ at_index ps pid p h)) in
       true≢false (sym over ∙ (ap (λ x. is_ended x.status) (sym one) ∙ lives))
 
   set_stays : (ps : List Process) (at : ℕ) (q : Process) → at - 1 ≢ pid - 1 → Stays ps → Stays (with_process ps at q)

@@ -1,18 +1,12 @@
 -- How an event, and a list of events, can change the code, the clock and the count of instances.
-use Rattle.std.proofs.Common.{◌≡◌, ℕ, zero, suc, ◌+◌, ◌≤◌, List, [], ◌∷◌, refl, ◌∙◌, arith}
-use Rattle.std.specs.Prelude.{Option, Some, None, Result}
-use Rattle.beam_term.specs.TermValue.{TermValue}
-use Rattle.beam_machine.specs.declared.event.Event.{Event}
+use Rattle.std.proofs.Common.{◌≡◌, ℕ, zero, suc, ◌+◌, ◌≤◌, List, [], ◌∷◌, refl, ◌∙◌, arith, Option, Some, None, Result}
 use Rattle.beam_model.specs.declared.exception.Fault.{Fault}
-use Rattle.beam_model.specs.Listing.{Listing}
-use Rattle.beam_machine.specs.Process.{Process}
+use Rattle.beam_model.specs.Prelude.{Listing}
+use Rattle.beam_machine.specs.declared.event.Event.{Event}
+use Rattle.beam_machine.specs.Prelude.{Process, Outcome, makes, sends, asks, sleeps, outcome, State, process_of, loaded, deleted, purged, Rows, continues, done_by, row, running, row_and, end_old, next, run, Touch, touch_of, Touches, stays, in_turn, loads, deletes, ends, purges, runs, arrives, times_out, ticks, posts, starts}
 use Rattle.beam_machine.specs.declared.callee.After.{After}
-use Rattle.beam_machine.specs.Row.{Outcome, makes, sends, asks, sleeps, outcome}
-use Rattle.beam_machine.specs.State.{State, process_of}
-use Rattle.beam_machine.specs.Change.{loaded, deleted, purged}
-use Rattle.beam_machine.specs.Next.{Rows, continues, done_by, row, running, row_and, steps, end_old, next}
-use Rattle.beam_machine.specs.Run.{run}
-use Rattle.beam_machine.specs.Touch.{Touch, touch_of, Touches, stays, in_turn, loads, deletes, ends, purges, runs, arrives, times_out, ticks, posts, starts}
+use Rattle.beam_term.specs.Prelude.{TermValue}
+use Rattle.beam_machine.specs.Next.{steps}
 use Rattle.beam_laws.proofs.Touching.{next_touches}
 
 -- the states differ in their processes alone

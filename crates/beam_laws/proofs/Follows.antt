@@ -1,12 +1,24 @@
 -- A row leaves its process the number and the name, or drops the name; and where the process ends, all but the number, the reason and the value go.
-use Rattle.std.proofs.Common.{◌≡◌, ℕ, ◌+◌, ◌==◌, ◌&&◌, cond, Bool, true, false, not, nat_lt, List, [], ◌∷◌, length, refl, sym, ap, ◌∙◌, true≢false}
-use Rattle.std.specs.Prelude.{Option, Some, None, Result, Ok, Err, is_some, option_map, nat_le, filter, slice_get, slice_set, drop, replicate}
-use Rattle.beam_term.specs.TermValue.{TermValue, nil_term, atom_term, pid_term, pair_term, tuple_term, tuple_of, elements_of, count_of}
+use Rattle.std.proofs.Common.{◌≡◌, ℕ, ◌+◌, ◌==◌, ◌&&◌, cond, Bool, true, false, not, nat_lt, List, [], ◌∷◌, length, refl, sym, ap, ◌∙◌, true≢false, Option, Some, None, Result, Ok, Err, is_some, option_map, nat_le, filter, slice_get, slice_set, drop, replicate}
 use Rattle.beam_machine.specs.declared.action.Register.{Register}
 use Rattle.beam_machine.specs.declared.action.Register.TheVariants.{X, Y}
 use Rattle.beam_machine.specs.declared.action.OnFault.{OnFault}
 use Rattle.beam_machine.specs.declared.action.OnFault.TheVariants.{Raises, Goes as GoesTo}
 use Rattle.beam_machine.specs.declared.action.SizeChoice.{SizeChoice}
+use Rattle.beam_machine.specs.declared.action.Action.{Action}
+use Rattle.beam_machine.specs.declared.action.Step.{Step}
+use Rattle.beam_machine.specs.declared.callee.Callee.{Callee}
+use Rattle.beam_machine.specs.declared.callee.After.{After}
+use Rattle.beam_machine.specs.declared.callee.After.TheVariants.{NextRow, Return}
+use Rattle.beam_machine.specs.declared.process.Slot.{Slot}
+use Rattle.beam_machine.specs.declared.process.Slot.TheVariants.{Value, Tag as TagSlot}
+use Rattle.beam_machine.specs.declared.process.Frame.{Frame}
+use Rattle.beam_machine.specs.declared.process.Deadline.{Deadline}
+use Rattle.beam_machine.specs.declared.process.Monitor.{Monitor}
+use Rattle.beam_machine.specs.declared.process.Goes.TheVariants.{At, Enter, Nowhere}
+use Rattle.beam_machine.specs.declared.process.Status.TheVariants.{Running, Waiting}
+use Rattle.beam_machine.specs.Prelude.{callee_named, Code, step_of, entry_of, Process, is_ended, ended, normal, read, read_x, read_all, put, put_x, put_y, put_slots, with_slots, without_slots, dropped, words_of, own_pid, bared, Outcome, makes, sends, asks, sleeps, tag_of, caught_at, unwound, raises, faults, illegal, goes_on, goes_to, changes, stores, stores_made, stores_second, stores_two, decides, has_size, is_tagged, with_one, with_two, tests, fails, stores_computed, computes, held_in, splits, opens, put_elements, stores_tuple, updates_record, moves, allocates_in, trims_in, trims_newest, cleared, stacks, tags, traced, raises_again, raises_raw, catches, handles, catch_rows, returns_to, returns_from, returns, follows, answers, changed_by, answers_true, arguments_of, enters, with_new_frame, pushes, calls, calls_only, after_dropping, applies, callee_at, chosen, selects, size_chosen, selects_size, controls, own_number, sends_own, sends_to, peeks, with_message_at, waits_for_message, waits, Duration, forever, milliseconds, duration_of, sleeps_at, sleeps_for, waits_for, waits_with, message_rows, perform, performs, outcome_at, outcome, exits, finds_message}
+use Rattle.beam_term.specs.Prelude.{TermValue, nil_term, atom_term, pid_term, pair_term, tuple_term, tuple_of, elements_of, count_of}
 use Rattle.beam_machine.specs.declared.action.Test.{Test as TheTest}
 use Rattle.beam_machine.specs.declared.action.Test.TheVariants as test
 use Rattle.beam_machine.specs.declared.action.Compute.{Compute as TheCompute}
@@ -21,36 +33,17 @@ use Rattle.beam_machine.specs.declared.action.Control.{Control as TheControl}
 use Rattle.beam_machine.specs.declared.action.Control.TheVariants as control
 use Rattle.beam_machine.specs.declared.action.Messaging.{Messaging as TheMessaging}
 use Rattle.beam_machine.specs.declared.action.Messaging.TheVariants as messaging
-use Rattle.beam_machine.specs.declared.action.Action.{Action}
 use Rattle.beam_machine.specs.declared.action.Action.TheVariants.{Test, Compute, Data, Control, Stack, Catching, Messaging}
-use Rattle.beam_machine.specs.declared.action.Step.{Step}
-use Rattle.beam_machine.specs.declared.callee.Callee.{Callee}
 use Rattle.beam_machine.specs.declared.callee.Callee.TheVariants as callee
-use Rattle.beam_machine.specs.declared.callee.After.{After}
-use Rattle.beam_machine.specs.declared.callee.After.TheVariants.{NextRow, Return}
 use Rattle.beam_model.specs.declared.exception.Class.{Class}
 use Rattle.beam_model.specs.declared.exception.Exception.{Exception}
-use Rattle.beam_model.specs.declared.exception.Exception.TheVariants as exception
 use Rattle.beam_model.specs.declared.exception.Fault.{Fault}
 use Rattle.beam_model.specs.declared.exception.Fault.TheVariants.{IllegalOperand, Undef, Badarg, SystemLimit, TimeoutValue}
-use Rattle.beam_machine.specs.declared.process.Slot.{Slot}
-use Rattle.beam_machine.specs.declared.process.Slot.TheVariants.{Value, Tag as TagSlot}
-use Rattle.beam_machine.specs.declared.process.Tag.{Tag}
-use Rattle.beam_machine.specs.declared.process.Frame.{Frame}
-use Rattle.beam_machine.specs.declared.process.Deadline.{Deadline}
-use Rattle.beam_machine.specs.declared.process.Monitor.{Monitor}
-use Rattle.beam_machine.specs.declared.process.Goes.{Goes}
-use Rattle.beam_machine.specs.declared.process.Goes.TheVariants.{At, Enter, Nowhere}
-use Rattle.beam_machine.specs.declared.process.Status.TheVariants.{Running, Waiting}
-use Rattle.beam_model.specs.Place.{Place}
-use Rattle.beam_model.specs.Exception.{clause_exception, exit_reason}
-use Rattle.beam_model.specs.Mailbox.{message_at, with_next, with_removed}
+use Rattle.beam_model.specs.Prelude.{Place, clause_exception, exit_reason, message_at, with_next, with_removed, compares, is_of_type, truth, limited_term, nullary_value, unary_value, binary_value, native_value, class_in}
 use Rattle.beam_model.specs.declared.native.ProcessNative.{ProcessNative}
-use Rattle.beam_model.specs.Native.{compares, is_of_type, truth, limited_term, nullary_value, unary_value, binary_value, native_value, class_in}
-use Rattle.beam_machine.specs.Callee.{callee_named}
-use Rattle.beam_machine.specs.Code.{Code, step_of, entry_of}
-use Rattle.beam_machine.specs.Process.{Process, is_ended, ended, normal, read, read_x, read_all, put, put_x, put_y, put_slots, with_slots, without_slots, dropped, words_of, own_pid, bared}
-use Rattle.beam_machine.specs.Row.{Outcome, makes, sends, asks, sleeps, tag_of, caught_at, unwound, raises, faults, illegal, goes_on, goes_to, changes, stores, stores_made, stores_second, stores_two, decides, has_size, is_tagged, with_one, with_two, tests, fails, stores_computed, computes, held_in, splits, opens, put_elements, stores_tuple, updates_record, moves, allocates_in, trims_in, trims_newest, cleared, stacks, tags, traced, raises_again, raises_raw, catches, handles, catch_rows, returns_to, returns_from, returns, follows, answers, changed_by, answers_true, arguments_of, enters, with_new_frame, pushes, calls, calls_only, after_dropping, applies, callee_at, chosen, selects, size_chosen, selects_size, controls, own_number, sends_own, sends_to, peeks, with_message_at, waits_for_message, waits, Duration, forever, milliseconds, duration_of, sleeps_at, sleeps_for, waits_for, waits_with, message_rows, perform, performs, outcome_at, outcome, exits, finds_message}
+use Rattle.beam_model.specs.declared.exception.Exception.TheVariants as exception
+use Rattle.beam_machine.specs.declared.process.Tag.{Tag}
+use Rattle.beam_machine.specs.declared.process.Goes.{Goes}
 pub use Rattle.beam_laws.specs.Orderly.{Ends, Follows}
 use Rattle.beam_laws.proofs.Demonitoring.{answers_keep}
 

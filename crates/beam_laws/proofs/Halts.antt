@@ -1,22 +1,15 @@
 -- Rows of a slice are the process's next rows in the node with its debugger.
-use Rattle.std.proofs.Common.{◌≡◌, ℕ, zero, suc, ◌+◌, ◌==◌, nat_lt, Bool, true, false, cond, not, List, [], ◌∷◌, ◌++◌, refl, sym, ap, subst, ◌∙◌, arith}
+use Rattle.std.proofs.Common.{◌≡◌, ℕ, zero, suc, ◌+◌, ◌==◌, nat_lt, Bool, true, false, cond, not, List, [], ◌∷◌, ◌++◌, refl, sym, ap, subst, ◌∙◌, arith, ◌&&◌, Some, None, option_map}
 use Rattle.std.proofs.lemmas.Bool.Decides.{nat_tests}
-use Rattle.std.specs.Prelude.{◌&&◌, Some, None, option_map}
+use Rattle.beam_model.specs.Prelude.{Place}
 use Rattle.beam_machine.specs.declared.process.Signal.{Signal}
-use Rattle.beam_model.specs.Place.{Place}
-use Rattle.beam_machine.specs.Code.{Code}
-use Rattle.beam_machine.specs.Debug.{is_at_spot, Halting, no_rows, and_one, halts_or, halting}
-use Rattle.beam_machine.specs.Process.{Process, is_running, is_ended}
-use Rattle.beam_machine.specs.Row.{Outcome, makes, sends, asks, sleeps, outcome}
-use Rattle.beam_machine.specs.State.{State, process_of, with_process, posted}
-use Rattle.beam_machine.specs.Next.{Rows, made_process, done_by, row, running, row_and, steps}
-use Rattle.beam_machine.specs.Private.{Private, at_limit, at_spot, after_row, stops, private_by, private_rows, private_to_spot}
-use Rattle.beam_laws.specs.Private.{with_signals, after_private}
+use Rattle.beam_machine.specs.Prelude.{Code, is_at_spot, Halting, no_rows, and_one, halts_or, halting, Process, is_running, is_ended, Outcome, makes, sends, asks, sleeps, outcome, State, process_of, with_process, posted, Rows, made_process, done_by, row, running, row_and, Private, at_limit, at_spot, after_row, stops, private_by, private_rows, private_to_spot}
+use Rattle.beam_machine.specs.Next.{steps}
+use Rattle.beam_laws.specs.Prelude.{with_signals, after_private, passes_after, before_halting}
 use Rattle.beam_laws.proofs.Commits.{rows_go_on}
 use Rattle.beam_laws.proofs.Hearing.{hearing_here}
 use Rattle.beam_laws.proofs.Numbered.{put_here}
 use Rattle.beam_laws.proofs.Posting.{posted_at}
-use Rattle.beam_laws.specs.Slice.{passes_after, before_halting}
 use Rattle.beam_laws.proofs.Spots.{spot_unread, spot_prefix}
 
 -- ---- n rows, none of them that of a break spot

@@ -1,18 +1,15 @@
 -- The DOWNs of an end, and of the ends that a change of code makes.
-use Rattle.std.proofs.Common.{◌≡◌, ℕ, ◌-◌, ◌||◌, Bool, true, false, cond, nat_lt, List, [], ◌∷◌, ◌++◌, append-nil, length, map, slice_get, refl, sym, ap, ◌∙◌}
+use Rattle.std.proofs.Common.{◌≡◌, ℕ, ◌-◌, ◌||◌, Bool, true, false, cond, nat_lt, List, [], ◌∷◌, ◌++◌, append-nil, length, map, slice_get, refl, sym, ap, ◌∙◌, Option, Some, None, option_map, filter, flat_map}
 use Rattle.std.proofs.lemmas.List.{length-map}
 use Rattle.std.proofs.lemmas.Option.{slice_get-map}
-use Rattle.std.specs.Prelude.{Option, Some, None, option_map, filter, flat_map}
 use Rattle.std.specs.List.{list_any}
-use Rattle.beam_term.specs.TermValue.{nil_term}
+use Rattle.std.proofs.lemmas.Bool.{or_parts}
 use Rattle.beam_machine.specs.declared.process.Signal.{Signal}
 use Rattle.beam_machine.specs.declared.process.Status.{Status}
 use Rattle.beam_machine.specs.declared.process.Status.TheVariants.{Running, Waiting, Ended}
-use Rattle.beam_machine.specs.Change.{old_of, lingers, lingers_at, lingers_in_old, lingers_in_olds, pids_of, ends_or_hears, killing}
-use Rattle.beam_machine.specs.Code.{Code}
-use Rattle.beam_machine.specs.Process.{Process, is_ended, ended, killed}
-use Rattle.beam_machine.specs.State.{process_of, with_signals, downs, hearing_by}
-use Rattle.beam_laws.specs.Private.{downs_of_end}
+use Rattle.beam_machine.specs.Prelude.{old_of, lingers, lingers_at, lingers_in_old, lingers_in_olds, pids_of, ends_or_hears, killing, Code, Process, is_ended, ended, killed, process_of, with_signals, downs, hearing_by}
+use Rattle.beam_term.specs.Prelude.{nil_term}
+use Rattle.beam_laws.specs.Prelude.{downs_of_end}
 
 -- ---- a process with more signals in transit to it
 
@@ -85,10 +82,6 @@ hearing_length pid status ps = ap length (hearing_is pid status ps) ∙ length-m
 
 -- ---- ends by a change of code
 
-pub either_false : (a b : Bool) → (a || b) ≡ false → (a ≡ false) × (b ≡ false)
-either_false false b e = (refl, e)
-either_false true b e = cc
-
 -- no process passes the test, so none ends
 none_pass : (test : Process → Bool) (ps : List Process) → list_any test ps ≡ false → pids_of test ps ≡ []
 none_pass test [] = λ e. refl
@@ -101,7 +94,7 @@ none_pass test (p ∷ ps) = go (test p) (none_pass test ps)
 none_killed : (test : Process → Bool) (pids : List ℕ) (ps : List Process) → pids ≡ [] → list_any test ps ≡ false → map (ends_or_hears test pids) ps ≡ ps
 none_killed test pids [] none = λ e. refl
 none_killed test pids (p ∷ ps) none = λ e.
-    let each = either_false (test p) (list_any test ps) e in
+    let each = or_parts (test p) (list_any test ps) e in
     let spared : ends_or_hears test pids p ≡ p =
     ap (λ b. cond b (ended p killed nil_term) (with_signals (flat_map (λ pid. downs pid killed p.monitors) pids) p)) each.0
     ∙ (ap (λ ns. with_signals (flat_map (λ pid. downs pid killed p.monitors) ns) p) none ∙ none_more p) in

@@ -1,30 +1,21 @@
 -- Each event leaves every process in live instances.
-use Rattle.std.proofs.Common.{◌≡◌, ℕ, suc, zero, ◌+◌, ◌-◌, ◌==◌, ◌&&◌, cond, Bool, true, false, List, [], ◌∷◌, length, map, refl, sym, subst, ◌∙◌}
-use Rattle.std.specs.Prelude.{Option, Some, None, Result, not, unwrap_or, codes}
-use Rattle.beam_term.specs.TermValue.{TermValue, nil_term, int_term, atom_term, reference_term, pid_term, pair_term, tuple_term}
-use Rattle.beam_machine.specs.declared.event.Event.{Event}
+use Rattle.std.proofs.Common.{◌≡◌, ℕ, suc, zero, ◌+◌, ◌-◌, ◌==◌, ◌&&◌, cond, Bool, true, false, List, [], ◌∷◌, length, map, refl, sym, subst, ◌∙◌, Option, Some, None, Result, not, unwrap_or, codes}
 use Rattle.beam_model.specs.declared.exception.Fault.{Fault}
+use Rattle.beam_model.specs.Prelude.{Listing, same_text}
+use Rattle.beam_machine.specs.declared.event.Event.{Event}
 use Rattle.beam_machine.specs.declared.process.Signal.{Signal}
 use Rattle.beam_machine.specs.declared.process.Signal.TheVariants.{Message, Exit, Down}
 use Rattle.beam_machine.specs.declared.process.Monitor.{Monitor}
 use Rattle.beam_machine.specs.declared.process.Status.{Status}
 use Rattle.beam_machine.specs.declared.process.Status.TheVariants.{Running}
-use Rattle.beam_model.specs.Listing.{Listing}
-use Rattle.beam_model.specs.SameText.{same_text}
-use Rattle.beam_machine.specs.Code.{Code}
-use Rattle.beam_machine.specs.Process.{Process, is_running, is_ended, started, ended, killed, monitor_of}
+use Rattle.beam_machine.specs.Prelude.{Code, Process, is_running, is_ended, started, ended, killed, monitor_of, Outcome, makes, sends, asks, sleeps, answers, arguments_of, outcome, goes_on, State, process_of, with_process, hearing_by, Answered, answer_of, loaded, deleted, purged, lingers, lingers_in_olds, IsHome, AreHome, made_process, raised, notified, continues, goes_on_with, deadline_at, done_by, row, Rows, running, row_and, signalled, arrived, delivered, purge_old, end_old, load_new, next, run, Touch, touch_of, Touches, stays, in_turn, loads, deletes, ends, purges, runs, arrives, times_out, ticks, posts, starts}
 use Rattle.beam_machine.specs.declared.callee.After.{After}
-use Rattle.beam_machine.specs.Row.{Outcome, makes, sends, asks, sleeps, answers, arguments_of, outcome, goes_on}
-use Rattle.beam_machine.specs.State.{State, process_of, with_process, hearing_by}
-use Rattle.beam_machine.specs.NodeNative.{Answered, answer_of}
-use Rattle.beam_machine.specs.Change.{loaded, deleted, purged, lingers, lingers_in_olds, IsHome, AreHome}
-use Rattle.beam_machine.specs.Next.{made_process, raised, notified, continues, goes_on_with, deadline_at, done_by, row, Rows, running, row_and, steps, signalled, arrived, delivered, purge_old, end_old, load_new, next}
-use Rattle.beam_machine.specs.Run.{run}
-use Rattle.beam_machine.specs.Touch.{Touch, touch_of, Touches, stays, in_turn, loads, deletes, ends, purges, runs, arrives, times_out, ticks, posts, starts}
+use Rattle.beam_term.specs.Prelude.{TermValue, nil_term, int_term, atom_term, reference_term, pid_term, pair_term, tuple_term}
+use Rattle.beam_machine.specs.Next.{steps}
 use Rattle.beam_laws.proofs.LivePlaces.{IsDeadlineHome, Whole, whole_home, home_whole}
 use Rattle.beam_laws.proofs.Calls.{AfterHome, ComesHome, answers_home, outcome_home}
 use Rattle.beam_laws.proofs.Answering.{IsHomeIf, set_home, process_home, live_home, appended_home, started_home, posted_home, answer_home}
-use Rattle.beam_laws.specs.Private.{downs_of_end}
+use Rattle.beam_laws.specs.Prelude.{downs_of_end}
 use Rattle.beam_laws.proofs.Changes.{all_kept, loaded_keeps, deleted_keeps, purged_keeps, purged_home, killed_home}
 use Rattle.beam_laws.proofs.Hearing.{as_before, hears, hearing_is}
 use Rattle.beam_laws.proofs.Touching.{next_touches}

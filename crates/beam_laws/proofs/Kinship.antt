@@ -1,20 +1,16 @@
 -- Code of earlier, and the node's code now.
-use Rattle.std.proofs.Common.{◌≡◌, ℕ, ◌+◌, ◌≤◌, ◌<◌, ◌==◌, ◌||◌, nat_lt, Bool, true, false, cond, ◌⊎◌, inl, inr, List, [], ◌∷◌, refl, sym, ap, subst, ◌∙◌, arith}
+use Rattle.std.proofs.Common.{◌≡◌, ℕ, ◌+◌, ◌≤◌, ◌<◌, ◌==◌, ◌||◌, nat_lt, Bool, true, false, cond, ◌⊎◌, inl, inr, List, [], ◌∷◌, refl, sym, ap, subst, ◌∙◌, arith, ◌&&◌, Option, Some, None}
 use Rattle.std.proofs.lemmas.Bool.Decides.{nat_tests}
 use Rattle.std.proofs.lemmas.Slice.Eq.{bytes_eq-Decides}
 use Rattle.std.specs.Cmp.Lexicographic.{nat_list_eq_equiv}
-use Rattle.std.specs.Prelude.{◌&&◌, Option, Some, None, unwrap_or}
+use Rattle.std.proofs.lemmas.Bool.{and_parts}
+use Rattle.std.proofs.lemmas.Option.{same_Some}
+use Rattle.beam_model.specs.Prelude.{Listing, same_text}
 use Rattle.beam_machine.specs.declared.debug.DebugEvent.{DebugEvent}
-use Rattle.beam_model.specs.Listing.{Listing}
-use Rattle.beam_model.specs.SameText.{same_text}
-use Rattle.beam_machine.specs.Code.{Code, Instance, Versions, versions_of}
-use Rattle.beam_machine.specs.Change.{has_instance, with_versions, changed, loaded, deleted, purged}
-use Rattle.beam_machine.specs.Debug.{Debugged, debug_next, debug_run, erase}
-use Rattle.beam_machine.specs.State.{State}
-use Rattle.beam_laws.specs.Numbers.{bears, how_many, Ordered}
+use Rattle.beam_machine.specs.Prelude.{Code, Instance, versions_of, has_instance, with_versions, changed, loaded, deleted, purged, Debugged, debug_next, debug_run, erase, State, Versions}
+use Rattle.beam_laws.specs.Prelude.{bears, how_many, Ordered, IsIn, IsEarlierCode, same_number, same_numbers}
 use Rattle.beam_laws.proofs.Debugging.{run_erased}
 use Rattle.beam_laws.proofs.Events.{Kept, kept_run}
-use Rattle.beam_laws.specs.EarlierCode.{IsIn, IsEarlierCode, same_number, same_numbers}
 
 -- ---- changes of code bring no other instance
 
@@ -60,15 +56,12 @@ fewer_purged v rest j (inl e) = inl e
 fewer_purged v rest j (inr (inl e)) = none_is j e
 fewer_purged v rest j (inr (inr x)) = inr (inr x)
 
-instance_is : (i j : Instance) → Some i ≡ Some j → i ≡ j
-instance_is i j e = ap (λ o. unwrap_or o i) e
-
 -- a load brings one with its number
 abbrev IsNew : ℕ → Code → Instance → Type 0
 IsNew number code j = (j.number ≡ number) ⊎ IsIn code j
 
 new_in : (number : ℕ) (l : Listing) (j : Instance) → Some (record { number = number; listing = l }) ≡ Some j → j.number ≡ number
-new_in number l j e = ap (λ i. i.number) (sym (instance_is (record { number = number; listing = l }) j e))
+new_in number l j e = ap (λ i. i.number) (sym (same_Some (record { number = number; listing = l }) j e))
 
 new_here : (v : Versions) (rest : Code) (number : ℕ) (l : Listing) (j : Instance) → IsOf (record v { current = Some (record { number = number; listing = l }); old = v.current }) rest j → IsNew number (v ∷ rest) j
 new_here v rest number l j (inl e) = inl (new_in number l j e)
@@ -129,7 +122,7 @@ stays_kin code d e k = stay_kin code d (e ∷ []) k
 
 -- ---- each number is one instance's
 
-bears_own : (i : Instance) (o : Option Instance) → o ≡ Some i → bears i.number o ≡ 1
+pub bears_own : (i : Instance) (o : Option Instance) → o ≡ Some i → bears i.number o ≡ 1
 bears_own i o e =
     let own : (i.number == i.number) ≡ true = grind (arith, nat_tests) in
     ap (bears i.number) e ∙ ap (λ b. cond b 1 0) own
@@ -150,11 +143,11 @@ counted_same n code i x same = subst (λ n. 1 ≤ how_many n code) same (counted
 module _ (n : ℕ) (i j : Instance) (a : i.number ≡ n) (b : j.number ≡ n) where
   one_instance : (code : Code) → how_many n code ≤ 1 → IsIn code i → IsIn code j → j ≡ i
   one_instance [] h x y = absurd x
-  one_instance (v ∷ rest) h (inl e) (inl f) = instance_is j i (sym f ∙ e)
+  one_instance (v ∷ rest) h (inl e) (inl f) = same_Some j i (sym f ∙ e)
   one_instance (v ∷ rest) h (inl e) (inr (inl f)) = absurd (omega (arith, h, bears_same n i v.current e a, bears_same n j v.old f b))
   one_instance (v ∷ rest) h (inl e) (inr (inr y)) = absurd (omega (arith, h, bears_same n i v.current e a, counted_same n rest j y b))
   one_instance (v ∷ rest) h (inr (inl e)) (inl f) = absurd (omega (arith, h, bears_same n i v.old e a, bears_same n j v.current f b))
-  one_instance (v ∷ rest) h (inr (inl e)) (inr (inl f)) = instance_is j i (sym f ∙ e)
+  one_instance (v ∷ rest) h (inr (inl e)) (inr (inl f)) = same_Some j i (sym f ∙ e)
   one_instance (v ∷ rest) h (inr (inl e)) (inr (inr y)) = absurd (omega (arith, h, bears_same n i v.old e a, counted_same n rest j y b))
   one_instance (v ∷ rest) h (inr (inr x)) (inl f) = absurd (omega (arith, h, counted_same n rest i x a, bears_same n j v.current f b))
   one_instance (v ∷ rest) h (inr (inr x)) (inr (inl f)) = absurd (omega (arith, h, counted_same n rest i x a, bears_same n j v.old f b))
@@ -170,10 +163,6 @@ own_kin s o i x = (by (nat_lt s.instances i.number) refl, λ j y same. one_insta
         absurd (omega (arith, counted s.code i x, (o i.number).1 above))
 
 -- ---- the same numbers
-
-split_and : (a b : Bool) → (a && b) ≡ true → (a ≡ true) × (b ≡ true)
-split_and true b e = (refl, e)
-split_and false b e = absurd cc
 
 equal : (m n : ℕ) → (m == n) ≡ true → n ≡ m
 equal m n e = grind (arith, nat_tests)
@@ -194,9 +183,9 @@ same_code [] [] agree e = refl
 same_code [] (w ∷ others) agree e = absurd cc
 same_code (v ∷ code) [] agree e = absurd cc
 same_code (v ∷ code) (w ∷ others) agree e =
-    let named = split_and (same_text v.name w.name) (same_number v.current w.current && (same_number v.old w.old && same_numbers code others)) e in
-    let current = split_and (same_number v.current w.current) (same_number v.old w.old && same_numbers code others) named.1 in
-    let old = split_and (same_number v.old w.old) (same_numbers code others) current.1 in
+    let named = and_parts (same_text v.name w.name) (same_number v.current w.current && (same_number v.old w.old && same_numbers code others)) e in
+    let current = and_parts (same_number v.current w.current) (same_number v.old w.old && same_numbers code others) named.1 in
+    let old = and_parts (same_number v.old w.old) (same_numbers code others) current.1 in
     let name : v.name ≡ w.name = (bytes_eq-Decides v.name w.name).0 named.0 in
     let news : v.current ≡ w.current = same_instance (v ∷ code) (w ∷ others) v.current w.current agree (λ i x. inl x) (λ j y. inl y) current.0 in
     let olds : v.old ≡ w.old = same_instance (v ∷ code) (w ∷ others) v.old w.old agree (λ i x. inr (inl x)) (λ j y. inr (inl y)) old.0 in

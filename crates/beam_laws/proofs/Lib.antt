@@ -32,6 +32,7 @@ pub mod Delivering
 pub mod Accounts
 pub mod Waiting
 pub mod Delayed
+pub mod Settling
 pub mod Debugging
 pub mod PreservedByAnswers
 pub mod CanCommit

@@ -1,18 +1,15 @@
 -- The places of a process, part by part: they lie in live instances exactly where each instance in which it lingers is live.
-use Rattle.std.proofs.Common.{◌≡◌, ℕ, ◌==◌, ◌||◌, eq-eqb, Bool, true, false, IsTrue, List, [], ◌∷◌, refl, subst, arith}
-use Rattle.std.proofs.lemmas.Bool.Decides.{nat_tests}
-use Rattle.std.specs.Prelude.{Option, Some, None}
+use Rattle.std.proofs.Common.{◌≡◌, ℕ, ◌||◌, eq-eqb, Bool, true, false, IsTrue, List, [], ◌∷◌, refl, subst, Option, Some, None, eqb-true}
 use Rattle.std.specs.List.{AllByRecursion, list_any}
+use Rattle.std.proofs.lemmas.Bool.{or_left, or_right}
 use Rattle.beam_machine.specs.declared.process.Slot.{Slot}
 use Rattle.beam_machine.specs.declared.process.Slot.TheVariants.{Value, Tag}
 use Rattle.beam_machine.specs.declared.process.Frame.{Frame}
-use Rattle.beam_machine.specs.declared.process.Goes.{Goes}
 use Rattle.beam_machine.specs.declared.process.Goes.TheVariants.{At, Enter, Nowhere}
 use Rattle.beam_machine.specs.declared.process.Deadline.{Deadline}
-use Rattle.beam_model.specs.Place.{Place}
-use Rattle.beam_machine.specs.Code.{Code}
-use Rattle.beam_machine.specs.Process.{Process}
-use Rattle.beam_machine.specs.Change.{is_live, is_in, is_place_in, goes_in, is_tag_in, has_tag_in, is_frame_in, is_deadline_in, IsHome}
+use Rattle.beam_machine.specs.Prelude.{Code, Process, is_live, is_in, is_place_in, goes_in, is_tag_in, has_tag_in, is_frame_in, is_deadline_in, IsHome}
+use Rattle.beam_machine.specs.declared.process.Goes.{Goes}
+use Rattle.beam_model.specs.Prelude.{Place}
 
 abbrev pub IsLivePlace : Code → Option Place → Type 0
 IsLivePlace code None = Unit {0}
@@ -55,23 +52,12 @@ either : {C : Type 0} (a b : Bool) → (a || b) ≡ true → (a ≡ true → C) 
 either true b e f g = f refl
 either false b e f g = g e
 
-or_left : (a b : Bool) → a ≡ true → (a || b) ≡ true
-or_left true b e = refl
-or_left false b e = cc
-
-or_right : (a b : Bool) → b ≡ true → (a || b) ≡ true
-or_right true b e = refl
-or_right false b e = e
-
-pub equal : (a b : ℕ) → (a == b) ≡ true → a ≡ b
-equal a b e = grind (arith, nat_tests)
-
 module _ (code : Code) where
   abbrev IsLive : ℕ → Type 0
   IsLive n = is_live code n ≡ true
 
   in_live : (n : ℕ) (place : Place) → is_in n place ≡ true → IsTrue (is_live code place.instance) → IsLive n
-  in_live n place e h = subst (λ k. is_live code k ≡ true) (equal place.instance n e) h
+  in_live n place e h = subst (λ k. is_live code k ≡ true) (eqb-true place.instance n e) h
 
   itself : (place : Place) → ((n : ℕ) → is_in n place ≡ true → IsLive n) → IsTrue (is_live code place.instance)
   itself place f = f place.instance (eq-eqb place.instance place.instance refl)

@@ -2,12 +2,10 @@
 use Rattle.std.proofs.Common.{◌+◌, ◌^◌, Bool, true, false, cond, not, nat_lt, List, [], ◌∷◌, length}
 use Rattle.std.specs.List.{list_any}
 use Rattle.beam_machine.specs.declared.event.Event.TheVariants as event
+use Rattle.beam_model.specs.Prelude.{Listing, is_erlang}
 use Rattle.beam_machine.specs.declared.event.UpgradeMode.{UpgradeMode}
 use Rattle.beam_machine.specs.declared.event.Refused.TheVariants.{Sticky, NotPurged, Duplicated, TooMany}
-use Rattle.beam_model.specs.Listing.{Listing}
-use Rattle.beam_model.specs.NativeNames.{is_erlang}
-use Rattle.beam_machine.specs.State.{State}
-use Rattle.beam_machine.specs.Next.{Next, refused, are_apart, stands_in_way, end_olds, load_each, upgraded, next}
+use Rattle.beam_machine.specs.Prelude.{State, Next, refused, are_apart, stands_in_way, end_olds, load_each, upgraded, next}
 
 -- a statement that each load keeps
 abbrev pub Loads : (State → Type 0) → Type 0

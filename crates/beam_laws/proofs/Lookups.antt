@@ -1,11 +1,9 @@
 -- A place that is looked up in code lies in a live instance.
-use Rattle.std.proofs.Common.{◌≡◌, ℕ, ◌==◌, ◌||◌, cond, eq-eqb, Bool, true, false, IsTrue, List, [], ◌∷◌, refl, sym, ap, subst, ◌∙◌}
-use Rattle.std.specs.Prelude.{Option, Some, None, is_some, option_map, option_and_then}
+use Rattle.std.proofs.Common.{◌≡◌, ℕ, ◌==◌, ◌||◌, cond, eq-eqb, Bool, true, false, IsTrue, List, [], ◌∷◌, refl, sym, ap, subst, ◌∙◌, Option, Some, None, is_some, option_map, option_and_then}
 use Rattle.std.specs.Cmp.Lexicographic.{nat_list_eq_equiv}
-use Rattle.beam_model.specs.Listing.{Listing, entry_at}
-use Rattle.beam_model.specs.SameText.{same_text}
-use Rattle.beam_machine.specs.Code.{Instance, Versions, Code, versions_of, listing_in, listing_of, entry_in, entry_of}
-use Rattle.beam_machine.specs.Change.{has_instance, with_versions, is_live}
+use Rattle.beam_lemmas.proofs.Options.{not_some}
+use Rattle.beam_machine.specs.Prelude.{Instance, Code, versions_of, listing_in, listing_of, entry_in, entry_of, has_instance, with_versions, is_live, Versions}
+use Rattle.beam_model.specs.Prelude.{Listing, entry_at, same_text}
 use Rattle.beam_laws.proofs.LivePlaces.{IsLivePlace}
 
 -- neither of two truths holds
@@ -53,15 +51,11 @@ entry_live code name function arity = go (versions_of code name).current refl
 
 -- ---- versions before the rest of the code
 
-none_is : (o : Option Instance) → is_some o ≡ false → o ≡ None
-none_is None e = refl
-none_is (Some i) e = cc
-
 no_current : (v : Versions) → has_instance v ≡ false → v.current ≡ None
-no_current v e = none_is v.current (left_false (is_some v.current) (is_some v.old) e)
+no_current v e = not_some v.current (left_false (is_some v.current) (is_some v.old) e)
 
 no_old : (v : Versions) → has_instance v ≡ false → v.old ≡ None
-no_old v e = none_is v.old (right_false (is_some v.current) (is_some v.old) e)
+no_old v e = not_some v.old (right_false (is_some v.current) (is_some v.old) e)
 
 pub current_with : (name : List ℕ) (v : Versions) (rest : Code) → same_text v.name name ≡ true → (versions_of (with_versions name v rest) name).current ≡ v.current
 current_with name v rest e = go (has_instance v || has_instance (versions_of rest name)) refl

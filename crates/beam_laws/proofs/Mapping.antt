@@ -1,21 +1,15 @@
 -- Every event keeps the code a map, and a module that comes and goes leaves no trace.
-use Rattle.std.proofs.Common.{◌≡◌, ℕ, ◌+◌, ◌||◌, ◌&&◌, Bool, true, false, cond, List, [], ◌∷◌, refl, sym, ap, subst, ◌∙◌}
+use Rattle.std.proofs.Common.{◌≡◌, ℕ, ◌+◌, ◌||◌, ◌&&◌, Bool, true, false, cond, List, [], ◌∷◌, refl, sym, ap, subst, ◌∙◌, Option, Some, None, Ok, is_some, not, option_map}
 use Rattle.std.proofs.lemmas.Slice.Eq.{bytes_eq-Decides}
-use Rattle.std.specs.Prelude.{Option, Some, None, Ok, is_some, not, option_map}
 use Rattle.std.specs.Cmp.Lexicographic.{nat_list_eq_equiv}
 use Rattle.beam_machine.specs.declared.event.Event.{Event}
-use Rattle.beam_machine.specs.declared.event.Event.TheVariants as event
 use Rattle.beam_machine.specs.declared.event.Reply.{Reply}
 use Rattle.beam_machine.specs.declared.event.Reply.TheVariants.{Changed}
 use Rattle.beam_machine.specs.declared.event.Refused.TheVariants.{Sticky, TooMany}
-use Rattle.beam_model.specs.Listing.{Listing}
-use Rattle.beam_model.specs.SameText.{same_text}
-use Rattle.beam_machine.specs.Code.{Code, Instance, Versions, versions_of}
-use Rattle.beam_machine.specs.Change.{has_instance, with_versions, changed, loaded, deleted, purged, current_of, old_of}
-use Rattle.beam_machine.specs.State.{State, empty}
-use Rattle.beam_machine.specs.Next.{Next, refused, replied, load_new, end_old, next}
-use Rattle.beam_machine.specs.Run.{run}
-use Rattle.beam_laws.specs.Maps.{Lacks, IsMap}
+use Rattle.beam_machine.specs.Prelude.{Code, Instance, versions_of, has_instance, with_versions, changed, loaded, deleted, purged, current_of, old_of, State, empty, Next, refused, replied, load_new, end_old, next, run, Versions}
+use Rattle.beam_machine.specs.declared.event.Event.TheVariants as event
+use Rattle.beam_model.specs.Prelude.{Listing, same_text}
+use Rattle.beam_laws.specs.Prelude.{Lacks, IsMap}
 use Rattle.beam_laws.proofs.Events.{Kept, kept_next, kept_run}
 use Rattle.beam_laws.proofs.Numbering.{loaded_current}
 use Rattle.beam_laws.proofs.Purging.{no_trace}

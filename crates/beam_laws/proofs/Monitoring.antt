@@ -1,16 +1,12 @@
 -- Rows and deliveries take monitors away at most.
-use Rattle.std.proofs.Common.{◌≡◌, ℕ, ◌==◌, ◌&&◌, Bool, true, false, cond, not, List, [], ◌∷◌, refl, sym, ap, subst, ◌∙◌}
-use Rattle.std.specs.Prelude.{Option, Some, None, filter, codes}
-use Rattle.beam_term.specs.TermValue.{TermValue, nil_term, int_term, atom_term, reference_term, pid_term, pair_term, tuple_term}
-use Rattle.beam_model.specs.SameText.{same_text}
+use Rattle.std.proofs.Common.{◌≡◌, ℕ, ◌==◌, ◌&&◌, Bool, true, false, cond, not, List, [], ◌∷◌, refl, sym, ap, subst, ◌∙◌, Option, Some, None, filter, codes}
 use Rattle.beam_machine.specs.declared.process.Monitor.{Monitor}
 use Rattle.beam_machine.specs.declared.process.Signal.{Signal}
 use Rattle.beam_machine.specs.declared.process.Signal.TheVariants.{Message, Exit, Down}
-use Rattle.beam_machine.specs.Code.{Code}
-use Rattle.beam_machine.specs.Next.{signalled, notified, arrived, delivered}
-use Rattle.beam_machine.specs.Process.{Process, is_ended, ended, killed, monitor_of}
-use Rattle.beam_machine.specs.Row.{Outcome, makes, sends, asks, sleeps, outcome}
-use Rattle.beam_laws.specs.Monitors.{ArePart, MonitorsNoMore}
+use Rattle.beam_machine.specs.Prelude.{Code, signalled, notified, arrived, delivered, Process, is_ended, ended, killed, monitor_of, Outcome, makes, sends, asks, sleeps, outcome}
+use Rattle.beam_model.specs.Prelude.{same_text}
+use Rattle.beam_term.specs.Prelude.{TermValue, nil_term, int_term, atom_term, reference_term, pid_term, pair_term, tuple_term}
+use Rattle.beam_laws.specs.Prelude.{ArePart, MonitorsNoMore}
 use Rattle.beam_laws.proofs.Follows.{ComesWith, outcome_comes_with}
 
 -- ---- parts

@@ -1,10 +1,8 @@
 -- Processes by their numbers, where one is put into the list.
-use Rattle.std.proofs.Common.{◌≡◌, ◌≢◌, ℕ, zero, suc, ◌-◌, ◌<◌, Bool, true, false, cond, nat_lt, List, [], ◌∷◌, slice_get, refl, ap, arith}
+use Rattle.std.proofs.Common.{◌≡◌, ◌≢◌, ℕ, zero, suc, ◌-◌, ◌<◌, Bool, true, false, cond, nat_lt, List, [], ◌∷◌, slice_get, refl, ap, arith, Some, None, slice_set}
 use Rattle.std.proofs.lemmas.Bool.Decides.{nat_tests}
-use Rattle.std.specs.Prelude.{Some, None, slice_set}
-use Rattle.beam_machine.specs.Process.{Process, is_ended}
-use Rattle.beam_machine.specs.State.{process_of, with_process, alive}
-use Rattle.beam_laws.proofs.Ending.{get_set}
+use Rattle.beam_machine.specs.Prelude.{Process, is_ended, process_of, with_process, alive}
+use Rattle.beam_laws.proofs.Ending.{get_set, at_index}
 
 -- ---- by index
 
@@ -39,14 +37,8 @@ positive ps pid p = go (nat_lt 0 pid) refl
     go true e h = grind (arith, nat_tests)
     go false e h = cc
 
-by_index : (ps : List Process) (pid : ℕ) (p : Process) → process_of ps pid ≡ Some p → slice_get ps (pid - 1) ≡ Some p
-by_index ps pid p = elim (nat_lt 0 pid) as (λ b. cond b (slice_get ps (pid - 1)) None ≡ Some p → slice_get ps (pid - 1) ≡ Some p) [
-  | true ↦ λ e. e
-  | false ↦ λ e. cc
-]
-
 pub put_same : (ps : List Process) (pid : ℕ) (p : Process) → process_of ps pid ≡ Some p → with_process ps pid p ≡ ps
-put_same ps pid p e = set_same ps (pid - 1) p (by_index ps pid p e)
+put_same ps pid p e = set_same ps (pid - 1) p (at_index ps pid p e)
 
 pub put_put : (ps : List Process) (pid : ℕ) (p q : Process) → with_process (with_process ps pid p) pid q ≡ with_process ps pid q
 put_put ps pid p q = set_set ps (pid - 1) p q

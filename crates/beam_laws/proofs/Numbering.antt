@@ -1,20 +1,15 @@
 -- Numbers of instances.
-use Rattle.std.proofs.Common.{◌≡◌, nat_lt, ℕ, ◌+◌, ◌≤◌, ◌<◌, Bool, true, false, ◌==◌, ◌||◌, cond, List, [], ◌∷◌, refl, sym, ap, subst, ◌∙◌, arith}
+use Rattle.std.proofs.Common.{◌≡◌, nat_lt, ℕ, ◌+◌, ◌≤◌, ◌<◌, Bool, true, false, ◌==◌, ◌||◌, cond, List, [], ◌∷◌, refl, sym, ap, subst, ◌∙◌, arith, Option, is_some, Some, None, Ok, option_map}
 use Rattle.std.proofs.lemmas.Bool.Decides.{nat_tests}
-use Rattle.std.specs.Prelude.{Option, is_some, Some, None, Ok, option_map}
 use Rattle.std.specs.Cmp.Lexicographic.{nat_list_eq_equiv}
+use Rattle.beam_lemmas.proofs.Options.{not_some}
 use Rattle.beam_machine.specs.declared.event.Event.{Event}
-use Rattle.beam_machine.specs.declared.event.Event.TheVariants as event
 use Rattle.beam_machine.specs.declared.event.Reply.{Reply}
 use Rattle.beam_machine.specs.declared.event.Refused.TheVariants.{Sticky, NotPurged, TooMany}
-use Rattle.beam_model.specs.Listing.{Listing}
-use Rattle.beam_model.specs.SameText.{same_text}
-use Rattle.beam_machine.specs.Code.{Code, Instance, Versions, versions_of, listing_in, listing_of}
-use Rattle.beam_machine.specs.Change.{is_live, has_instance, with_versions, changed, loaded, deleted, purged, current_of}
-use Rattle.beam_machine.specs.State.{State, empty}
-use Rattle.beam_machine.specs.Next.{Next, refused, load_new, end_old, next}
-use Rattle.beam_machine.specs.Run.{run}
-use Rattle.beam_laws.specs.Numbers.{bears, how_many}
+use Rattle.beam_machine.specs.Prelude.{Code, Instance, versions_of, listing_in, listing_of, is_live, has_instance, with_versions, changed, loaded, deleted, purged, current_of, State, empty, Next, refused, load_new, end_old, next, run, Versions}
+use Rattle.beam_machine.specs.declared.event.Event.TheVariants as event
+use Rattle.beam_model.specs.Prelude.{Listing, same_text}
+use Rattle.beam_laws.specs.Prelude.{bears, how_many}
 pub use Rattle.beam_laws.specs.Numbers.{Ordered}
 use Rattle.beam_laws.proofs.Events.{kept_next, Kept, kept_run}
 
@@ -187,16 +182,12 @@ ordered_next s e = kept_next ordered s e
 pub ordered_purged : (code : Code) (count : ℕ) (name : List ℕ) → Ordered code count → Ordered (purged code name) count
 ordered_purged code count name = fewer_ordered code (purged code name) count (λ n. purged_fewer n code name)
 
-not_live : (o : Option Listing) → is_some o ≡ false → o ≡ None
-not_live None e = refl
-not_live (Some l) e = cc
-
 -- no instance has the next number
 pub next_is_free : (code : Code) (count : ℕ) → Ordered code count → listing_of code (count + 1) ≡ None
 next_is_free code count o =
     let none : how_many (count + 1) code ≡ 0 = (o (count + 1)).1 (omega arith) in
     let below : nat_lt 0 0 ≡ false = grind (arith, nat_tests) in
-    not_live (listing_of code (count + 1)) (counted (count + 1) code ∙ (ap (nat_lt 0) none ∙ below))
+    not_some (listing_of code (count + 1)) (counted (count + 1) code ∙ (ap (nat_lt 0) none ∙ below))
 
 -- ---- the next number
 

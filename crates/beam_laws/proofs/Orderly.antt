@@ -1,35 +1,26 @@
 -- Process n has pid n, an ended process is its pid, its reason and its value, and no two processes have one name: each event keeps this.
-use Rattle.std.proofs.Common.{◌≡◌, ℕ, zero, suc, ◌+◌, ◌-◌, ◌==◌, ◌&&◌, Bool, true, false, cond, not, nat_lt, List, [], ◌∷◌, ◌++◌, length, map, slice_get, refl, sym, ap, subst, ◌∙◌, true≢false, arith}
-use Rattle.std.proofs.lemmas.Option.{slice_get-map}
-use Rattle.std.specs.Prelude.{is_some, codes, Option, Some, None, Result, option_map, unwrap_or, flat_map, slice_set}
+use Rattle.std.proofs.Common.{◌≡◌, ℕ, zero, suc, ◌+◌, ◌-◌, ◌==◌, ◌&&◌, Bool, true, false, cond, not, nat_lt, List, [], ◌∷◌, ◌++◌, length, map, slice_get, refl, sym, ap, subst, ◌∙◌, true≢false, arith, is_some, codes, Option, Some, None, Result, option_map, unwrap_or, flat_map, slice_set}
+use Rattle.std.proofs.lemmas.Option.{slice_get-map, same_Some}
 use Rattle.std.specs.Cmp.Lexicographic.{nat_list_eq_equiv}
-use Rattle.beam_term.specs.TermValue.{TermValue, atom_term, pid_term, nil_term}
-use Rattle.beam_machine.specs.declared.event.Event.{Event}
 use Rattle.beam_model.specs.declared.exception.Fault.{Fault}
 use Rattle.beam_model.specs.declared.exception.Fault.TheVariants.{Badarg, SystemLimit}
 use Rattle.beam_model.specs.declared.native.NodeNative.{NodeNative}
 use Rattle.beam_model.specs.declared.native.NodeNative.TheVariants.{Spawn, Register, Unregister, Whereis, IsProcessAlive, Exit, Send, MakeRef, Monitor}
+use Rattle.beam_model.specs.Prelude.{Listing, elements_in, truth, same_text}
+use Rattle.beam_machine.specs.declared.event.Event.{Event}
 use Rattle.beam_machine.specs.declared.process.Status.{Status}
 use Rattle.beam_machine.specs.declared.process.Status.TheVariants.{Running, Waiting, Ended}
 use Rattle.beam_machine.specs.declared.process.Monitor.{Monitor as MonitorValue}
 use Rattle.beam_machine.specs.declared.process.Signal.{Signal}
 use Rattle.beam_machine.specs.declared.process.Signal.TheVariants.{Message, Exit as ExitSignal, Down}
-use Rattle.beam_model.specs.Listing.{Listing}
-use Rattle.beam_model.specs.Native.{elements_in, truth}
-use Rattle.beam_model.specs.SameText.{same_text}
-use Rattle.beam_machine.specs.Process.{Process, is_ended, started, own_pid, ended, killed, monitor_of}
+use Rattle.beam_machine.specs.Prelude.{Process, is_ended, started, own_pid, ended, killed, monitor_of, Outcome, makes, sends, asks, sleeps, answers, outcome, own_number, arguments_of, goes_on, State, process_of, with_process, live_process, has_name, registered, posted_to, posted, with_signals, downs, hearing_by, lingers, lingers_in_old, lingers_in_olds, pids_of, ends_or_hears, killing, Answered, answer, fault, most_processes, is_free, spawns_with, names, registers, unnames, unregisters, is_alive, posted_if_own as signals, sends_named, most_references, makes_reference, or_noproc, put_monitor, monitored, answer_of, Rows, raised, continues, deadline_at, done_by, row, running, row_and, received, signalled, notified, arrived, delivered, next, run, Touch, touch_of, Touches, stays, in_turn, loads, deletes, ends as ends_olds, purges, runs, arrives, times_out, ticks, posts, starts}
 use Rattle.beam_machine.specs.declared.callee.After.{After}
-use Rattle.beam_machine.specs.Row.{Outcome, makes, sends, asks, sleeps, answers, outcome, own_number, arguments_of, goes_on}
-use Rattle.beam_machine.specs.State.{State, process_of, with_process, live_process, has_name, registered, posted_to, posted, with_signals, downs, hearing_by}
-use Rattle.beam_machine.specs.Change.{lingers, lingers_in_old, lingers_in_olds, pids_of, ends_or_hears, killing}
-use Rattle.beam_machine.specs.NodeNative.{Answered, answer, fault, most_processes, is_free, spawns_with, names, registers, unnames, unregisters, is_alive, posted_if_own as signals, sends_named, most_references, makes_reference, or_noproc, put_monitor, monitored, answer_of}
-use Rattle.beam_machine.specs.Next.{Rows, raised, continues, deadline_at, done_by, row, running, row_and, steps, received, signalled, notified, arrived, delivered, next}
-use Rattle.beam_machine.specs.Run.{run}
-use Rattle.beam_machine.specs.Touch.{Touch, touch_of, Touches, stays, in_turn, loads, deletes, ends as ends_olds, purges, runs, arrives, times_out, ticks, posts, starts}
+use Rattle.beam_term.specs.Prelude.{TermValue, atom_term, pid_term, nil_term}
+use Rattle.beam_machine.specs.Next.{steps}
 pub use Rattle.beam_laws.specs.Orderly.{Numbered, Apart, Orderly}
-use Rattle.beam_laws.proofs.Ending.{is_there, running_is, alive_is, at_index, final}
+use Rattle.beam_laws.proofs.Ending.{running_is, alive_is, at_index, final}
 use Rattle.beam_laws.proofs.Follows.{Ends, Follows, Lives, on, over, answered, Comes, outcome_comes}
-use Rattle.beam_laws.specs.Private.{downs_of_end}
+use Rattle.beam_laws.specs.Prelude.{downs_of_end}
 use Rattle.beam_laws.proofs.Hearing.{hears, hearing_is}
 use Rattle.beam_laws.proofs.Touching.{next_touches}
 
@@ -38,24 +29,24 @@ none_orderly = ((λ i p e. cc), λ i j p q name e f g h. cc)
 
 -- ---- lists that are changed
 
-got : {C : Type 0} (ps : List Process) (i j : ℕ) (q r : Process) → slice_get (slice_set ps i q) j ≡ Some r → (i ≡ j → q ≡ r → C) → (slice_get ps j ≡ Some r → C) → C
+pub got : {C : Type 0} (ps : List Process) (i j : ℕ) (q r : Process) → slice_get (slice_set ps i q) j ≡ Some r → (i ≡ j → q ≡ r → C) → (slice_get ps j ≡ Some r → C) → C
 got [] i j q r e f g = g e
-got (p ∷ ps) zero zero q r e f g = f refl (is_there q r e)
+got (p ∷ ps) zero zero q r e f g = f refl (same_Some q r e)
 got (p ∷ ps) zero (suc j) q r e f g = g e
 got (p ∷ ps) (suc i) zero q r e f g = g e
 got (p ∷ ps) (suc i) (suc j) q r e f g = got ps i j q r e (λ s. f (ap suc s)) g
 
 pushed : {C : Type 0} (ps : List Process) (j : ℕ) (x r : Process) → slice_get (ps ++ x ∷ []) j ≡ Some r → (j ≡ length ps → x ≡ r → C) → (slice_get ps j ≡ Some r → C) → C
-pushed [] zero x r e f g = f refl (is_there x r e)
+pushed [] zero x r e f g = f refl (same_Some x r e)
 pushed [] (suc j) x r e f g = g e
 pushed (p ∷ ps) zero x r e f g = g e
 pushed (p ∷ ps) (suc j) x r e f g = pushed ps j x r e (λ s. f (ap suc s)) g
 
-mapped : {C : Type 0} (f : Process → Process) (o : Option Process) (q : Process) → option_map f o ≡ Some q → ((p : Process) → o ≡ Some p → f p ≡ q → C) → C
+pub mapped : {C : Type 0} (f : Process → Process) (o : Option Process) (q : Process) → option_map f o ≡ Some q → ((p : Process) → o ≡ Some p → f p ≡ q → C) → C
 mapped f None q e g = cc
-mapped f (Some p) q e g = g p refl (is_there (f p) q e)
+mapped f (Some p) q e g = g p refl (same_Some (f p) q e)
 
-nameless : {C : Type 0} (name : List ℕ) → None ≡ Some name → C
+pub nameless : {C : Type 0} (name : List ℕ) → None ≡ Some name → C
 nameless name e = cc
 
 itself : (p : Process) → Ends p → Follows p.pid p.name p
@@ -126,10 +117,10 @@ killing_orderly test ps h = map_orderly (ends_or_hears test (pids_of test ps)) p
 
 -- ---- names
 
-unregistered : (ps : List Process) (name : List ℕ) (j : ℕ) (q : Process) → registered ps name ≡ None → slice_get ps j ≡ Some q → q.name ≡ Some name → ⊥
+pub unregistered : (ps : List Process) (name : List ℕ) (j : ℕ) (q : Process) → registered ps name ≡ None → slice_get ps j ≡ Some q → q.name ≡ Some name → ⊥
 unregistered [] name j q h e g = cc
 unregistered (p ∷ ps) name zero q h e g =
-    let named : p.name ≡ Some name = ap (λ p. p.name) (is_there p q e) ∙ g in
+    let named : p.name ≡ Some name = ap (λ p. p.name) (same_Some p q e) ∙ g in
     let found : has_name name p.name ≡ true = ap (has_name name) named ∙ nat_list_eq_equiv.refl name in
     contradiction p.pid (sym h ∙ ap (λ b. cond b (Some p.pid) (registered ps name)) found)
   where
@@ -300,7 +291,7 @@ done_orderly s at p (asks q native arity after) e lives c h =
     asker r false f g = f
     asker r true f g =
         got {C = is_ended r.status ≡ false} s.processes (at - 1) (at - 1) q r (g f) (λ same is. ap (λ p. is_ended p.status) (sym is) ∙ c.1.1)
-        (λ old. ap (λ p. is_ended p.status) (is_there r p (sym old ∙ at_index s.processes at p e)) ∙ lives)
+        (λ old. ap (λ p. is_ended p.status) (same_Some r p (sym old ∙ at_index s.processes at p e)) ∙ lives)
 
 row_and_orderly : (s : State) (at : ℕ) (rest : State → Rows) (o : Option Process) → running (process_of s.processes at) ≡ o → ((t : State) → Orderly t.processes → Orderly (rest t).state.processes) → Orderly s.processes → Orderly (row_and rest s at o).state.processes
 row_and_orderly s at rest None e more h = h

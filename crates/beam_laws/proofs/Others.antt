@@ -1,28 +1,20 @@
 -- A process after events of others: its name and the signals in transit to it may change, and a change of code may end it.
-use Rattle.std.proofs.Common.{◌≡◌, ℕ, zero, suc, ◌-◌, ◌==◌, Bool, true, false, cond, not, nat_lt, List, [], ◌∷◌, ◌++◌, ◌⊎◌, inl, inr, slice_get, refl, sym, ap, subst, ◌∙◌}
+use Rattle.std.proofs.Common.{◌≡◌, ℕ, zero, suc, ◌-◌, ◌==◌, Bool, true, false, cond, not, nat_lt, List, [], ◌∷◌, ◌++◌, ◌⊎◌, inl, inr, slice_get, refl, sym, ap, subst, ◌∙◌, map, flat_map, Option, Some, None, option_map}
 use Rattle.std.proofs.lemmas.Option.{slice_get-map}
-use Rattle.std.specs.Prelude.{map, flat_map, Option, Some, None, option_map}
-use Rattle.beam_term.specs.TermValue.{nil_term}
 use Rattle.beam_machine.specs.declared.debug.DebugEvent.{DebugEvent}
-use Rattle.beam_machine.specs.declared.debug.DebugEvent.TheVariants.{Node as NodeEvent, StepOne}
+use Rattle.beam_machine.specs.declared.debug.DebugEvent.TheVariants.{StepOne, Node as NodeEvent}
 use Rattle.beam_machine.specs.declared.event.Event.{Event}
-use Rattle.beam_machine.specs.declared.event.Event.TheVariants as event
 use Rattle.beam_machine.specs.declared.process.Signal.{Signal}
-use Rattle.beam_model.specs.Listing.{Listing}
-use Rattle.beam_machine.specs.Change.{lingers_in_old, lingers_in_olds, pids_of, ends_or_hears, killing}
-use Rattle.beam_machine.specs.Debug.{Debugged, DebugAnswer, debug_next, rows_of_answer, steps_of, erased}
-use Rattle.beam_machine.specs.Process.{Process, is_ended, ended, killed}
-use Rattle.beam_machine.specs.State.{State, process_of, with_signals, downs}
-use Rattle.beam_machine.specs.Next.{next}
-use Rattle.beam_machine.specs.Run.{run}
-use Rattle.beam_machine.specs.Touch.{Touch, code, process, clock, nothing, touch_of, Touches, stays, in_turn, loads, deletes, ends, purges}
-use Rattle.beam_laws.specs.Private.{with_name_and_transit, IsStill, is_of_others, touches_others}
-use Rattle.beam_laws.specs.Signals.{sent, signals_to}
+use Rattle.beam_machine.specs.Prelude.{lingers_in_old, lingers_in_olds, pids_of, ends_or_hears, killing, Debugged, DebugAnswer, debug_next, rows_of_answer, steps_of, erased, Process, is_ended, ended, killed, State, process_of, with_signals, downs, next, run, Touch, code, process, nothing, touch_of, Touches, stays, in_turn, loads, deletes, ends, purges}
+use Rattle.beam_term.specs.Prelude.{nil_term}
+use Rattle.beam_machine.specs.declared.event.Event.TheVariants as event
+use Rattle.beam_model.specs.Prelude.{Listing}
+use Rattle.beam_machine.specs.Touch.{clock}
+use Rattle.beam_laws.specs.Prelude.{with_name_and_transit, IsStill, is_of_others, touches_others, sent, signals_to, is_of, is_busy, touches_process}
 use Rattle.beam_laws.proofs.Debugging.{run_erased}
 use Rattle.beam_laws.proofs.Private.{having_having, having_own}
 use Rattle.beam_laws.proofs.Slices.{having_status}
-use Rattle.beam_laws.proofs.Waiting.{others_leave}
-use Rattle.beam_laws.specs.Out.{is_of, is_busy, touches_process}
+use Rattle.beam_laws.proofs.Waiting.{others_leave, given}
 use Rattle.beam_laws.proofs.Touching.{next_touches}
 
 -- the second process has ended, or is the first with another name and other signals in transit
@@ -30,13 +22,6 @@ abbrev pub Left : Process → Process → Type 0
 Left q z = (is_ended z.status ≡ true) ⊎ ((name : Option (List ℕ)) × (transit : List Signal) × (z ≡ with_name_and_transit name transit q))
 
 -- ---- a process that was still another
-
-given : (name : Option (List ℕ)) (transit : List Signal) (p : Process) → with_name_and_transit name transit p ≡ with_name_and_transit (with_name_and_transit name transit p).name (with_name_and_transit name transit p).transit p
-given name transit p = go (is_ended p.status) refl
-  where
-    go : (b : Bool) → is_ended p.status ≡ b → cond b p (record p { name = name; transit = transit }) ≡ with_name_and_transit (cond {A = Process} b p (record p { name = name; transit = transit })).name (cond {A = Process} b p (record p { name = name; transit = transit })).transit p
-    go true e = sym (having_own p)
-    go false e = sym (ap (λ b. cond b p (record p { name = name; transit = transit })) e)
 
 pub still_left : (p q z : Process) → IsStill p q → Left q z → (is_ended z.status ≡ true) ⊎ IsStill p z
 still_left p q z still (inl over) = inl over

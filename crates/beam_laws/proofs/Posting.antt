@@ -1,26 +1,18 @@
 -- Posted signals, seen from one process: they come after those in transit to it.
-use Rattle.std.proofs.Common.{◌≡◌, ◌≢◌, ℕ, zero, suc, ◌+◌, ◌-◌, ◌==◌, eq-eqb, true≢false, Bool, true, false, cond, nat_lt, List, [], ◌∷◌, ◌++◌, append_assoc, append-nil, length, ◌<◌, slice_get, refl, sym, ap, subst, ◌∙◌, arith}
+use Rattle.std.proofs.Common.{◌≡◌, ◌≢◌, ℕ, zero, suc, ◌+◌, ◌-◌, ◌==◌, eq-eqb, true≢false, Bool, true, false, cond, nat_lt, List, [], ◌∷◌, ◌++◌, append_assoc, append-nil, length, ◌<◌, slice_get, refl, sym, ap, subst, ◌∙◌, arith, Option, Some, None, option_map, is_some, map, Ok, codes}
 use Rattle.std.proofs.lemmas.Bool.Decides.{nat_tests}
-use Rattle.std.specs.Prelude.{Option, Some, None, option_map, is_some, map, Ok, codes}
-use Rattle.beam_model.specs.SameText.{same_text}
-use Rattle.beam_term.specs.TermValue.{TermValue, int_term, atom_term, reference_term, pid_term, nil_term, pair_term, tuple_term}
+use Rattle.beam_machine.specs.declared.process.Signal.{Signal}
+use Rattle.beam_machine.specs.declared.process.Signal.TheVariants.{Message, Exit as ExitSignal, Down}
+use Rattle.beam_machine.specs.Prelude.{Process, is_ended, started, own_pid, own_reference, own_number, process_of, with_process, alive, live_process, registered, posted_to, posted, hearing_by, Answered, answer, fault, most_processes, spawns_with, names, registers, unnames, unregisters, is_alive, posted_if_own, sends_named, most_references, makes_reference, or_noproc, put_monitor, monitored, monitors_by, answer_of, Sent}
+use Rattle.beam_machine.specs.declared.process.Status.{Status}
+use Rattle.beam_term.specs.Prelude.{TermValue, int_term, atom_term, reference_term, pid_term, nil_term, pair_term, tuple_term}
+use Rattle.beam_model.specs.Prelude.{same_text, elements_in}
 use Rattle.beam_model.specs.declared.exception.Fault.TheVariants.{Badarg, SystemLimit}
 use Rattle.beam_model.specs.declared.native.NodeNative.{NodeNative}
 use Rattle.beam_model.specs.declared.native.NodeNative.TheVariants.{Spawn, Register, Unregister, Whereis, IsProcessAlive, Exit, Send, MakeRef, Monitor}
-use Rattle.beam_machine.specs.declared.process.Signal.{Signal}
-use Rattle.beam_machine.specs.declared.process.Signal.TheVariants.{Message, Exit as ExitSignal, Down}
-use Rattle.beam_model.specs.Native.{elements_in}
-use Rattle.beam_machine.specs.Process.{Process, is_ended, started, own_pid, own_reference}
-use Rattle.beam_machine.specs.Row.{own_number}
-use Rattle.beam_machine.specs.State.{process_of, with_process, alive, live_process, registered, posted_to, posted, hearing_by}
-use Rattle.beam_machine.specs.declared.process.Status.{Status}
-use Rattle.beam_machine.specs.NodeNative.{Answered, answer, fault, most_processes, spawns_with, names, registers, unnames, unregisters, is_alive, posted_if_own, sends_named, most_references, makes_reference, or_noproc, put_monitor, monitored, monitors_by, answer_of}
-use Rattle.beam_machine.specs.Private.{Sent}
-use Rattle.beam_laws.specs.Private.{with_name_and_transit, with_signals, posted_all}
-use Rattle.beam_laws.specs.Signals.{signal_to, signal_if, each_sent, noproc_sends, native_sends, signals_to}
+use Rattle.beam_laws.specs.Prelude.{with_name_and_transit, with_signals, posted_all, signal_to, signal_if, each_sent, noproc_sends, native_sends, signals_to, downs_of_end}
 use Rattle.beam_laws.proofs.Ending.{alive_is, get_push}
 use Rattle.beam_laws.proofs.Numbered.{positive, put_here, put_elsewhere}
-use Rattle.beam_laws.specs.Private.{downs_of_end}
 use Rattle.beam_laws.proofs.Hearing.{hears, hearing_at}
 use Rattle.beam_laws.proofs.Private.{having_own}
 

@@ -1,19 +1,14 @@
 -- A process stays out over events of others also where memory may be refused.
-use Rattle.std.proofs.Common.{◌≡◌, ℕ, false, refl, sym, ap, subst, ◌∙◌}
-use Rattle.std.specs.Prelude.{Ok, Err}
+use Rattle.std.proofs.Common.{◌≡◌, ℕ, false, refl, sym, ap, subst, ◌∙◌, Ok, Err}
 use Rattle.beam_machine.specs.declared.debug.DebugEvent.{DebugEvent}
+use Rattle.beam_machine.specs.declared.event.Refused.TheVariants.{NoMemory}
+use Rattle.beam_machine.specs.declared.event.Reply.TheVariants.{Ran}
+use Rattle.beam_machine.specs.Prelude.{Code, Debugged, DebugAnswer, debug_next, debug_cut_event, DebugAnswers}
 use Rattle.beam_machine.specs.declared.debug.DebugEvent.TheVariants.{Node as NodeEvent}
 use Rattle.beam_machine.specs.declared.debug.DebugReply.TheVariants.{Node}
 use Rattle.beam_machine.specs.declared.event.Event.TheVariants as event
-use Rattle.beam_machine.specs.declared.event.Refused.TheVariants.{NoMemory}
-use Rattle.beam_machine.specs.declared.event.Reply.TheVariants.{Ran}
-use Rattle.beam_model.specs.Listing.{Listing}
-use Rattle.beam_machine.specs.Code.{Code}
-use Rattle.beam_machine.specs.Debug.{Debugged, DebugAnswer, debug_next}
-use Rattle.beam_machine.specs.DebugRun.{debug_cut_event, DebugAnswers}
-use Rattle.beam_laws.specs.EarlierCode.{IsEarlierCode}
-use Rattle.beam_laws.specs.Origin.{Origin}
-use Rattle.beam_laws.specs.Out.{IsOut, is_busy}
+use Rattle.beam_model.specs.Prelude.{Listing}
+use Rattle.beam_laws.specs.Prelude.{IsEarlierCode, Origin, IsOut, is_busy}
 use Rattle.beam_laws.proofs.Kinship.{stays_kin}
 use Rattle.beam_laws.proofs.StayingOut.{stays_out}
 

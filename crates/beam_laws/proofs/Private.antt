@@ -1,14 +1,10 @@
 -- Private rows read neither the name of their process nor the signals in transit to it.
-use Rattle.std.proofs.Common.{◌≡◌, ℕ, suc, zero, cond, Bool, true, false, List, [], refl, sym, ap, subst, ◌∙◌}
-use Rattle.std.specs.Prelude.{Option, None}
+use Rattle.std.proofs.Common.{◌≡◌, ℕ, suc, zero, cond, Bool, true, false, List, [], refl, sym, ap, subst, ◌∙◌, Option, None}
 use Rattle.beam_machine.specs.declared.process.Signal.{Signal}
 use Rattle.beam_machine.specs.declared.process.Status.{Status}
 use Rattle.beam_machine.specs.declared.process.Status.TheVariants.{Running, Waiting, Ended}
-use Rattle.beam_machine.specs.Code.{Code}
-use Rattle.beam_machine.specs.Process.{Process, is_running, is_ended}
-use Rattle.beam_machine.specs.Row.{Outcome, makes, sends, asks, sleeps, outcome}
-use Rattle.beam_machine.specs.Private.{Private, with_first_row, with_first_sending, private_by, private_rows}
-use Rattle.beam_laws.specs.Private.{with_name_and_transit}
+use Rattle.beam_machine.specs.Prelude.{Code, Process, is_running, is_ended, Outcome, makes, sends, asks, sleeps, outcome, Private, with_first_row, with_first_sending, private_by, private_rows}
+use Rattle.beam_laws.specs.Prelude.{with_name_and_transit}
 use Rattle.beam_laws.proofs.Unread.{with}
 use Rattle.beam_laws.proofs.UnreadCalls.{moved, outcome_same}
 

@@ -1,23 +1,16 @@
 -- A module after a purge.
-use Rattle.std.proofs.Common.{◌≡◌, ℕ, Bool, true, false, cond, List, [], ◌∷◌, length, refl, sym, ap, ◌∙◌}
+use Rattle.std.proofs.Common.{◌≡◌, ℕ, Bool, true, false, cond, List, [], ◌∷◌, length, refl, sym, ap, ◌∙◌, is_some, Ok, Some, None, option_map, flat_map}
 use Rattle.std.proofs.lemmas.List.{length-map}
-use Rattle.std.specs.Prelude.{is_some, Ok, Some, None, option_map, flat_map}
 use Rattle.std.specs.Cmp.Lexicographic.{nat_list_eq_equiv}
 use Rattle.std.specs.List.{AllByRecursion, list_any}
 use Rattle.beam_machine.specs.declared.event.Event.TheVariants as event
+use Rattle.beam_term.specs.Prelude.{nil_term}
+use Rattle.beam_model.specs.Prelude.{Listing, same_text, is_erlang}
 use Rattle.beam_machine.specs.declared.event.Reply.{Reply}
 use Rattle.beam_machine.specs.declared.event.Reply.TheVariants.{Changed}
 use Rattle.beam_machine.specs.declared.event.Refused.{Refused}
 use Rattle.beam_machine.specs.declared.event.Refused.TheVariants.{Sticky, NotPurged, TooMany}
-use Rattle.beam_model.specs.Listing.{Listing}
-use Rattle.beam_model.specs.SameText.{same_text}
-use Rattle.beam_term.specs.TermValue.{nil_term}
-use Rattle.beam_machine.specs.Process.{Process, ended, killed}
-use Rattle.beam_machine.specs.State.{State, process_of, with_signals, downs}
-use Rattle.beam_machine.specs.Next.{Next, refused, replied, end_old, load_new, has_instances_left, is_lingered_in, next}
-use Rattle.beam_machine.specs.Code.{Code, Instance, Versions, versions_of}
-use Rattle.beam_machine.specs.Change.{old_of, current_of, with_versions, loaded, deleted, purged, lingers, lingers_at, lingers_in_old, pids_of, ends_or_hears, killing}
-use Rattle.beam_model.specs.NativeNames.{is_erlang}
+use Rattle.beam_machine.specs.Prelude.{Process, ended, killed, State, process_of, with_signals, downs, Next, refused, replied, end_old, load_new, has_instances_left, is_lingered_in, next, Code, Instance, versions_of, old_of, current_of, with_versions, loaded, deleted, purged, lingers, lingers_at, lingers_in_old, pids_of, ends_or_hears, killing, Versions}
 use Rattle.beam_laws.proofs.Hearing.{nobody_ends, process_map}
 use Rattle.beam_laws.proofs.Lookups.{current_with, old_with, others_with}
 

@@ -1,32 +1,26 @@
 -- A refusal changes nothing.
-use Rattle.std.proofs.Common.{◌≡◌, ℕ, zero, suc, ◌+◌, ◌-◌, ◌≤◌, ◌<◌, Bool, true, false, cond, nat_lt, List, [], ◌∷◌, ◌++◌, length, slice_get, get_or, refl, sym, ◌∙◌, arith}
-use Rattle.std.proofs.lemmas.List.{length-set, length_push}
+use Rattle.std.proofs.Common.{◌≡◌, ℕ, zero, suc, ◌+◌, ◌-◌, ◌≤◌, ◌<◌, Bool, true, false, cond, nat_lt, List, [], ◌∷◌, ◌++◌, length, slice_get, get_or, refl, sym, ◌∙◌, arith, length-set, Option, Some, None, Result, Err, unwrap_or, codes}
+use Rattle.std.proofs.lemmas.List.{length_push}
 use Rattle.std.proofs.lemmas.Option.{slice_get_within, slice_get-get_or}
-use Rattle.std.specs.Prelude.{Option, Some, None, Result, Err, unwrap_or, codes}
-use Rattle.beam_model.specs.SameText.{same_text}
 use Rattle.beam_machine.specs.declared.process.Status.{Status}
-use Rattle.beam_laws.proofs.Hearing.{hearing_length}
-use Rattle.beam_term.specs.TermValue.{TermValue, atom_term, pid_term}
 use Rattle.beam_machine.specs.declared.event.Event.{Event}
-use Rattle.beam_machine.specs.declared.event.Event.TheVariants as event
 use Rattle.beam_machine.specs.declared.event.Reply.{Reply}
 use Rattle.beam_machine.specs.declared.event.Refused.{Refused}
 use Rattle.beam_machine.specs.declared.event.Refused.TheVariants.{BackwardClock, NotReady, Sticky, NotPurged, Duplicated, TooMany}
+use Rattle.beam_machine.specs.declared.process.Deadline.{Deadline}
+use Rattle.beam_machine.specs.declared.process.Signal.{Signal}
+use Rattle.beam_machine.specs.declared.process.Signal.TheVariants.{Message, Exit as ExitSignal, Down}
+use Rattle.beam_machine.specs.Prelude.{Process, started, own_pid, Outcome, makes, sends, asks, sleeps, answers, outcome, own_number, arguments_of, State, process_of, with_process, alive, live_process, registered, receiver_of, posted_to, posted, hearing_by, Answered, answer, fault, most_processes, spawns_with, names, registers, unnames, unregisters, is_alive, posted_if_own, sends_named, most_references, makes_reference, or_noproc, put_monitor, monitored, answer_of, Next, refused, replied, Rows, raised, continues, done_by, row, running, row_and, ran_to, next_steps, next_deliver, timed_out, next_timeout, sent_to, next_send, next}
+use Rattle.beam_machine.specs.declared.callee.After.{After}
+use Rattle.beam_model.specs.Prelude.{same_text, Listing, elements_in}
 use Rattle.beam_model.specs.declared.exception.Fault.{Fault}
 use Rattle.beam_model.specs.declared.exception.Fault.TheVariants.{Badarg, SystemLimit}
 use Rattle.beam_model.specs.declared.native.NodeNative.{NodeNative}
 use Rattle.beam_model.specs.declared.native.NodeNative.TheVariants.{Spawn, Register, Unregister, Whereis, IsProcessAlive, Exit, Send, MakeRef, Monitor}
-use Rattle.beam_machine.specs.declared.process.Deadline.{Deadline}
-use Rattle.beam_machine.specs.declared.process.Signal.{Signal}
-use Rattle.beam_machine.specs.declared.process.Signal.TheVariants.{Message, Exit as ExitSignal, Down}
-use Rattle.beam_model.specs.Listing.{Listing}
-use Rattle.beam_model.specs.Native.{elements_in}
-use Rattle.beam_machine.specs.Process.{Process, started, own_pid}
-use Rattle.beam_machine.specs.declared.callee.After.{After}
-use Rattle.beam_machine.specs.Row.{Outcome, makes, sends, asks, sleeps, answers, outcome, own_number, arguments_of}
-use Rattle.beam_machine.specs.State.{State, process_of, with_process, alive, live_process, registered, receiver_of, posted_to, posted, hearing_by}
-use Rattle.beam_machine.specs.NodeNative.{Answered, answer, fault, most_processes, spawns_with, names, registers, unnames, unregisters, is_alive, posted_if_own, sends_named, most_references, makes_reference, or_noproc, put_monitor, monitored, answer_of}
-use Rattle.beam_machine.specs.Next.{Next, refused, replied, Rows, raised, continues, done_by, row, running, row_and, steps, ran_to, next_steps, next_deliver, timed_out, next_timeout, sent_to, next_send, next}
+use Rattle.beam_laws.proofs.Hearing.{hearing_length}
+use Rattle.beam_term.specs.Prelude.{TermValue, atom_term, pid_term}
+use Rattle.beam_machine.specs.declared.event.Event.TheVariants as event
+use Rattle.beam_machine.specs.Next.{steps}
 
 -- ---- processes stay in the list
 

@@ -1,23 +1,19 @@
 -- Raising, and registers and frames that are written, keep frames in live instances.
-use Rattle.std.proofs.Common.{◌≡◌, ℕ, suc, zero, ◌==◌, cond, true, false, IsTrue, List, [], ◌∷◌, length, refl, subst}
+use Rattle.std.proofs.Common.{◌≡◌, ℕ, suc, zero, ◌==◌, cond, true, false, IsTrue, List, [], ◌∷◌, length, refl, subst, Option, Some, None, option_map, slice_set, nat_lt, drop, replicate}
 use Rattle.std.proofs.Math.ListN.{set}
-use Rattle.std.specs.Prelude.{Option, Some, None, option_map, slice_set, nat_lt, drop, replicate}
-use Rattle.beam_term.specs.TermValue.{TermValue, nil_term}
-use Rattle.beam_machine.specs.declared.action.Register.{Register}
-use Rattle.beam_machine.specs.declared.action.Register.TheVariants.{X, Y}
 use Rattle.beam_model.specs.declared.exception.Exception.{Exception}
-use Rattle.beam_model.specs.declared.exception.Exception.TheVariants as exception
 use Rattle.beam_model.specs.declared.exception.Fault.{Fault}
 use Rattle.beam_model.specs.declared.exception.Fault.TheVariants.{IllegalOperand}
+use Rattle.beam_machine.specs.declared.action.Register.{Register}
+use Rattle.beam_machine.specs.declared.action.Register.TheVariants.{X, Y}
 use Rattle.beam_machine.specs.declared.process.Slot.{Slot}
 use Rattle.beam_machine.specs.declared.process.Slot.TheVariants.{Value, Tag as TagSlot}
-use Rattle.beam_machine.specs.declared.process.Tag.{Tag}
 use Rattle.beam_machine.specs.declared.process.Frame.{Frame}
-use Rattle.beam_machine.specs.Code.{Code}
-use Rattle.beam_machine.specs.Change.{is_live}
+use Rattle.beam_machine.specs.Prelude.{Code, is_live, Process, put, put_y, put_slots, with_slots, without_slots, with_y, bared, dropped, tag_in, tag_of, caught_at, unwound, raises, faults, illegal, cleared}
+use Rattle.beam_term.specs.Prelude.{TermValue, nil_term}
+use Rattle.beam_model.specs.declared.exception.Exception.TheVariants as exception
+use Rattle.beam_machine.specs.declared.process.Tag.{Tag}
 use Rattle.beam_laws.proofs.LivePlaces.{IsLivePlace, GoesHome, IsSlotHome, AreSlotsHome, FramesHome, IsDeadlineHome, Stands, Whole}
-use Rattle.beam_machine.specs.Process.{Process, put, put_y, put_slots, with_slots, without_slots, with_y, bared, dropped}
-use Rattle.beam_machine.specs.Row.{tag_in, tag_of, caught_at, unwound, raises, faults, illegal, cleared}
 
 abbrev pub StandsIf : Code → Option Process → Type 0
 StandsIf code (Some p) = Stands code p

@@ -1,38 +1,27 @@
 -- The references of each process's monitors rise, and the node has made them.
-use Rattle.std.proofs.Common.{◌≡◌, ℕ, zero, suc, ◌+◌, ◌-◌, ◌≤◌, Bool, true, false, cond, nat_lt, List, [], ◌∷◌, ◌++◌, length, map, slice_get, refl, sym, subst, arith}
+use Rattle.std.proofs.Common.{◌≡◌, ℕ, zero, suc, ◌+◌, ◌-◌, ◌≤◌, Bool, true, false, cond, nat_lt, List, [], ◌∷◌, ◌++◌, length, map, slice_get, refl, sym, subst, arith, Option, Some, None, Result, Ok, Err, filter, flat_map, unwrap_or, is_some, codes}
 use Rattle.std.proofs.Math.ListN.{set}
-use Rattle.std.specs.Prelude.{Option, Some, None, Result, Ok, Err, filter, flat_map, unwrap_or, is_some, codes}
-use Rattle.beam_term.specs.TermValue.{TermValue, atom_term, pid_term, nil_term}
-use Rattle.beam_model.specs.declared.exception.Fault.{Fault}
-use Rattle.beam_model.specs.declared.exception.Fault.TheVariants.{Badarg, SystemLimit, IllegalOperand}
-use Rattle.beam_model.specs.declared.native.NodeNative.{NodeNative}
-use Rattle.beam_model.specs.declared.native.NodeNative.TheVariants.{Spawn, Register, Unregister, Whereis, IsProcessAlive, Exit, Send, MakeRef, Monitor}
-use Rattle.beam_model.specs.Listing.{Listing}
-use Rattle.beam_model.specs.Native.{elements_in}
-use Rattle.beam_model.specs.SameText.{same_text}
 use Rattle.beam_machine.specs.declared.callee.After.{After as After'}
 use Rattle.beam_machine.specs.declared.callee.After.TheVariants.{NextRow, Return}
 use Rattle.beam_machine.specs.declared.process.Frame.{Frame}
-use Rattle.beam_machine.specs.declared.process.Tag.{Tag}
-use Rattle.beam_model.specs.declared.exception.Exception.{Exception}
-use Rattle.beam_model.specs.declared.exception.Exception.TheVariants as exception
-use Rattle.beam_model.specs.Place.{Place}
 use Rattle.beam_machine.specs.declared.event.Event.{Event}
 use Rattle.beam_machine.specs.declared.process.Monitor.{Monitor as MonitorValue}
 use Rattle.beam_machine.specs.declared.process.Signal.{Signal}
 use Rattle.beam_machine.specs.declared.process.Signal.TheVariants.{Message, Exit as ExitSignal, Down}
 use Rattle.beam_machine.specs.declared.process.Status.{Status}
 use Rattle.beam_machine.specs.declared.process.Status.TheVariants.{Running}
-use Rattle.beam_machine.specs.Change.{lingers_in_old, lingers_in_olds, pids_of, ends_or_hears, killing}
-use Rattle.beam_machine.specs.NodeNative.{Answered, answer, fault, most_processes, spawns_with, names, registers, unnames, unregisters, is_alive, posted_if_own, sends_named, most_references, makes_reference, or_noproc, put_monitor, monitored, answer_of}
-use Rattle.beam_machine.specs.Next.{Rows, raised, continues, done_by, row, running, row_and, steps, delivered, next}
-use Rattle.beam_machine.specs.Process.{Process, is_running, is_ended, started, ended, killed, own_pid, own_reference, put_x}
-use Rattle.beam_machine.specs.Row.{Outcome, makes, sends, asks, sleeps, goes_on, tag_of, caught_at, unwound, illegal, returns_to, returns_from, answers, arguments_of, own_number, outcome}
-use Rattle.beam_machine.specs.Run.{run}
-use Rattle.beam_machine.specs.State.{State, process_of, with_process, alive, live_process, registered, posted_to, posted, with_signals, downs, hearing_by, with_made}
-use Rattle.beam_machine.specs.Touch.{Touch, touch_of, Touches, stays, in_turn, loads, deletes, ends, purges, runs, arrives, times_out, ticks, posts, starts}
-use Rattle.beam_laws.specs.Monitors.{ArePart, MonitorsNoMore, Rise, AreRising}
-use Rattle.beam_laws.specs.Private.{downs_of_end}
+use Rattle.beam_machine.specs.Prelude.{lingers_in_old, lingers_in_olds, pids_of, ends_or_hears, killing, Answered, answer, fault, most_processes, spawns_with, names, registers, unnames, unregisters, is_alive, posted_if_own, sends_named, most_references, makes_reference, or_noproc, put_monitor, monitored, answer_of, Rows, raised, continues, done_by, row, running, row_and, delivered, next, Process, is_running, is_ended, started, ended, killed, own_pid, own_reference, put_x, Outcome, makes, sends, asks, sleeps, goes_on, tag_of, caught_at, unwound, illegal, returns_to, returns_from, answers, arguments_of, own_number, outcome, run, State, process_of, with_process, alive, live_process, registered, posted_to, posted, with_signals, downs, hearing_by, with_made, Touch, touch_of, Touches, stays, in_turn, loads, deletes, ends, purges, runs, arrives, times_out, ticks, posts, starts}
+use Rattle.beam_model.specs.declared.exception.Fault.{Fault}
+use Rattle.beam_model.specs.declared.exception.Fault.TheVariants.{Badarg, SystemLimit, IllegalOperand}
+use Rattle.beam_model.specs.declared.native.NodeNative.{NodeNative}
+use Rattle.beam_model.specs.declared.native.NodeNative.TheVariants.{Spawn, Register, Unregister, Whereis, IsProcessAlive, Exit, Send, MakeRef, Monitor}
+use Rattle.beam_model.specs.Prelude.{Listing, elements_in, same_text, Place}
+use Rattle.beam_model.specs.declared.exception.Exception.{Exception}
+use Rattle.beam_term.specs.Prelude.{TermValue, atom_term, pid_term, nil_term}
+use Rattle.beam_machine.specs.declared.process.Tag.{Tag}
+use Rattle.beam_model.specs.declared.exception.Exception.TheVariants as exception
+use Rattle.beam_machine.specs.Next.{steps}
+use Rattle.beam_laws.specs.Prelude.{ArePart, MonitorsNoMore, Rise, AreRising, downs_of_end}
 use Rattle.beam_laws.proofs.Ending.{runs_on}
 use Rattle.beam_laws.proofs.Hearing.{as_before, hears, hearing_is}
 use Rattle.beam_laws.proofs.Monitoring.{row_part, delivered_part, all_are, none_are}

@@ -1,12 +1,15 @@
 -- Tests, natives, data, y registers and exceptions: each row leaves a process in live instances.
-use Rattle.std.proofs.Common.{ℕ, ◌+◌, ◌==◌, cond, Bool, true, false, IsTrue, List, [], ◌∷◌, length}
-use Rattle.std.specs.Prelude.{Option, Some, None, Result, Ok, Err, is_some, option_map, nat_le, slice_get, drop, replicate}
-use Rattle.beam_term.specs.TermValue.{TermValue, nil_term, int_term, atom_term, reference_term, pid_term, pair_term, tuple_term, tuple_of, elements_of}
+use Rattle.std.proofs.Common.{ℕ, ◌+◌, ◌==◌, cond, Bool, true, false, IsTrue, List, [], ◌∷◌, length, Option, Some, None, Result, Ok, Err, is_some, option_map, nat_le, slice_get, drop, replicate}
 use Rattle.beam_machine.specs.declared.action.Register.{Register}
 use Rattle.beam_machine.specs.declared.action.Register.TheVariants.{X, Y}
 use Rattle.beam_machine.specs.declared.action.OnFault.{OnFault}
 use Rattle.beam_machine.specs.declared.action.OnFault.TheVariants.{Raises, Goes as GoesTo}
 use Rattle.beam_machine.specs.declared.action.Update.{Update}
+use Rattle.beam_machine.specs.declared.process.Slot.{Slot}
+use Rattle.beam_machine.specs.declared.process.Slot.TheVariants.{Value, Tag as TagSlot}
+use Rattle.beam_machine.specs.declared.process.Frame.{Frame}
+use Rattle.beam_machine.specs.Prelude.{Code, is_live, Process, read, read_x, read_all, put, put_y, with_slots, dropped, words_of, own_pid, goes_on, goes_to, changes, stores, stores_made, stores_second, stores_two, decides, has_size, is_tagged, with_one, with_two, tests, fails, stores_computed, computes, held_in, splits, opens, put_elements, stores_tuple, updates_record, moves, allocates_in, trims_in, trims_newest, cleared, stacks, tags, traced, raises_again, raises_raw, catches, handles, catch_rows, raises, faults, illegal}
+use Rattle.beam_term.specs.Prelude.{TermValue, nil_term, int_term, atom_term, reference_term, pid_term, pair_term, tuple_term, tuple_of, elements_of}
 use Rattle.beam_machine.specs.declared.action.Test.{Test}
 use Rattle.beam_machine.specs.declared.action.Test.TheVariants as test
 use Rattle.beam_machine.specs.declared.action.Compute.{Compute}
@@ -19,20 +22,11 @@ use Rattle.beam_machine.specs.declared.action.Catching.{Catching}
 use Rattle.beam_machine.specs.declared.action.Catching.TheVariants as catching
 use Rattle.beam_model.specs.declared.exception.Class.{Class}
 use Rattle.beam_model.specs.declared.exception.Exception.{Exception}
-use Rattle.beam_model.specs.declared.exception.Exception.TheVariants as exception
 use Rattle.beam_model.specs.declared.exception.Fault.{Fault}
 use Rattle.beam_model.specs.declared.exception.Fault.TheVariants.{SystemLimit}
-use Rattle.beam_machine.specs.declared.process.Slot.{Slot}
-use Rattle.beam_machine.specs.declared.process.Slot.TheVariants.{Value, Tag as TagSlot}
-use Rattle.beam_machine.specs.declared.process.Frame.{Frame}
-use Rattle.beam_model.specs.Place.{Place}
-use Rattle.beam_machine.specs.Code.{Code}
-use Rattle.beam_model.specs.Exception.{clause_exception}
-use Rattle.beam_model.specs.Native.{compares, is_of_type, limited_term, nullary_value, unary_value, binary_value, class_in}
-use Rattle.beam_machine.specs.Change.{is_live}
+use Rattle.beam_model.specs.Prelude.{Place, clause_exception, compares, is_of_type, limited_term, nullary_value, unary_value, binary_value, class_in}
+use Rattle.beam_model.specs.declared.exception.Exception.TheVariants as exception
 use Rattle.beam_laws.proofs.LivePlaces.{IsLivePlace, AreSlotsHome, FramesHome, Stands, Whole}
-use Rattle.beam_machine.specs.Process.{Process, read, read_x, read_all, put, put_y, with_slots, dropped, words_of, own_pid}
-use Rattle.beam_machine.specs.Row.{goes_on, goes_to, changes, stores, stores_made, stores_second, stores_two, decides, has_size, is_tagged, with_one, with_two, tests, fails, stores_computed, computes, held_in, splits, opens, put_elements, stores_tuple, updates_record, moves, allocates_in, trims_in, trims_newest, cleared, stacks, tags, traced, raises_again, raises_raw, catches, handles, catch_rows, raises, faults, illegal}
 use Rattle.beam_laws.proofs.Registers.{StandsIf, raises_home, faults_home, illegal_home, put_stands, put_y_stands, cleared_stands, replicate_home, drop_home, dropped_whole, whole_stands}
 
 -- the instance of a place is live

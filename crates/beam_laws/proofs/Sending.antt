@@ -1,24 +1,17 @@
 -- Rows of one process, seen from another.
-use Rattle.std.proofs.Common.{◌≡◌, ◌≢◌, ℕ, zero, suc, ◌<◌, Bool, true, false, cond, List, [], ◌++◌, refl, sym, ap, subst, ◌∙◌}
-use Rattle.std.specs.Prelude.{Option, Some, None, option_map}
+use Rattle.std.proofs.Common.{◌≡◌, ◌≢◌, ℕ, zero, suc, ◌<◌, Bool, true, false, cond, List, [], ◌++◌, refl, sym, ap, subst, ◌∙◌, Option, Some, None, option_map, unwrap_or}
 use Rattle.beam_machine.specs.declared.event.Event.TheVariants as event
 use Rattle.beam_machine.specs.declared.event.Refused.TheVariants.{NotReady}
 use Rattle.beam_machine.specs.declared.process.Status.{Status}
 use Rattle.beam_machine.specs.declared.process.Status.TheVariants.{Running, Waiting, Ended}
-use Rattle.beam_machine.specs.Process.{Process, is_running, is_waiting, is_ended}
+use Rattle.beam_machine.specs.Prelude.{Process, is_running, is_waiting, is_ended, Outcome, makes, sends, asks, sleeps, answers, arguments_of, outcome, State, process_of, with_process, alive, live_process, posted, with_made, Answered, answer_of, Rows, refused, raised, continues, done_by, row, running, row_and, ran, ran_to, next_steps, next, Sent, Private, private_rows}
 use Rattle.beam_machine.specs.declared.callee.After.{After}
-use Rattle.beam_term.specs.TermValue.{TermValue}
-use Rattle.std.specs.Prelude.{unwrap_or}
-use Rattle.beam_machine.specs.Row.{Outcome, makes, sends, asks, sleeps, answers, arguments_of, outcome}
-use Rattle.beam_machine.specs.State.{State, process_of, with_process, alive, live_process, posted, with_made}
+use Rattle.beam_machine.specs.declared.process.Signal.{Signal}
+use Rattle.beam_term.specs.Prelude.{TermValue}
 use Rattle.beam_model.specs.declared.native.NodeNative.{NodeNative}
 use Rattle.beam_model.specs.declared.native.NodeNative.TheVariants.{Monitor}
-use Rattle.beam_machine.specs.declared.process.Signal.{Signal}
-use Rattle.beam_machine.specs.NodeNative.{Answered, answer_of}
-use Rattle.beam_machine.specs.Next.{Rows, refused, raised, continues, done_by, row, running, row_and, steps, ran, ran_to, next_steps, next}
-use Rattle.beam_machine.specs.Private.{Sent, Private, private_rows}
-use Rattle.beam_laws.specs.Private.{with_name_and_transit, with_signals, downs_of_end, posted_all, after_private}
-use Rattle.beam_laws.specs.Signals.{end_sends, asker_sends, row_sends, row_and_send, steps_send, signals_to, signal_to, native_sends}
+use Rattle.beam_machine.specs.Next.{steps}
+use Rattle.beam_laws.specs.Prelude.{with_name_and_transit, with_signals, downs_of_end, posted_all, after_private, end_sends, asker_sends, row_sends, row_and_send, steps_send, signals_to, signal_to, native_sends}
 use Rattle.beam_laws.proofs.Ending.{runs_on, running_is}
 use Rattle.beam_laws.proofs.Numbered.{positive, put_here, put_elsewhere}
 use Rattle.beam_laws.proofs.Hearing.{as_before, hears, hearing_at, hearing_here, heard_same}

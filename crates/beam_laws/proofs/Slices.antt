@@ -1,19 +1,13 @@
 -- How private rows end.
-use Rattle.std.proofs.Common.{◌≡◌, ◌≢◌, ℕ, zero, suc, ◌+◌, ◌-◌, ◌≤◌, Bool, true, false, cond, ◌++◌, refl, sym, ap, subst, ◌∙◌, arith}
-use Rattle.std.specs.Prelude.{Some, None, option_map}
+use Rattle.std.proofs.Common.{◌≡◌, ◌≢◌, ℕ, zero, suc, ◌+◌, ◌-◌, ◌≤◌, Bool, true, false, cond, ◌++◌, refl, sym, ap, subst, ◌∙◌, arith, Some, None, option_map}
 use Rattle.beam_machine.specs.declared.event.Event.TheVariants as event
 use Rattle.beam_machine.specs.declared.event.Refused.TheVariants.{NotReady}
 use Rattle.beam_machine.specs.declared.event.Reply.TheVariants.{Ran}
 use Rattle.beam_machine.specs.declared.process.Status.{Status}
 use Rattle.beam_machine.specs.declared.process.Status.TheVariants.{Running, Waiting, Ended}
-use Rattle.beam_machine.specs.Code.{Code}
-use Rattle.beam_machine.specs.Process.{Process, is_running, is_waiting, is_ended, then_of}
-use Rattle.beam_machine.specs.Row.{Outcome, makes, sends, asks, sleeps, outcome}
-use Rattle.beam_machine.specs.State.{State, process_of, alive, live_process}
-use Rattle.beam_machine.specs.Next.{running, refused, replied, steps, ran, ran_to, next_steps, next}
-use Rattle.beam_machine.specs.Private.{Private, End, at_limit, after_row, before_node_row, at_spot, stops, private_by, private_rows}
-use Rattle.beam_laws.specs.Private.{with_signals, downs_of_end, after_private, before}
-use Rattle.beam_laws.specs.Signals.{signals_to}
+use Rattle.beam_machine.specs.Prelude.{Code, Process, is_running, is_waiting, is_ended, then_of, Outcome, makes, sends, asks, sleeps, outcome, State, process_of, alive, live_process, running, refused, replied, ran, ran_to, next_steps, next, Private, End, at_limit, after_row, before_node_row, at_spot, stops, private_by, private_rows}
+use Rattle.beam_machine.specs.Next.{steps}
+use Rattle.beam_laws.specs.Prelude.{with_signals, downs_of_end, after_private, before, signals_to}
 use Rattle.beam_laws.proofs.Ending.{runs_on}
 use Rattle.beam_laws.proofs.Numbered.{alive_of}
 use Rattle.beam_laws.proofs.Events.{Alike, steps_alike}

@@ -1,14 +1,8 @@
 -- How rows over break spots end.
-use Rattle.std.proofs.Common.{◌≡◌, ℕ, zero, suc, ◌+◌, ◌≤◌, ◌<◌, Bool, true, false, not, List, refl, sym, subst, ◌∙◌, arith}
-use Rattle.std.specs.Prelude.{◌&&◌}
-use Rattle.beam_model.specs.Place.{Place}
-use Rattle.beam_machine.specs.Code.{Code}
-use Rattle.beam_machine.specs.Debug.{is_at_spot}
-use Rattle.beam_machine.specs.Process.{Process, is_running}
-use Rattle.beam_machine.specs.Row.{Outcome, makes, sends, asks, sleeps, outcome}
-use Rattle.beam_machine.specs.Private.{Private, End, at_limit, after_row, before_node_row, at_spot, private_by, private_to_spot}
-use Rattle.beam_laws.specs.Origin.{Origin}
-use Rattle.beam_laws.specs.Slice.{slice_of, passes_after}
+use Rattle.std.proofs.Common.{◌≡◌, ℕ, zero, suc, ◌+◌, ◌≤◌, ◌<◌, Bool, true, false, not, List, refl, sym, subst, ◌∙◌, arith, ◌&&◌}
+use Rattle.beam_machine.specs.Prelude.{Code, is_at_spot, Process, is_running, Outcome, makes, sends, asks, sleeps, outcome, Private, End, at_limit, after_row, before_node_row, at_spot, private_by, private_to_spot}
+use Rattle.beam_model.specs.Prelude.{Place}
+use Rattle.beam_laws.specs.Prelude.{Origin, slice_of, passes_after}
 use Rattle.beam_laws.proofs.Spots.{by_row}
 use Rattle.beam_laws.proofs.Halts.{passed, passed_one}
 

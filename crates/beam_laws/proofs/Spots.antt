@@ -1,18 +1,13 @@
 -- Private rows over break spots.
-use Rattle.std.proofs.Common.{◌≡◌, ℕ, zero, suc, ◌+◌, cond, not, Bool, true, false, List, [], refl, sym, ap, subst, ◌∙◌, arith}
-use Rattle.std.specs.Prelude.{Option, None, ◌&&◌}
+use Rattle.std.proofs.Common.{◌≡◌, ℕ, zero, suc, ◌+◌, cond, not, Bool, true, false, List, [], refl, sym, ap, subst, ◌∙◌, arith, Option, None, ◌&&◌}
 use Rattle.beam_machine.specs.declared.process.Goes.{Goes}
 use Rattle.beam_machine.specs.declared.process.Goes.TheVariants.{At, Enter, Nowhere}
 use Rattle.beam_machine.specs.declared.process.Signal.{Signal}
 use Rattle.beam_machine.specs.declared.process.Status.{Status}
 use Rattle.beam_machine.specs.declared.process.Status.TheVariants.{Running, Waiting, Ended}
-use Rattle.beam_model.specs.Place.{Place}
-use Rattle.beam_machine.specs.Code.{Code}
-use Rattle.beam_machine.specs.Debug.{is_at_spot}
-use Rattle.beam_machine.specs.Process.{Process, is_running}
-use Rattle.beam_machine.specs.Row.{Outcome, makes, sends, asks, sleeps, outcome}
-use Rattle.beam_machine.specs.Private.{Private, End, at_limit, after_row, at_spot, stops, with_first_row, with_first_sending, private_by, private_rows, private_to_spot}
-use Rattle.beam_laws.specs.Private.{with_name_and_transit, IsStill, with_name_and_transit_of}
+use Rattle.beam_machine.specs.Prelude.{Code, is_at_spot, Process, is_running, Outcome, makes, sends, asks, sleeps, outcome, Private, End, at_limit, after_row, at_spot, stops, with_first_row, with_first_sending, private_by, private_rows, private_to_spot}
+use Rattle.beam_model.specs.Prelude.{Place}
+use Rattle.beam_laws.specs.Prelude.{with_name_and_transit, IsStill, with_name_and_transit_of}
 use Rattle.beam_laws.proofs.Ending.{runs_on}
 use Rattle.beam_laws.proofs.Follows.{Comes, outcome_comes}
 use Rattle.beam_laws.proofs.Unread.{with}
@@ -155,7 +150,7 @@ spot_pid spots passes code (suc n) p = go_pid spots passes code n p (is_running 
 
 -- ---- without break spots
 
-none_at : (passes : Bool) (goes : Goes) → (not passes && is_at_spot [] goes) ≡ false
+pub none_at : (passes : Bool) (goes : Goes) → (not passes && is_at_spot [] goes) ≡ false
 none_at true goes = refl
 none_at false (At place) = refl
 none_at false (Enter m f arity) = refl

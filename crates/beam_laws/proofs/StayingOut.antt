@@ -1,17 +1,12 @@
 -- A process stays out while no event of its own comes.
-use Rattle.std.proofs.Common.{◌≡◌, Bool, true, false, ◌⊎◌, inl, inr, List, [], ◌∷◌, refl, sym, ap, ◌∙◌}
-use Rattle.std.specs.Prelude.{is_some, Some}
+use Rattle.std.proofs.Common.{◌≡◌, Bool, true, false, ◌⊎◌, inl, inr, List, [], ◌∷◌, refl, sym, ap, ◌∙◌, is_some, Some}
 use Rattle.std.specs.List.{AllByRecursion}
+use Rattle.beam_model.specs.Prelude.{Listing}
 use Rattle.beam_machine.specs.declared.debug.DebugEvent.{DebugEvent}
-use Rattle.beam_model.specs.Listing.{Listing}
-use Rattle.beam_machine.specs.Debug.{Debugged, is_among, is_live_process, debug_next, debug_run}
-use Rattle.beam_machine.specs.Process.{Process, is_ended}
-use Rattle.beam_machine.specs.State.{alive, process_of}
-use Rattle.beam_laws.specs.Private.{IsStill}
+use Rattle.beam_machine.specs.Prelude.{Debugged, is_among, is_live_process, debug_next, debug_run, Process, is_ended, alive, process_of}
+use Rattle.beam_laws.specs.Prelude.{IsStill, Origin, IsAsItWas, IsOut, is_busy}
 use Rattle.beam_laws.proofs.Numbered.{alive_of}
 use Rattle.beam_laws.proofs.Private.{having_own}
-use Rattle.beam_laws.specs.Origin.{Origin}
-use Rattle.beam_laws.specs.Out.{IsAsItWas, IsOut, is_busy}
 use Rattle.beam_laws.proofs.Others.{Left, still_left, ended_left, event_leaves}
 use Rattle.beam_laws.proofs.UndisturbedDebugState.{Marked, event_marks}
 

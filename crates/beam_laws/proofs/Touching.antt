@@ -1,22 +1,19 @@
 -- Each event keeps to what it may touch.
-use Rattle.std.proofs.Common.{◌≡◌, ℕ, ◌&&◌, Bool, true, false, cond, not, nat_lt, List, [], ◌∷◌, ap, subst, refl, ◌∙◌, arith}
+use Rattle.std.proofs.Common.{◌≡◌, ℕ, ◌&&◌, Bool, true, false, cond, not, nat_lt, List, [], ◌∷◌, ap, subst, refl, ◌∙◌, arith, is_some, Option, Some, None}
 use Rattle.std.proofs.lemmas.Bool.Decides.{nat_tests}
-use Rattle.std.specs.Prelude.{is_some, Option, Some, None}
 use Rattle.std.specs.List.{list_any}
-use Rattle.beam_term.specs.TermValue.{TermValue}
 use Rattle.beam_machine.specs.declared.event.Event.{Event}
-use Rattle.beam_machine.specs.declared.event.Event.TheVariants as event
 use Rattle.beam_machine.specs.declared.event.Refused.{Refused}
 use Rattle.beam_machine.specs.declared.event.Refused.TheVariants.{BackwardClock, NotReady, Sticky, NotPurged, TooMany}
 use Rattle.beam_machine.specs.declared.event.Reply.TheVariants.{Done, Changed}
 use Rattle.beam_machine.specs.declared.process.Deadline.{Deadline}
 use Rattle.beam_machine.specs.declared.process.Signal.TheVariants.{Message}
-use Rattle.beam_model.specs.Listing.{Listing}
-use Rattle.beam_machine.specs.Change.{current_of, old_of, deleted, purged, lingers_at, lingers_in_old, killing}
-use Rattle.beam_machine.specs.Next.{Next, refused, replied, steps, ran_to, next_steps, next_deliver, timed_out, next_timeout, sent_to, next_send, end_old, load_new, has_instances_left, is_lingered_in, next}
-use Rattle.beam_machine.specs.Process.{Process}
-use Rattle.beam_machine.specs.State.{State, process_of, live_process, receiver_of}
-use Rattle.beam_machine.specs.Touch.{Touch, code, process, clock, nothing, touch_of, Touches, stays, in_turn, loads, deletes, ends, purges, runs, arrives, times_out, ticks, posts, starts}
+use Rattle.beam_machine.specs.Prelude.{current_of, old_of, deleted, purged, lingers_at, lingers_in_old, killing, Next, refused, replied, ran_to, next_steps, next_deliver, timed_out, next_timeout, sent_to, next_send, end_old, load_new, has_instances_left, is_lingered_in, next, Process, State, process_of, live_process, receiver_of, Touch, code, process, nothing, touch_of, Touches, stays, in_turn, loads, deletes, ends, purges, runs, arrives, times_out, ticks, posts, starts}
+use Rattle.beam_term.specs.Prelude.{TermValue}
+use Rattle.beam_machine.specs.declared.event.Event.TheVariants as event
+use Rattle.beam_model.specs.Prelude.{Listing}
+use Rattle.beam_machine.specs.Next.{steps}
+use Rattle.beam_machine.specs.Touch.{clock}
 use Rattle.beam_laws.proofs.Hearing.{nobody_ends}
 use Rattle.beam_laws.proofs.Loads.{kept}
 

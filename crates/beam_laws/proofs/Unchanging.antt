@@ -1,31 +1,20 @@
 -- Events that change neither code nor break spots.
-use Rattle.std.proofs.Common.{◌≡◌, ℕ, zero, suc, Bool, true, false, cond, not, ◌&&◌, List, [], ◌∷◌, refl, sym, ap, ◌∙◌, Ok, Err}
-use Rattle.std.specs.Prelude.{filter, Option, Some, None}
+use Rattle.std.proofs.Common.{◌≡◌, ℕ, zero, suc, Bool, true, false, cond, not, ◌&&◌, List, [], ◌∷◌, refl, sym, ap, ◌∙◌, Ok, Err, filter, Option, Some, None, append-nil}
 use Rattle.std.specs.List.{AllByRecursion}
-use Rattle.std.proofs.lemmas.List.{append-nil}
 use Rattle.beam_machine.specs.declared.debug.DebugEvent.{DebugEvent}
-use Rattle.beam_machine.specs.declared.debug.DebugEvent.TheVariants.{Node as NodeEvent, SetBreak, ClearBreak, Resume, StepOne, Inspect}
+use Rattle.beam_machine.specs.declared.debug.DebugEvent.TheVariants.{SetBreak, ClearBreak, Resume, StepOne, Inspect, Node as NodeEvent}
 use Rattle.beam_machine.specs.declared.event.Event.{Event}
-use Rattle.beam_machine.specs.declared.event.Event.TheVariants as event
 use Rattle.beam_machine.specs.declared.event.Refused.TheVariants.{NoProcess, NotReady, Stopped}
 use Rattle.beam_machine.specs.declared.event.Reply.TheVariants.{Ran, Done}
 use Rattle.beam_machine.specs.declared.debug.DebugReply.{DebugReply}
-use Rattle.beam_machine.specs.declared.debug.DebugReply.TheVariants.{Node, Held, Viewed}
-use Rattle.beam_model.specs.Listing.{Listing}
-use Rattle.beam_model.specs.Place.{Place}
-use Rattle.beam_machine.specs.Change.{is_live}
-use Rattle.beam_machine.specs.Code.{Code}
-use Rattle.beam_machine.specs.Process.{Process, is_waiting, then_of}
-use Rattle.beam_machine.specs.State.{State, process_of, live_process}
-use Rattle.beam_machine.specs.Next.{Answer, Next, Rows, next, steps}
-use Rattle.beam_machine.specs.Run.{run}
-use Rattle.beam_machine.specs.View.{View}
-use Rattle.beam_machine.specs.Debug.{Debugged, DebugNext, DebugAnswer, Halting, debug_next, erased, steps_of, rows_of_answer, pruned, replies, refuses, answered, of_node, after_rows, halted, halts, halting, debug_steps, stepped, debug_step_one, debug_resume, debug_inspect, is_among, held_at, with_pid, without_pid}
-use Rattle.beam_machine.specs.Touch.{Touch, touch_of, Touches, in_turn, loads, deletes, purges, runs}
-use Rattle.beam_laws.specs.Debugger.{AreSpotsLive}
+use Rattle.beam_machine.specs.declared.debug.DebugReply.TheVariants.{Held, Viewed, Node}
+use Rattle.beam_machine.specs.Prelude.{is_live, Code, Process, is_waiting, then_of, State, process_of, live_process, Answer, Next, Rows, next, run, View, Debugged, DebugNext, DebugAnswer, Halting, debug_next, erased, steps_of, rows_of_answer, pruned, replies, refuses, answered, of_node, after_rows, halted, halts, halting, debug_steps, stepped, debug_step_one, debug_resume, debug_inspect, is_among, held_at, with_pid, without_pid, Touch, touch_of, Touches, in_turn, loads, deletes, purges, runs}
+use Rattle.beam_machine.specs.declared.event.Event.TheVariants as event
+use Rattle.beam_model.specs.Prelude.{Listing, Place}
+use Rattle.beam_machine.specs.Next.{steps}
+use Rattle.beam_laws.specs.Prelude.{AreSpotsLive, may_change, touches_code}
 use Rattle.beam_laws.proofs.Events.{steps_alike}
 use Rattle.beam_laws.proofs.Debugging.{run_erased}
-use Rattle.beam_laws.specs.Changes.{may_change, touches_code}
 use Rattle.beam_laws.proofs.Touching.{next_touches}
 
 -- ---- code

@@ -1,21 +1,17 @@
 -- Events of others leave the debugger's marks of a process as they are.
-use Rattle.std.proofs.Common.{◌≡◌, ℕ, ◌==◌, true≢false, Bool, true, false, cond, not, nat_lt, List, [], ◌∷◌, refl, sym, ap, ◌∙◌, arith}
+use Rattle.std.proofs.Common.{◌≡◌, ℕ, ◌==◌, true≢false, Bool, true, false, cond, not, nat_lt, List, [], ◌∷◌, refl, sym, ap, ◌∙◌, arith, ◌&&◌, ◌||◌, Option, Some, None, Ok, Err, filter}
 use Rattle.std.proofs.lemmas.Bool.Decides.{nat_tests}
-use Rattle.std.specs.Prelude.{◌&&◌, ◌||◌, Option, Some, None, Ok, Err, filter}
 use Rattle.beam_machine.specs.declared.debug.DebugEvent.{DebugEvent}
-use Rattle.beam_machine.specs.declared.debug.DebugEvent.TheVariants.{Node as NodeEvent, SetBreak, ClearBreak, Resume, StepOne, Inspect}
-use Rattle.beam_machine.specs.declared.debug.DebugReply.TheVariants.{Node}
+use Rattle.beam_machine.specs.declared.debug.DebugEvent.TheVariants.{SetBreak, ClearBreak, Resume, StepOne, Inspect, Node as NodeEvent}
 use Rattle.beam_machine.specs.declared.event.Event.{Event}
-use Rattle.beam_machine.specs.declared.event.Event.TheVariants as event
 use Rattle.beam_machine.specs.declared.event.Refused.TheVariants.{NotReady}
 use Rattle.beam_machine.specs.declared.event.Reply.TheVariants.{Done}
-use Rattle.beam_model.specs.Listing.{Listing}
-use Rattle.beam_model.specs.Place.{Place}
-use Rattle.beam_machine.specs.Process.{Process, is_waiting}
-use Rattle.beam_machine.specs.State.{State, process_of, live_process}
-use Rattle.beam_machine.specs.Next.{Answer, Rows, next, steps}
-use Rattle.beam_machine.specs.Debug.{Debugged, DebugNext, is_among, is_live_process, with_pid, without_pid, with_spot, without_spot, passes_on, after_rows, Halting, halting, refuses, replies, pruned, answered, halted, debug_steps, stepped, debug_step_one, debug_resume, debug_set, debug_clear, debug_inspect, place_named, debug_next}
-use Rattle.beam_laws.specs.Out.{is_busy}
+use Rattle.beam_machine.specs.Prelude.{Process, is_waiting, State, process_of, live_process, Answer, Rows, next, Debugged, DebugNext, is_among, is_live_process, with_pid, without_pid, with_spot, without_spot, passes_on, after_rows, Halting, halting, refuses, replies, pruned, answered, halted, debug_steps, stepped, debug_step_one, debug_resume, debug_set, debug_clear, debug_inspect, place_named, debug_next}
+use Rattle.beam_machine.specs.declared.debug.DebugReply.TheVariants.{Node}
+use Rattle.beam_machine.specs.declared.event.Event.TheVariants as event
+use Rattle.beam_model.specs.Prelude.{Listing, Place}
+use Rattle.beam_machine.specs.Next.{steps}
+use Rattle.beam_laws.specs.Prelude.{is_busy}
 
 module _ (pid : ℕ) where
   -- ---- sets of pids

@@ -1,14 +1,19 @@
 -- Tests, natives, data, y registers and exceptions: no row reads the name of its process or the signals in transit to it.
-use Rattle.std.proofs.Common.{◌≡◌, ℕ, ◌+◌, ◌==◌, cond, Bool, true, false, nat_lt, List, [], ◌∷◌, length, refl, sym, ap, ◌∙◌}
-use Rattle.std.specs.Prelude.{Option, Some, None, Result, Ok, Err, is_some, option_map, nat_le, slice_get, slice_set, drop, replicate}
-use Rattle.beam_term.specs.TermValue.{TermValue, nil_term, pair_term, tuple_term, tuple_of, elements_of}
+use Rattle.std.proofs.Common.{◌≡◌, ℕ, ◌+◌, ◌==◌, cond, Bool, true, false, nat_lt, List, [], ◌∷◌, length, refl, sym, ap, ◌∙◌, Option, Some, None, Result, Ok, Err, is_some, option_map, nat_le, slice_get, slice_set, drop, replicate}
 use Rattle.beam_machine.specs.declared.action.Source.{Source}
-use Rattle.beam_machine.specs.declared.action.Source.TheVariants as source
 use Rattle.beam_machine.specs.declared.action.Register.{Register}
 use Rattle.beam_machine.specs.declared.action.Register.TheVariants.{X, Y}
 use Rattle.beam_machine.specs.declared.action.OnFault.{OnFault}
 use Rattle.beam_machine.specs.declared.action.OnFault.TheVariants.{Raises, Goes as GoesTo}
 use Rattle.beam_machine.specs.declared.action.Update.{Update}
+use Rattle.beam_machine.specs.declared.process.Slot.{Slot}
+use Rattle.beam_machine.specs.declared.process.Slot.TheVariants.{Value, Tag as TagSlot}
+use Rattle.beam_machine.specs.declared.process.Signal.{Signal}
+use Rattle.beam_machine.specs.declared.process.Status.TheVariants.{Running}
+use Rattle.beam_machine.specs.declared.process.Frame.{Frame}
+use Rattle.beam_machine.specs.Prelude.{Process, read, read_x, read_all, in_front, put, put_y, put_slots, with_slots, dropped, without_slots, words_of, own_pid, tag_of, caught_at, goes_on, goes_to, changes, stores, stores_made, stores_second, stores_two, decides, has_size, is_tagged, with_one, with_two, tests, fails, stores_computed, computes, held_in, splits, opens, put_element, put_elements, stores_tuple, updates_record, moves, allocates_in, trims_in, trims_newest, cleared, stacks, tags, traced, raises_again, raises_raw, catches, handles, catch_rows, unwound, raises, faults, illegal}
+use Rattle.beam_term.specs.Prelude.{TermValue, nil_term, pair_term, tuple_term, tuple_of, elements_of}
+use Rattle.beam_machine.specs.declared.action.Source.TheVariants as source
 use Rattle.beam_machine.specs.declared.action.Test.{Test}
 use Rattle.beam_machine.specs.declared.action.Test.TheVariants as test
 use Rattle.beam_machine.specs.declared.action.Compute.{Compute}
@@ -21,21 +26,12 @@ use Rattle.beam_machine.specs.declared.action.Catching.{Catching}
 use Rattle.beam_machine.specs.declared.action.Catching.TheVariants as catching
 use Rattle.beam_model.specs.declared.exception.Class.{Class}
 use Rattle.beam_model.specs.declared.exception.Exception.{Exception}
-use Rattle.beam_model.specs.declared.exception.Exception.TheVariants as exception
 use Rattle.beam_model.specs.declared.exception.Fault.{Fault}
 use Rattle.beam_model.specs.declared.exception.Fault.TheVariants.{IllegalOperand, SystemLimit}
-use Rattle.beam_machine.specs.declared.process.Slot.{Slot}
-use Rattle.beam_machine.specs.declared.process.Slot.TheVariants.{Value, Tag as TagSlot}
-use Rattle.beam_machine.specs.declared.process.Signal.{Signal}
-use Rattle.beam_machine.specs.declared.process.Status.TheVariants.{Running}
+use Rattle.beam_model.specs.Prelude.{Place, clause_exception, compares, is_of_type, limited_term, nullary_value, unary_value, binary_value, class_in}
+use Rattle.beam_model.specs.declared.exception.Exception.TheVariants as exception
 use Rattle.beam_machine.specs.declared.process.Tag.{Tag}
-use Rattle.beam_machine.specs.declared.process.Frame.{Frame}
-use Rattle.beam_model.specs.Place.{Place}
-use Rattle.beam_model.specs.Exception.{clause_exception}
-use Rattle.beam_model.specs.Native.{compares, is_of_type, limited_term, nullary_value, unary_value, binary_value, class_in}
-use Rattle.beam_machine.specs.Process.{Process, read, read_x, read_all, in_front, put, put_y, put_slots, with_slots, dropped, without_slots, words_of, own_pid}
-use Rattle.beam_machine.specs.Row.{tag_of, caught_at, goes_on, goes_to, changes, stores, stores_made, stores_second, stores_two, decides, has_size, is_tagged, with_one, with_two, tests, fails, stores_computed, computes, held_in, splits, opens, put_element, put_elements, stores_tuple, updates_record, moves, allocates_in, trims_in, trims_newest, cleared, stacks, tags, traced, raises_again, raises_raw, catches, handles, catch_rows, unwound, raises, faults, illegal}
-use Rattle.beam_laws.specs.Private.{with_name_and_transit}
+use Rattle.beam_laws.specs.Prelude.{with_name_and_transit}
 
 -- a running process with this name, and these signals in transit to it
 abbrev pub with : Option (List ℕ) → List Signal → Process → Process

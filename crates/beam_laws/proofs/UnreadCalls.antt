@@ -1,40 +1,34 @@
 -- Calls, returns, messages, and so all rows: no row reads the name of its process or the signals in transit to it.
-use Rattle.std.proofs.Common.{◌≡◌, ℕ, ◌==◌, ◌&&◌, cond, Bool, true, false, not, nat_lt, List, [], ◌∷◌, refl, sym, ap, ◌∙◌}
-use Rattle.std.specs.Prelude.{Option, Some, None, Result, Ok, Err, is_some, option_map}
-use Rattle.beam_term.specs.TermValue.{TermValue, int_term, atom_term, reference_term, pid_term, nil_term, pair_term, tuple_term, count_of}
+use Rattle.std.proofs.Common.{◌≡◌, ℕ, ◌==◌, ◌&&◌, cond, Bool, true, false, not, nat_lt, List, [], ◌∷◌, refl, sym, ap, ◌∙◌, Option, Some, None, Result, Ok, Err, is_some, option_map}
 use Rattle.beam_machine.specs.declared.action.Source.{Source}
 use Rattle.beam_machine.specs.declared.action.Register.{Register}
 use Rattle.beam_machine.specs.declared.action.Choice.{Choice}
 use Rattle.beam_machine.specs.declared.action.SizeChoice.{SizeChoice}
+use Rattle.beam_machine.specs.declared.action.Action.{Action}
+use Rattle.beam_machine.specs.declared.action.Step.{Step}
+use Rattle.beam_machine.specs.declared.callee.Callee.{Callee}
+use Rattle.beam_machine.specs.declared.callee.After.{After}
+use Rattle.beam_machine.specs.declared.callee.After.TheVariants.{NextRow, Return}
+use Rattle.beam_machine.specs.declared.process.Deadline.{Deadline}
+use Rattle.beam_machine.specs.declared.process.Frame.{Frame}
+use Rattle.beam_machine.specs.declared.process.Goes.TheVariants.{At, Enter, Nowhere}
+use Rattle.beam_machine.specs.declared.process.Signal.{Signal}
+use Rattle.beam_machine.specs.declared.process.Status.TheVariants.{Running, Waiting}
+use Rattle.beam_machine.specs.Prelude.{callee_named, Code, step_of, entry_of, Process, read, read_x, put_x, dropped, words_of, own_pid, bared, Outcome, makes, sends, asks, sleeps, goes_on, goes_to, illegal, faults, returns_to, returns_from, returns, follows, answers, demonitored, flushed_if, flush_in, demonitors, changed_by, answers_true, arguments_of, enters, with_new_frame, pushes, calls, calls_only, after_dropping, applies, callee_at, chosen, selects, size_chosen, selects_size, controls, own_number, sends_own, sends_to, peeks, with_message_at, waits_for_message, waits, Duration, forever, milliseconds, duration_of, sleeps_at, sleeps_for, waits_for, waits_with, message_rows, perform, performs, outcome_at, outcome, exits, finds_message}
+use Rattle.beam_term.specs.Prelude.{TermValue, int_term, atom_term, reference_term, pid_term, nil_term, pair_term, tuple_term, count_of}
 use Rattle.beam_machine.specs.declared.action.Control.{Control}
 use Rattle.beam_machine.specs.declared.action.Control.TheVariants as control
 use Rattle.beam_machine.specs.declared.action.Messaging.{Messaging}
 use Rattle.beam_machine.specs.declared.action.Messaging.TheVariants as messaging
-use Rattle.beam_machine.specs.declared.action.Action.{Action}
 use Rattle.beam_machine.specs.declared.action.Action.TheVariants.{Test, Compute, Data, Control as ControlAction, Stack, Catching, Messaging as MessagingAction}
-use Rattle.beam_machine.specs.declared.action.Step.{Step}
-use Rattle.beam_machine.specs.declared.callee.Callee.{Callee}
 use Rattle.beam_machine.specs.declared.callee.Callee.TheVariants as callee
-use Rattle.beam_machine.specs.declared.callee.After.{After}
-use Rattle.beam_machine.specs.declared.callee.After.TheVariants.{NextRow, Return}
 use Rattle.beam_model.specs.declared.exception.Exception.{Exception}
 use Rattle.beam_model.specs.declared.exception.Fault.TheVariants.{Undef, Badarg, SystemLimit, TimeoutValue}
-use Rattle.beam_machine.specs.declared.process.Deadline.{Deadline}
-use Rattle.beam_machine.specs.declared.process.Frame.{Frame}
-use Rattle.beam_machine.specs.declared.process.Goes.{Goes}
-use Rattle.beam_machine.specs.declared.process.Goes.TheVariants.{At, Enter, Nowhere}
-use Rattle.beam_machine.specs.declared.process.Signal.{Signal}
-use Rattle.beam_machine.specs.declared.process.Status.TheVariants.{Running, Waiting}
-use Rattle.beam_model.specs.Place.{Place}
-use Rattle.beam_model.specs.Mailbox.{message_at, with_next, with_removed}
+use Rattle.beam_model.specs.Prelude.{Place, message_at, with_next, with_removed, native_value, truth}
 use Rattle.beam_model.specs.declared.native.ProcessNative.{ProcessNative}
 use Rattle.beam_model.specs.declared.native.ProcessNative.TheVariants.{Demonitor}
-use Rattle.beam_model.specs.Native.{native_value, truth}
-use Rattle.beam_machine.specs.Callee.{callee_named}
-use Rattle.beam_machine.specs.Code.{Code, step_of, entry_of}
-use Rattle.beam_machine.specs.Process.{Process, read, read_x, put_x, dropped, words_of, own_pid, bared}
-use Rattle.beam_machine.specs.Row.{Outcome, makes, sends, asks, sleeps, goes_on, goes_to, illegal, faults, returns_to, returns_from, returns, follows, answers, demonitored, flushed_if, flush_in, demonitors, changed_by, answers_true, arguments_of, enters, with_new_frame, pushes, calls, calls_only, after_dropping, applies, callee_at, chosen, selects, size_chosen, selects_size, controls, own_number, sends_own, sends_to, peeks, with_message_at, waits_for_message, waits, Duration, forever, milliseconds, duration_of, sleeps_at, sleeps_for, waits_for, waits_with, message_rows, perform, performs, outcome_at, outcome, exits, finds_message}
-use Rattle.beam_laws.specs.Private.{with_name_and_transit}
+use Rattle.beam_machine.specs.declared.process.Goes.{Goes}
+use Rattle.beam_laws.specs.Prelude.{with_name_and_transit}
 use Rattle.beam_laws.proofs.Unread.{with, read_with, dropped_with, Same, raises_same, faults_same, illegal_same, goes_to_same, stores_same, with_one_same, with_two_same, tests_same, computes_same, moves_same, stacks_same, catch_rows_same}
 
 -- the outcome of a row, with another name of its process and other signals in transit to it

@@ -1,32 +1,21 @@
 -- The parts of a node after an upgrade list that isn't refused.
-use Rattle.std.proofs.Common.{◌≡◌, ◌≢◌, ℕ, ◌+◌, ◌-◌, ◌<◌, ◌^◌, Bool, true, false, ◌||◌, ◌&&◌, cond, not, List, [], ◌∷◌, length, map, refl, ap, ◌∙◌, arith}
+use Rattle.std.proofs.Common.{◌≡◌, ◌≢◌, ℕ, ◌+◌, ◌-◌, ◌<◌, ◌^◌, Bool, true, false, ◌||◌, cond, not, List, [], ◌∷◌, length, map, refl, ap, ◌∙◌, arith, Option, Some, None, is_some, Ok, option_map}
 use Rattle.std.proofs.lemmas.Bool.Decides.{nat_tests}
-use Rattle.std.specs.Prelude.{Option, Some, None, is_some, Ok, option_map}
 use Rattle.std.specs.List.{list_any}
+use Rattle.std.proofs.lemmas.Bool.{and_parts, or_parts}
 use Rattle.beam_machine.specs.declared.event.Event.TheVariants as event
+use Rattle.beam_term.specs.Prelude.{nil_term}
+use Rattle.beam_model.specs.Prelude.{Listing, is_erlang, same_text}
 use Rattle.beam_machine.specs.declared.event.UpgradeMode.{UpgradeMode}
 use Rattle.beam_machine.specs.declared.event.UpgradeMode.TheVariants.{Strict, Soft, Hard}
 use Rattle.beam_machine.specs.declared.event.Refused.TheVariants.{Sticky, NotPurged, Duplicated, TooMany}
 use Rattle.beam_machine.specs.declared.event.Reply.{Reply}
-use Rattle.beam_model.specs.Listing.{Listing}
-use Rattle.beam_model.specs.NativeNames.{is_erlang}
-use Rattle.beam_model.specs.SameText.{same_text}
-use Rattle.beam_machine.specs.Change.{loaded, old_of, lingers_at, lingers_in_old, lingers_in_olds, pids_of}
-use Rattle.beam_machine.specs.Code.{Code}
-use Rattle.beam_term.specs.TermValue.{nil_term}
-use Rattle.beam_machine.specs.Process.{Process, ended, killed}
-use Rattle.beam_machine.specs.State.{State}
-use Rattle.beam_machine.specs.Next.{Next, refused, has_instances_left, load_new, end_old, end_olds, are_apart, stands_in_way, load_each, upgraded, next}
-use Rattle.beam_machine.specs.Run.{run}
-use Rattle.beam_laws.specs.Upgrades.{loaded_each}
-use Rattle.beam_laws.proofs.Hearing.{either_false, nobody_ends, all_ended, in_olds_not, in_olds_same}
+use Rattle.beam_machine.specs.Prelude.{loaded, old_of, lingers_at, lingers_in_old, lingers_in_olds, pids_of, Code, Process, ended, killed, State, Next, refused, has_instances_left, load_new, end_old, end_olds, are_apart, stands_in_way, load_each, upgraded, next, run}
+use Rattle.beam_laws.specs.Prelude.{loaded_each}
+use Rattle.beam_laws.proofs.Hearing.{nobody_ends, all_ended, in_olds_not, in_olds_same}
 use Rattle.beam_laws.proofs.Mapping.{loaded_others}
 
 -- ---- tests
-
-both_true : (a b : Bool) → (a && b) ≡ true → (a ≡ true) × (b ≡ true)
-both_true true b e = (refl, e)
-both_true false b e = cc
 
 not_true : (b : Bool) → not b ≡ true → b ≡ false
 not_true false e = refl
@@ -45,15 +34,15 @@ none_of (p ∷ ps) = none_of ps
 neither : (f g : Process → Bool) (ps : List Process) → list_any f ps ≡ false → list_any g ps ≡ false → list_any (λ p. f p || g p) ps ≡ false
 neither f g [] a b = refl
 neither f g (p ∷ ps) a b =
-    let x = either_false (f p) (list_any f ps) a in
-    let y = either_false (g p) (list_any g ps) b in
+    let x = or_parts (f p) (list_any f ps) a in
+    let y = or_parts (g p) (list_any g ps) b in
     ap (λ c. (c || g p) || list_any (λ p. f p || g p) ps) x.0 ∙ (ap (λ c. c || list_any (λ p. f p || g p) ps) y.0 ∙ neither f g ps x.1 y.1)
 
 of_each : (f g : Process → Bool) (ps : List Process) → list_any (λ p. f p || g p) ps ≡ false → (list_any f ps ≡ false) × (list_any g ps ≡ false)
 of_each f g [] e = (refl, refl)
 of_each f g (p ∷ ps) e =
-    let here = either_false (f p || g p) (list_any (λ p. f p || g p) ps) e in
-    let x = either_false (f p) (g p) here.0 in
+    let here = or_parts (f p || g p) (list_any (λ p. f p || g p) ps) e in
+    let x = or_parts (f p) (g p) here.0 in
     let rest = of_each f g ps here.1 in
     (ap (λ b. b || list_any f ps) x.0 ∙ rest.0, ap (λ b. b || list_any g ps) x.1 ∙ rest.1)
 
@@ -62,7 +51,7 @@ olds_stay : (number : ℕ) (l : Listing) (code : Code) (rest : List Listing) (p 
     → lingers_in_olds (loaded code number l) (map (λ l. l.name) rest) p ≡ lingers_in_olds code (map (λ l. l.name) rest) p
 olds_stay number l code [] p apart = refl
 olds_stay number l code (m ∷ rest) p apart =
-    let each = either_false (same_text l.name m.name) (list_any (λ other. same_text l.name other.name) rest) apart in
+    let each = or_parts (same_text l.name m.name) (list_any (λ other. same_text l.name other.name) rest) apart in
     let old : old_of (loaded code number l) m.name ≡ old_of code m.name = ap (λ v. option_map (λ i. i.number) v.old) (loaded_others number l code m.name each.0) in
     ap (λ o. lingers_at o p || lingers_in_olds (loaded code number l) (map (λ l. l.name) rest) p) old
     ∙ ap (λ b. lingers_at (old_of code m.name) p || b) (olds_stay number l code rest p each.1)
@@ -93,8 +82,8 @@ loads_are s [] e apart few nobody =
     let same : s.instances ≡ s.instances + 0 = omega arith in
     ap (λ n. record s { instances = n }) same
 loads_are s (l ∷ rest) e apart few nobody =
-    let ordinary = either_false (is_erlang l.name) (list_any (λ l. is_erlang l.name) rest) e in
-    let once = both_true (not (list_any (λ other. same_text l.name other.name) rest)) (are_apart rest) apart in
+    let ordinary = or_parts (is_erlang l.name) (list_any (λ l. is_erlang l.name) rest) e in
+    let once = and_parts (not (list_any (λ other. same_text l.name other.name) rest)) (are_apart rest) apart in
     let below : s.instances < 2 ^ 32 - 1 = omega (arith, few) in
     let room : has_instances_left s ≡ true = grind (arith, nat_tests) in
     let more : s.instances + 1 + length rest < 2 ^ 32 = omega (arith, few) in
@@ -181,7 +170,7 @@ one_clear s Hard name gentle e = absurd (gentle refl)
 all_clear : (s : State) (mode : UpgradeMode) (ls : List Listing) → mode ≢ Hard → list_any (λ l. stands_in_way mode s l.name) ls ≡ false → Nobody s.code ls s.processes
 all_clear s mode [] gentle e = none_of s.processes
 all_clear s mode (l ∷ rest) gentle e =
-    let each = either_false (stands_in_way mode s l.name) (list_any (λ l. stands_in_way mode s l.name) rest) e in
+    let each = or_parts (stands_in_way mode s l.name) (list_any (λ l. stands_in_way mode s l.name) rest) e in
     neither (lingers_in_old s.code l.name) (lingers_in_olds s.code (map (λ l. l.name) rest)) s.processes (one_clear s mode l.name gentle each.0) (all_clear s mode rest gentle each.1)
 
 -- in modes other than Hard no process ends, and so the upgrade is just the loads

@@ -1,26 +1,18 @@
 -- A process, and its private rows, after events of others.
-use Rattle.std.proofs.Common.{◌≡◌, ◌≢◌, ℕ, ◌+◌, ◌==◌, eq-eqb, true≢false, Bool, true, false, cond, not, nat_lt, List, [], ◌∷◌, ◌++◌, length, refl, sym, ap, subst, ◌∙◌}
-use Rattle.std.specs.Prelude.{Option, Some, None, nat_le, ◌&&◌}
+use Rattle.std.proofs.Common.{◌≡◌, ◌≢◌, ℕ, ◌+◌, ◌==◌, eq-eqb, true≢false, Bool, true, false, cond, not, nat_lt, List, [], ◌∷◌, ◌++◌, length, refl, sym, ap, subst, ◌∙◌, Option, Some, None, nat_le, ◌&&◌}
 use Rattle.std.specs.List.{AllByRecursion}
-use Rattle.beam_term.specs.TermValue.{TermValue}
 use Rattle.beam_machine.specs.declared.event.Event.{Event}
-use Rattle.beam_machine.specs.declared.event.Event.TheVariants as event
 use Rattle.beam_machine.specs.declared.event.Refused.TheVariants.{BackwardClock, NotReady, TooMany}
 use Rattle.beam_machine.specs.declared.event.Reply.TheVariants.{Done, Started, Ran}
 use Rattle.beam_machine.specs.declared.process.Deadline.{Deadline}
 use Rattle.beam_machine.specs.declared.process.Signal.{Signal}
 use Rattle.beam_machine.specs.declared.process.Signal.TheVariants.{Message}
 use Rattle.beam_machine.specs.declared.process.Status.TheVariants.{Running}
-use Rattle.beam_model.specs.Listing.{Listing}
-use Rattle.beam_machine.specs.Process.{Process, is_running, is_ended, is_waiting, then_of, started}
-use Rattle.beam_machine.specs.Row.{goes_on}
-use Rattle.beam_machine.specs.State.{State, process_of, live_process, receiver_of, posted_to}
-use Rattle.beam_machine.specs.NodeNative.{most_processes}
-use Rattle.beam_machine.specs.Next.{Next, refused, replied, put_process, made_process, next_steps, delivered, is_nothing, next_deliver, timed_out, next_timeout, sent_to, next_send, next}
-use Rattle.beam_machine.specs.Run.{run}
-use Rattle.beam_machine.specs.Private.{Sent, Private, private_rows}
-use Rattle.beam_laws.specs.Private.{with_name_and_transit, after_private, with_name_and_transit_of, is_of_others}
-use Rattle.beam_laws.specs.Signals.{signal_to, signal_if, end_sends, steps_send, deliver_sends, event_sends, sent, signals_to}
+use Rattle.beam_machine.specs.Prelude.{Process, is_running, is_ended, is_waiting, then_of, started, goes_on, State, process_of, live_process, receiver_of, posted_to, most_processes, Next, refused, replied, put_process, made_process, next_steps, delivered, is_nothing, next_deliver, timed_out, next_timeout, sent_to, next_send, next, run, Sent, Private, private_rows}
+use Rattle.beam_term.specs.Prelude.{TermValue}
+use Rattle.beam_machine.specs.declared.event.Event.TheVariants as event
+use Rattle.beam_model.specs.Prelude.{Listing}
+use Rattle.beam_laws.specs.Prelude.{with_name_and_transit, after_private, with_name_and_transit_of, is_of_others, signal_to, signal_if, end_sends, steps_send, deliver_sends, event_sends, sent, signals_to}
 use Rattle.beam_laws.proofs.Ending.{alive_is}
 use Rattle.beam_laws.proofs.Events.{steps_alike}
 use Rattle.beam_laws.proofs.Numbered.{positive, put_elsewhere}
@@ -117,7 +109,7 @@ others_leave s events pid p h e =
     (leaves.0, subst (λ o. Grown (signals_to pid (sent s events)) o (process_of (run s events).state.processes pid)) e leaves.1)
 
 -- the process has the name and the signals in transit that it was given
-given : (name : Option (List ℕ)) (transit : List Signal) (p : Process) → with_name_and_transit name transit p ≡ with_name_and_transit (with_name_and_transit name transit p).name (with_name_and_transit name transit p).transit p
+pub given : (name : Option (List ℕ)) (transit : List Signal) (p : Process) → with_name_and_transit name transit p ≡ with_name_and_transit (with_name_and_transit name transit p).name (with_name_and_transit name transit p).transit p
 given name transit p = go (is_ended p.status) refl
   where
     go : (b : Bool) → is_ended p.status ≡ b → cond b p (record p { name = name; transit = transit }) ≡ with_name_and_transit (cond {A = Process} b p (record p { name = name; transit = transit })).name (cond {A = Process} b p (record p { name = name; transit = transit })).transit p

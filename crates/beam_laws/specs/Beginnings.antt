@@ -1,9 +1,9 @@
 -- Beginnings that several stories share.
 use Rattle.std.specs.Prelude.{[], ◌∷◌, Some, None, Ok, codes}
-use Rattle.beam_machine.specs.declared.event.Event.TheVariants.{Load, Spawn, Send, Steps, Deliver}
-use Rattle.beam_machine.specs.declared.event.Reply.TheVariants.{Done, Versions, Started, Ran}
+use Rattle.beam_machine.specs.declared.event.Event.TheVariants.{Load, Spawn, Steps, Deliver, Send}
+use Rattle.beam_machine.specs.declared.event.Reply.TheVariants.{Done, Started, Ran, Versions}
 use Rattle.beam_machine.specs.declared.event.Then.TheVariants.{GoesOn, Waits}
-use Rattle.beam_machine.specs.Process.{own_pid}
+use Rattle.beam_machine.specs.Prelude.{own_pid}
 use Rattle.beam_laws.specs.Listings.{d, g, l, r, w}
 use Rattle.beam_laws.specs.Written.{integer as given}
 use Rattle.beam_laws.specs.Story.{Story}

@@ -1,9 +1,9 @@
 -- Which events change code or break spots. (This node's own.)
 use Rattle.std.specs.Prelude.{Bool, true, false}
 use Rattle.beam_machine.specs.declared.debug.DebugEvent.{DebugEvent}
-use Rattle.beam_machine.specs.declared.debug.DebugEvent.TheVariants.{Node as NodeEvent, SetBreak, ClearBreak}
-use Rattle.beam_model.specs.Listing.{Listing}
-use Rattle.beam_machine.specs.Touch.{Touch, code, touch_of}
+use Rattle.beam_machine.specs.declared.debug.DebugEvent.TheVariants.{SetBreak, ClearBreak, Node as NodeEvent}
+use Rattle.beam_machine.specs.Prelude.{Touch, code, touch_of}
+use Rattle.beam_model.specs.Prelude.{Listing}
 
 abbrev pub touches_code : Touch → Bool
 touches_code code = true

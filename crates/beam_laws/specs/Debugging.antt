@@ -1,17 +1,15 @@
 -- Stories of the node with its debugger: events from the empty node on, each with the answer to it.
 use Prim.Native.String.{String}
 use Rattle.std.specs.Prelude.{◌≡◌, ℕ, List, [], ◌∷◌, ◌++◌, map, Option, Some, None, option_map, Ok, codes}
-use Rattle.beam_model.specs.Listing.{Listing}
 use Rattle.beam_machine.specs.declared.debug.DebugEvent.{DebugEvent}
-use Rattle.beam_machine.specs.declared.debug.DebugEvent.TheVariants.{Node as NodeEvent}
-use Rattle.beam_machine.specs.declared.debug.DebugReply.TheVariants.{Node}
 use Rattle.beam_machine.specs.declared.debug.Spot.{Spot}
 use Rattle.beam_machine.specs.declared.debug.Version.{Version}
 use Rattle.beam_machine.specs.declared.event.Event.TheVariants.{Load, Spawn}
-use Rattle.beam_machine.specs.declared.event.Reply.TheVariants.{Versions, Started}
-use Rattle.beam_machine.specs.Debug.{Debugged, DebugAnswer, undisturbed, is_among, debug_run}
-use Rattle.beam_machine.specs.State.{empty, process_of}
-use Rattle.beam_machine.specs.View.{view_of, view_text}
+use Rattle.beam_machine.specs.declared.event.Reply.TheVariants.{Started, Versions}
+use Rattle.beam_machine.specs.Prelude.{Debugged, DebugAnswer, undisturbed, is_among, debug_run, empty, process_of, view_of, view_text}
+use Rattle.beam_model.specs.Prelude.{Listing}
+use Rattle.beam_machine.specs.declared.debug.DebugEvent.TheVariants.{Node as NodeEvent}
+use Rattle.beam_machine.specs.declared.debug.DebugReply.TheVariants.{Node}
 use Rattle.beam_laws.specs.Listings.{t}
 use Rattle.beam_laws.specs.Terms.{integer}
 

@@ -1,8 +1,7 @@
 -- Earlier code and the node's code now. (This node's own.)
 use Rattle.std.specs.Prelude.{◌≡◌, ◌≤◌, ◌⊎◌, Bool, true, false, ◌==◌, ◌&&◌, [], ◌∷◌, Option, Some, None}
-use Rattle.beam_model.specs.SameText.{same_text}
-use Rattle.beam_machine.specs.Code.{Code, Instance}
-use Rattle.beam_machine.specs.State.{State}
+use Rattle.beam_machine.specs.Prelude.{Code, Instance, State}
+use Rattle.beam_model.specs.Prelude.{same_text}
 
 -- the instance is current or old in one of the modules
 abbrev pub IsIn : Code → Instance → Type 0

@@ -17,3 +17,4 @@ pub mod Story
 pub mod Beginnings
 pub mod Debugging
 pub mod Upgrades
+pub mod Prelude

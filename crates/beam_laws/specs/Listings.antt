@@ -1,8 +1,8 @@
 -- The listings of the stories, line by line as a compiler's .S file has them.
 use Rattle.std.specs.Prelude.{ℕ, [], ◌∷◌, codes}
-use Rattle.beam_term.specs.TermValue.{list_of}
-use Rattle.beam_model.specs.Listing.{Listing}
+use Rattle.beam_model.specs.Prelude.{Listing}
 use Rattle.beam_model.specs.declared.instruction.Argument.{Argument}
+use Rattle.beam_term.specs.Prelude.{list_of}
 use Rattle.beam_laws.specs.Terms.{atom as atom_value}
 use Rattle.beam_laws.specs.Written.{exported, x, y, f, integer, atom, nil, literal, extfunc, label, func_info, move, test_is_eq_exact, gc_bif, call_only, call_ext, call_ext_only, jump, return, allocate, deallocate, get_list, put_list, put_tuple2, catch, catch_end, try, try_case, raise, loop_rec, loop_rec_end, remove_message, wait, wait_timeout, timeout}
 

@@ -1,9 +1,8 @@
 -- The code as a map from modules to their instances.
 use Rattle.std.specs.Prelude.{◌≡◌, ℕ, true, false, List, [], ◌∷◌}
 use Rattle.std.specs.List.{AllByRecursion}
-use Rattle.beam_model.specs.SameText.{same_text}
-use Rattle.beam_machine.specs.Code.{Code}
-use Rattle.beam_machine.specs.Change.{has_instance}
+use Rattle.beam_machine.specs.Prelude.{Code, has_instance}
+use Rattle.beam_model.specs.Prelude.{same_text}
 
 -- no module of the code has that name
 abbrev pub Lacks : Code → List ℕ → Type 0

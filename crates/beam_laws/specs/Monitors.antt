@@ -2,8 +2,7 @@
 use Rattle.std.specs.Prelude.{◌≡◌, ◌<◌, ◌≤◌, ℕ, Bool, List, [], ◌∷◌, filter}
 use Rattle.std.specs.List.{AllByRecursion}
 use Rattle.beam_machine.specs.declared.process.Monitor.{Monitor}
-use Rattle.beam_machine.specs.Process.{Process}
-use Rattle.beam_machine.specs.Row.{Outcome, makes, sends, asks, sleeps}
+use Rattle.beam_machine.specs.Prelude.{Process, Outcome, makes, sends, asks, sleeps}
 
 -- some of these monitors, in their order
 abbrev pub ArePart : List Monitor → List Monitor → Type 0

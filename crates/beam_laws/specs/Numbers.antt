@@ -1,6 +1,6 @@
 -- The numbers of instances.
 use Rattle.std.specs.Prelude.{◌≡◌, ◌<◌, ◌≤◌, ℕ, ◌+◌, ◌==◌, if◌then◌else◌, [], ◌∷◌, Option, Some, None}
-use Rattle.beam_machine.specs.Code.{Code, Instance}
+use Rattle.beam_machine.specs.Prelude.{Code, Instance}
 
 abbrev pub bears : ℕ → Option Instance → ℕ
 bears n None = 0

@@ -1,8 +1,8 @@
 -- Processes in their order: process n has pid n, an ended one is its pid, its reason and its value, and no two have one name.
 use Rattle.std.specs.Prelude.{◌≡◌, ℕ, ◌+◌, List, slice_get, Option, Some}
-use Rattle.beam_term.specs.TermValue.{TermValue}
+use Rattle.beam_term.specs.Prelude.{TermValue}
 use Rattle.beam_machine.specs.declared.process.Status.TheVariants.{Ended}
-use Rattle.beam_machine.specs.Process.{Process, ended}
+use Rattle.beam_machine.specs.Prelude.{Process, ended}
 
 -- where a process has ended, it is its pid, its reason and its value
 abbrev pub Ends : Process → Type 0

@@ -1,8 +1,7 @@
 -- A process as it is checked out, to be run apart from the node. (This node's own.)
 use Rattle.std.specs.Prelude.{ℕ, Bool, List}
-use Rattle.beam_model.specs.Place.{Place}
-use Rattle.beam_machine.specs.Code.{Code}
-use Rattle.beam_machine.specs.Process.{Process}
+use Rattle.beam_machine.specs.Prelude.{Code, Process}
+use Rattle.beam_model.specs.Prelude.{Place}
 
 -- a process as it was checked out, with all that its rows depend on
 pub record Origin : Type 0 where

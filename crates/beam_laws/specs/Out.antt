@@ -1,13 +1,10 @@
 -- A process that is out: checked out, to be run apart from the node. (This node's own.)
 use Rattle.std.specs.Prelude.{◌≡◌, ◌⊎◌, ℕ, ◌==◌, Bool, true, false, Some}
 use Rattle.beam_machine.specs.declared.debug.DebugEvent.{DebugEvent}
-use Rattle.beam_machine.specs.declared.debug.DebugEvent.TheVariants.{Node as NodeEvent, StepOne}
+use Rattle.beam_machine.specs.declared.debug.DebugEvent.TheVariants.{StepOne, Node as NodeEvent}
 use Rattle.beam_machine.specs.declared.event.Event.{Event}
-use Rattle.beam_model.specs.Listing.{Listing}
-use Rattle.beam_machine.specs.Debug.{Debugged, is_among}
-use Rattle.beam_machine.specs.Process.{Process, is_ended}
-use Rattle.beam_machine.specs.State.{process_of}
-use Rattle.beam_machine.specs.Touch.{Touch, process, touch_of}
+use Rattle.beam_machine.specs.Prelude.{Debugged, is_among, Process, is_ended, process_of, Touch, process, touch_of}
+use Rattle.beam_model.specs.Prelude.{Listing}
 use Rattle.beam_laws.specs.Private.{IsStill}
 use Rattle.beam_laws.specs.Origin.{Origin}
 

@@ -3,14 +3,10 @@ use Rattle.std.specs.Prelude.{◌≡◌, ℕ, Bool, true, false, not, ◌+◌, �
 use Rattle.beam_machine.specs.declared.event.Event.{Event}
 use Rattle.beam_machine.specs.declared.process.Signal.{Signal}
 use Rattle.beam_machine.specs.declared.process.Status.{Status}
+use Rattle.beam_machine.specs.Prelude.{Process, is_ended, State, posted, downs, hearing_by, Rows, put_process, Sent, Private, Touch, code, process, touch_of}
 use Rattle.beam_machine.specs.declared.process.Status.TheVariants.{Ended}
-use Rattle.beam_model.specs.Listing.{Listing}
-use Rattle.beam_machine.specs.Process.{Process, is_ended}
-use Rattle.beam_machine.specs.State.{State, posted, downs, hearing_by}
+use Rattle.beam_model.specs.Prelude.{Listing}
 pub use Rattle.beam_machine.specs.State.{with_signals}
-use Rattle.beam_machine.specs.Next.{Rows, put_process}
-use Rattle.beam_machine.specs.Private.{Sent, Private}
-use Rattle.beam_machine.specs.Touch.{Touch, code, process, touch_of}
 
 -- a process with another name, and other signals in transit to it; an ended one stays as it is
 abbrev pub with_name_and_transit : Option (List ℕ) → List Signal → Process → Process

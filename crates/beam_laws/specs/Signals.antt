@@ -1,23 +1,16 @@
 -- Signals in the order in which they are sent, and in which they arrive.
 use Rattle.std.specs.Prelude.{ℕ, zero, suc, ◌+◌, ◌==◌, Bool, false, if◌then◌else◌, List, [], ◌∷◌, ◌++◌, map, flat_map, Option, Some, None, is_some, is_ok, codes}
-use Rattle.beam_term.specs.TermValue.{TermValue, atom_term}
-use Rattle.beam_model.specs.declared.native.NodeNative.{NodeNative}
-use Rattle.beam_model.specs.declared.native.NodeNative.TheVariants.{Exit, Send, Monitor}
-use Rattle.beam_model.specs.Exception.{around}
 use Rattle.beam_machine.specs.declared.callee.After.{After}
 use Rattle.beam_machine.specs.declared.event.Event.{Event}
-use Rattle.beam_machine.specs.declared.event.Event.TheVariants as event
 use Rattle.beam_machine.specs.declared.process.Monitor.{Monitor as MonitorValue}
 use Rattle.beam_machine.specs.declared.process.Signal.{Signal}
 use Rattle.beam_machine.specs.declared.process.Signal.TheVariants.{Message, Exit as ExitSignal, Down}
-use Rattle.beam_model.specs.Listing.{Listing}
-use Rattle.beam_machine.specs.Change.{lingers_in_old, lingers_in_olds, pids_of}
-use Rattle.beam_machine.specs.NodeNative.{Answered, answer_of, is_alive}
-use Rattle.beam_machine.specs.Process.{Process, killed, monitor_of, without_monitor}
-use Rattle.beam_machine.specs.Row.{Outcome, makes, sends, asks, sleeps, own_number, answers, arguments_of, outcome}
-use Rattle.beam_machine.specs.State.{State, process_of, live_process, with_process, receiver_of, downs}
-use Rattle.beam_machine.specs.Next.{raised, running, row, delivered, down_term, next}
-use Rattle.beam_machine.specs.Private.{Sent}
+use Rattle.beam_machine.specs.Prelude.{lingers_in_old, lingers_in_olds, pids_of, Answered, answer_of, is_alive, Process, killed, monitor_of, without_monitor, Outcome, makes, sends, asks, sleeps, own_number, answers, arguments_of, outcome, State, process_of, live_process, with_process, receiver_of, downs, raised, running, row, delivered, down_term, next, Sent}
+use Rattle.beam_model.specs.declared.native.NodeNative.{NodeNative}
+use Rattle.beam_model.specs.declared.native.NodeNative.TheVariants.{Exit, Send, Monitor}
+use Rattle.beam_model.specs.Prelude.{around, Listing}
+use Rattle.beam_term.specs.Prelude.{TermValue, atom_term}
+use Rattle.beam_machine.specs.declared.event.Event.TheVariants as event
 use Rattle.beam_laws.specs.Private.{downs_of_end}
 
 -- ---- sent signals

@@ -1,10 +1,7 @@
 -- The rows of a process that is checked out, and their effect on the node when they are committed. (This node's own.)
 use Rattle.std.specs.Prelude.{◌≡◌, ℕ, ◌+◌, Bool, false, nat_lt, if◌then◌else◌, Some}
-use Rattle.beam_machine.specs.Debug.{Debugged, Halting}
-use Rattle.beam_machine.specs.Next.{Rows, steps}
-use Rattle.beam_machine.specs.Private.{Private, End, at_limit, after_row, before_node_row, at_spot, private_to_spot}
-use Rattle.beam_machine.specs.Process.{Process}
-use Rattle.beam_machine.specs.State.{State, process_of}
+use Rattle.beam_machine.specs.Prelude.{Debugged, Halting, Rows, Private, End, at_limit, after_row, before_node_row, at_spot, private_to_spot, Process, State, process_of}
+use Rattle.beam_machine.specs.Next.{steps}
 use Rattle.beam_laws.specs.Private.{after_private, before, with_name_and_transit_of}
 use Rattle.beam_laws.specs.Origin.{Origin}
 use Rattle.beam_laws.specs.Out.{IsAsItWas}

@@ -1,17 +1,13 @@
 -- Stories: events from the empty node on, each with the answer to it.
 use Rattle.std.specs.Prelude.{◌≡◌, ℕ, List, [], ◌∷◌, map, Option, Some, None, option_map, option_and_then}
-use Rattle.beam_model.specs.Place.{Place}
 use Rattle.beam_machine.specs.declared.event.Event.{Event}
 use Rattle.beam_machine.specs.declared.process.Frame.{Frame}
-use Rattle.beam_machine.specs.declared.process.Goes.{Goes}
 use Rattle.beam_machine.specs.declared.process.Goes.TheVariants.{At, Enter, Nowhere}
 use Rattle.beam_machine.specs.declared.process.Signal.{Signal}
 use Rattle.beam_machine.specs.declared.process.Status.{Status}
-use Rattle.beam_model.specs.Listing.{Listing}
-use Rattle.beam_machine.specs.Process.{Process}
-use Rattle.beam_machine.specs.State.{State, empty, process_of}
-use Rattle.beam_machine.specs.Next.{Answer}
-use Rattle.beam_machine.specs.Run.{run}
+use Rattle.beam_machine.specs.Prelude.{Process, State, empty, process_of, Answer, run}
+use Rattle.beam_model.specs.Prelude.{Place, Listing}
+use Rattle.beam_machine.specs.declared.process.Goes.{Goes}
 
 abbrev pub Story : Type 0
 Story = List (Event Listing × Answer)

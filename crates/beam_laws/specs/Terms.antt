@@ -1,7 +1,7 @@
 -- Terms in few words.
 use Prim.Native.String.{String}
 use Rattle.std.specs.Prelude.{ℕ, pos, List, codes}
-use Rattle.beam_term.specs.TermValue.{TermValue, int_term, atom_term, tuple_of}
+use Rattle.beam_term.specs.Prelude.{TermValue, int_term, atom_term, tuple_of}
 
 abbrev pub atom : String → TermValue
 atom text = atom_term (codes text)

@@ -1,8 +1,7 @@
 -- The code that an upgrade list makes.
 use Rattle.std.specs.Prelude.{ℕ, ◌+◌, List, [], ◌∷◌}
-use Rattle.beam_model.specs.Listing.{Listing}
-use Rattle.beam_machine.specs.Code.{Code}
-use Rattle.beam_machine.specs.Change.{loaded}
+use Rattle.beam_machine.specs.Prelude.{Code, loaded}
+use Rattle.beam_model.specs.Prelude.{Listing}
 
 -- the code with these listings loaded one after another, under the numbers after the count
 abbrev pub loaded_each : Code → ℕ → List Listing → Code

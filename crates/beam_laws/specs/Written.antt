@@ -1,15 +1,15 @@
 -- Instructions as the compiler's listings write them: each name with its operands.
 use Prim.Native.String.{String}
 use Rattle.std.specs.Prelude.{ℕ, pos, List, [], ◌∷◌, map, codes}
-use Rattle.beam_term.specs.TermValue.{TermValue, int_term, atom_term, nil_term}
 use Rattle.beam_model.specs.declared.function.Export.{Export}
 use Rattle.beam_model.specs.declared.function.Import.{Import}
 use Rattle.beam_model.specs.declared.instruction.Argument.{Argument}
-use Rattle.beam_model.specs.declared.instruction.Argument.TheVariants as argument
 use Rattle.beam_model.specs.declared.instruction.Operand.{Operand}
-use Rattle.beam_model.specs.declared.instruction.Operand.TheVariants as operand
 use Rattle.beam_model.specs.declared.instruction.Instruction.{Instruction}
 use Rattle.beam_model.specs.declared.opcode.Opcode.{Opcode}
+use Rattle.beam_term.specs.Prelude.{TermValue, int_term, atom_term, nil_term}
+use Rattle.beam_model.specs.declared.instruction.Argument.TheVariants as argument
+use Rattle.beam_model.specs.declared.instruction.Operand.TheVariants as operand
 use Rattle.beam_model.specs.declared.opcode.Opcode.TheVariants as op
 
 -- ---- heads

@@ -1,12 +1,10 @@
 -- The forms of instructions add their functions and the instructions themselves to a body.
-use Rattle.std.proofs.Common.{◌≡◌, sym, refl, subst, false, List, [], ◌∷◌, ◌++◌, length, append_assoc, append-nil, arith}
-use Rattle.std.specs.Prelude.{◌==◌, map}
+use Rattle.std.proofs.Common.{◌≡◌, sym, refl, subst, false, List, [], ◌∷◌, ◌++◌, length, append_assoc, append-nil, arith, ◌==◌, map}
 use Rattle.beam_model.specs.declared.function.Function.{Function}
 use Rattle.beam_model.specs.declared.instruction.Instruction.{Instruction}
 use Rattle.beam_model.specs.declared.item.Item.{Item}
+use Rattle.beam_model.specs.Prelude.{without_line_number, ListingBody, no_body}
 use Rattle.beam_model.specs.declared.item.Item.TheVariants as item
-use Rattle.beam_model.specs.Assembly.{without_line_number}
-use Rattle.beam_model.specs.ListingReading.{ListingBody, no_body}
 use Rattle.beam_erltext.proofs.Texts.{differ}
 use Rattle.beam_listing.proofs.Bodies.{Adds}
 use Rattle.beam_listing.proofs.Printed.{function_before}

@@ -1,14 +1,14 @@
 -- The text before the first mark outside of quotes and brackets is balanced.
-use Rattle.std.proofs.Common.{◌≡◌, ◌≢◌, inl, inr, ℕ, ◌+◌, ◌≤◌, Bool, true, false, cond, List, [], ◌∷◌, ◌++◌, length, Option, Some, None, refl, sym, ap, subst, ◌∙◌, append_assoc, arith}
-use Rattle.std.specs.Prelude.{IsFalse, ◌==◌, ◌&&◌, ◌||◌}
+use Rattle.std.proofs.Common.{◌≡◌, ◌≢◌, inl, inr, ℕ, ◌+◌, ◌≤◌, Bool, true, false, cond, List, [], ◌∷◌, ◌++◌, length, Option, Some, None, refl, sym, ap, subst, ◌∙◌, append_assoc, arith, IsFalse, ◌==◌, ◌||◌, eqb-true, length-append}
 use Rattle.std.specs.List.{list_all, list_any}
-use Rattle.std.proofs.lemmas.Bool.{eqb-true}
-use Rattle.std.proofs.lemmas.List.{length-append}
+use Rattle.std.proofs.lemmas.Bool.{and_parts, or_parts}
+use Rattle.std.proofs.lemmas.Option.{same_Some}
 use Rattle.beam_erltext.proofs.Texts.{differ}
 use Rattle.beam_model.specs.declared.lex_state.LexState.{LexState}
+use Rattle.beam_model.specs.Prelude.{inside_after, is_closing, closed, open_after, is_stop, stop_from, stop_in}
 use Rattle.beam_model.specs.declared.lex_state.LexState.TheVariants as inside
-use Rattle.beam_model.specs.Forms.{◌>>=◌, inside_after, is_closing, closed, open_after, is_stop, stop_from, stop_in}
-use Rattle.beam_listing.specs.BracketForm.{IsQuote, IsQuoted, no_byte, one_byte, escape, ArePair, round_pair, square_pair, brace_pair, IsPlain, IsBalanced, empty, plain, quoted, bracketed, commented}
+use Rattle.beam_model.specs.Forms.{◌>>=◌}
+use Rattle.beam_listing.specs.Prelude.{IsQuote, IsQuoted, no_byte, one_byte, escape, ArePair, round_pair, square_pair, brace_pair, IsPlain, IsBalanced, empty, plain, quoted, bracketed, commented}
 
 -- ---- bytes
 
@@ -126,23 +126,15 @@ quoted_skip mark d q _ i (escape _ c cs more) n rest =
     ∙ step mark (inside.Escape q) d (n + 1) c (cs ++ rest) (inside.Quotes q) d refl refl refl
     ∙ quoted_skip mark d q cs i more (n + 1 + 1) rest ∙ ap (λ (k : ℕ). stop_from mark (inside.Quotes q) d k rest) (omega arith)
 
-both_true : (a b : Bool) → (a && b) ≡ true → (a ≡ true) × (b ≡ true)
-both_true true b e = (refl, e)
-both_true false b e = absurd cc
-
 no_test : (a b : ℕ) → (a == b) ≡ false → a ≢ b
 no_test a b e same = let bad : (a == b) ≡ true = rw same (grind arith) in let both : true ≡ false = sym bad ∙ e in absurd cc (both)
-
-or_none : (a b : Bool) → (a || b) ≡ false → (a ≡ false) × (b ≡ false)
-or_none true b e = absurd cc
-or_none false b e = (refl, e)
 
 -- a comment is passed over, up to the line's end
 comment_skip : (mark : ℕ) (d text : List ℕ) → list_any (λ c. c == 10) text ≡ false → (n : ℕ) (rest : List ℕ)
     → stop_from mark inside.Comment d n (text ++ rest) ≡ stop_from mark inside.Comment d (n + length text) rest
 comment_skip mark d [] e n rest = ap (λ (k : ℕ). stop_from mark inside.Comment d k rest) (omega arith)
 comment_skip mark d (c ∷ cs) e n rest =
-    let both = or_none (c == 10) (list_any (λ c. c == 10) cs) e in
+    let both = or_parts (c == 10) (list_any (λ c. c == 10) cs) e in
     step mark inside.Comment d n c (cs ++ rest) inside.Comment d refl (let first = both.0 in rw first refl) refl
     ∙ comment_skip mark d cs both.1 (n + 1) rest ∙ ap (λ (k : ℕ). stop_from mark inside.Comment d k rest) (omega arith)
 
@@ -226,9 +218,6 @@ piece_pushed (k ∷ d) mark a b inner rest piece (before, after, parts, is, more
   more,
 )
 
-some_is : {A : Type 0} (x y : A) → Some x ≡ Some y → x ≡ y
-some_is x y e = cc
-
 -- open brackets are given by closing brackets
 abbrev AreClosing : List ℕ → Type 0
 AreClosing d = list_all is_closing d ≡ true
@@ -250,7 +239,7 @@ closing_back mark [] c inner cs e stop f is = absurd cc
 closing_back mark (b ∷ d) c inner cs e stop f is = by (c == b) refl f
   where
     by : (t : Bool) → (c == b) ≡ t → cond t (Some d) None ≡ Some inner → Closes (b ∷ d) mark (c ∷ cs)
-    by true same g = ([], cs, ap (λ (x : ℕ). x ∷ cs) (eqb-true c b same), empty b, subst (λ (t : List ℕ). Closes t mark cs) (sym (some_is d inner g)) is)
+    by true same g = ([], cs, ap (λ (x : ℕ). x ∷ cs) (eqb-true c b same), empty b, subst (λ (t : List ℕ). Closes t mark cs) (sym (same_Some d inner g)) is)
     by false same g = absurd cc
 
 -- no plain byte ends the piece in which it stands
@@ -261,7 +250,7 @@ front_differs mark [] c are p stop e =
     let bad : true ≡ false = sym stops ∙ stop in
     absurd cc (bad)
 front_differs mark (b ∷ d) c are p stop e =
-    let bad : true ≡ false = sym (both_true (is_closing b) (list_all is_closing d) are).0 ∙ ap is_closing (sym e) ∙ (plain_byte c p).ends in
+    let bad : true ≡ false = sym (and_parts (is_closing b) (list_all is_closing d) are).0 ∙ ap is_closing (sym e) ∙ (plain_byte c p).ends in
     absurd cc (bad)
 
 -- one byte more before a text that closes the open brackets
@@ -270,7 +259,7 @@ outside_back : (mark : ℕ) (d : List ℕ) (c : ℕ) (inner cs : List ℕ) → A
 outside_back mark d c inner cs are stop opens is = by (class_of c)
   where
     stays : (s : LexState) (k : List ℕ) → inside_after inside.Nothing c ≡ s → open_after inside.Nothing c d ≡ Some k → Remains s k mark cs
-    stays s k e f = subst (λ (t : LexState). Remains t k mark cs) e (subst (λ (t : List ℕ). Remains (inside_after inside.Nothing c) t mark cs) (some_is inner k (sym opens ∙ f)) is)
+    stays s k e f = subst (λ (t : LexState). Remains t k mark cs) e (subst (λ (t : List ℕ). Remains (inside_after inside.Nothing c) t mark cs) (same_Some inner k (sym opens ∙ f)) is)
 
     by : Class c → Closes d mark (c ∷ cs)
     by (percent e) =
@@ -315,23 +304,23 @@ comment_back mark d c cs is = by (c == 10) refl is
 back : (mark : ℕ) (s : LexState) (d : List ℕ) (c : ℕ) (inner cs : List ℕ) → AreClosing d → is_stop mark s d c ≡ false → open_after s c d ≡ Some inner
     → Remains (inside_after s c) inner mark cs → Remains s d mark (c ∷ cs)
 back mark inside.Nothing d c inner cs are stop opens is = outside_back mark d c inner cs are stop opens is
-back mark (inside.Quotes q) d c inner cs are stop opens is = quoted_back mark q d c cs (subst (λ (k : List ℕ). Remains (inside_after (inside.Quotes q) c) k mark cs) (sym (some_is d inner opens)) is)
-back mark (inside.Escape q) d c inner cs are stop opens is = (c, cs, refl, subst (λ (k : List ℕ). QuoteCloses q k mark cs) (sym (some_is d inner opens)) is)
-back mark inside.Comment d c inner cs are stop opens is = comment_back mark d c cs (subst (λ (k : List ℕ). Remains (inside_after inside.Comment c) k mark cs) (sym (some_is d inner opens)) is)
+back mark (inside.Quotes q) d c inner cs are stop opens is = quoted_back mark q d c cs (subst (λ (k : List ℕ). Remains (inside_after (inside.Quotes q) c) k mark cs) (sym (same_Some d inner opens)) is)
+back mark (inside.Escape q) d c inner cs are stop opens is = (c, cs, refl, subst (λ (k : List ℕ). QuoteCloses q k mark cs) (sym (same_Some d inner opens)) is)
+back mark inside.Comment d c inner cs are stop opens is = comment_back mark d c cs (subst (λ (k : List ℕ). Remains (inside_after inside.Comment c) k mark cs) (sym (same_Some d inner opens)) is)
 
 -- after a byte the open brackets are still given by closing brackets
 still_closing : (s : LexState) (c : ℕ) (d inner : List ℕ) → AreClosing d → open_after s c d ≡ Some inner → AreClosing inner
 still_closing inside.Nothing c d inner are e = by (class_of c)
   where
     same : (k : List ℕ) → open_after inside.Nothing c d ≡ Some k → AreClosing k → AreClosing inner
-    same k f is = subst AreClosing (some_is k inner (sym f ∙ e)) is
+    same k f is = subst AreClosing (same_Some k inner (sym f ∙ e)) is
 
     closer : (d : List ℕ) → AreClosing d → closed c d ≡ Some inner → AreClosing inner
     closer [] a f = absurd cc
     closer (b ∷ d) a f = by_same (c == b) f
       where
         by_same : (t : Bool) → cond t (Some d) None ≡ Some inner → AreClosing inner
-        by_same true g = subst AreClosing (some_is d inner g) (both_true (is_closing b) (list_all is_closing d) a).1
+        by_same true g = subst AreClosing (same_Some d inner g) (and_parts (is_closing b) (list_all is_closing d) a).1
         by_same false g = absurd cc
 
     by : Class c → AreClosing inner
@@ -343,9 +332,9 @@ still_closing inside.Nothing c d inner are e = by (class_of c)
         same (close ∷ d) (p.opens d) (rw (closing, are) refl)
     by (closing k s o) = closer d are (sym (o d) ∙ e)
     by (other p) = same d ((plain_byte c p).opens d) are
-still_closing (inside.Quotes q) c d inner are e = subst AreClosing (some_is d inner e) are
-still_closing (inside.Escape q) c d inner are e = subst AreClosing (some_is d inner e) are
-still_closing inside.Comment c d inner are e = subst AreClosing (some_is d inner e) are
+still_closing (inside.Quotes q) c d inner are e = subst AreClosing (same_Some d inner e) are
+still_closing (inside.Escape q) c d inner are e = subst AreClosing (same_Some d inner e) are
+still_closing inside.Comment c d inner are e = subst AreClosing (same_Some d inner e) are
 
 -- a stop stands after the bytes that were counted
 stop_grows : (mark : ℕ) (s : LexState) (d : List ℕ) (n : ℕ) (text : List ℕ) (m : ℕ) → stop_from mark s d n text ≡ Some m → n ≤ m

@@ -1,19 +1,13 @@
 -- Forms one after the other, with no comment among them, are read again.
-use Rattle.std.proofs.Common.{◌≡◌, ℕ, zero, suc, ◌+◌, ◌^◌, ◌<◌, ◌≤◌, false, inr, List, [], ◌∷◌, ◌++◌, length, Some, Ok, refl, sym, ap, ◌∙◌, subst, arith}
-use Rattle.std.specs.Prelude.{codes, ◌==◌}
+use Rattle.std.proofs.Common.{◌≡◌, ℕ, zero, suc, ◌+◌, ◌^◌, ◌<◌, ◌≤◌, false, inr, List, [], ◌∷◌, ◌++◌, length, Some, Ok, refl, sym, ap, ◌∙◌, subst, arith, codes, ◌==◌, length-append}
 use Rattle.std.specs.Fmt.{decimal}
-use Rattle.std.specs.Str.{chars, is_utf8}
-use Rattle.std.proofs.lemmas.List.{length-append}
-use Rattle.beam_term.specs.Atom.{IsAtomText}
+use Rattle.std.specs.Str.{is_utf8, chars}
+use Rattle.beam_term.specs.Prelude.{IsAtomText}
 use Rattle.beam_model.specs.declared.lex_state.LexState.TheVariants as inside
 use Rattle.beam_model.specs.declared.function.Function.{Function}
 use Rattle.beam_model.specs.declared.item.Item.{Item}
+use Rattle.beam_model.specs.Prelude.{is_reserved, atom_text, after_blanks, uncommented, uncommented_from, item_of, item_by, function_of_parts, ListingBody, with_item, next_form, body_from}
 use Rattle.beam_model.specs.declared.item.Item.TheVariants as item
-use Rattle.beam_model.specs.Text.{is_reserved, atom_text}
-use Rattle.beam_model.specs.TextReading.{after_blanks}
-use Rattle.beam_model.specs.Forms.{uncommented, uncommented_from}
-use Rattle.beam_model.specs.ListingForms.{item_of, item_by, function_of_parts}
-use Rattle.beam_model.specs.ListingReading.{ListingBody, with_item, next_form, body_from}
 use Rattle.beam_erltext.proofs.Texts.{differ}
 use Rattle.beam_erltext.proofs.TermRoundTrip.{no_blanks}
 use Rattle.beam_listing.proofs.Traces.{brace, uncommented_behind}

@@ -1,23 +1,18 @@
 -- The elements that are read of a text in brackets are exactly those that stand there.
-use Rattle.std.proofs.Common.{◌≡◌, ◌≢◌, ℕ, zero, suc, ◌≤◌, Bool, true, false, cond, List, [], ◌∷◌, ◌++◌, length, take, drop, Option, Some, None, refl, sym, ap, subst, ◌∙◌, append_assoc, arith}
-use Rattle.std.specs.Prelude.{◌==◌, ◌||◌}
-use Rattle.std.proofs.lemmas.Bool.{eqb-true}
-use Rattle.std.proofs.lemmas.List.{append-nil, take_at, drop_at, take-append-drop, length-take, length-drop, length-append}
+use Rattle.std.proofs.Common.{◌≡◌, ◌≢◌, ℕ, zero, suc, ◌≤◌, Bool, true, false, cond, List, [], ◌∷◌, ◌++◌, length, take, drop, Option, Some, None, refl, sym, ap, subst, ◌∙◌, append_assoc, arith, ◌==◌, ◌||◌, eqb-true, append-nil, take_at, drop_at, take-append-drop, length-take, length-drop, length-append}
+use Rattle.std.proofs.lemmas.Option.{same_Some}
 use Rattle.beam_erltext.proofs.Texts.{differ}
 use Rattle.beam_model.specs.declared.lex_state.LexState.TheVariants as inside
-use Rattle.beam_model.specs.Forms.{◌>>=◌, is_closing, is_stop, stop_from, stop_in, alone, elements_after, element_by, elements_from, elements_within, bracketed_elements, tuple_parts, list_parts}
-use Rattle.beam_model.specs.TextReading.{is_blank, after_blanks}
-use Rattle.beam_listing.specs.BracketForm.{HasNoMargin, AreBlanks, IsElement, AreElements, AreBracketed}
+use Rattle.beam_model.specs.Prelude.{is_closing, is_stop, stop_from, stop_in, alone, elements_after, element_by, elements_from, elements_within, bracketed_elements, tuple_parts, list_parts, is_blank, after_blanks}
+use Rattle.beam_model.specs.Forms.{◌>>=◌}
+use Rattle.beam_listing.specs.Prelude.{HasNoMargin, AreBlanks, IsElement, AreElements, AreBracketed}
 use Rattle.beam_listing.proofs.Balanced.{balanced_told, balanced_read}
 use Rattle.beam_listing.proofs.FrontForms.{no_margin, margin, after_margin, begins}
-
-some_is : {A : Type 0} (x y : A) → Some x ≡ Some y → x ≡ y
-some_is x y e = cc
 
 -- ---- elements that are read stand in the text
 
 alone_is : {A : Type 0} (x y : A) (text : List ℕ) → alone x text ≡ Some y → (x ≡ y) × (text ≡ [])
-alone_is x y [] e = (some_is x y e, refl)
+alone_is x y [] e = (same_Some x y e, refl)
 alone_is x y (c ∷ cs) e = absurd cc
 
 all_blank : (text : List ℕ) → after_blanks text ≡ [] → AreBlanks text

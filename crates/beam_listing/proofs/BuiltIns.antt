@@ -1,19 +1,14 @@
 -- Printed instructions of natives are read again.
-use Rattle.std.proofs.Common.{◌≡◌, ℕ, true, false, List, [], ◌∷◌, ◌++◌, Some, refl, sym, ap, ◌∙◌, subst, append_assoc, arith}
-use Rattle.std.specs.Prelude.{codes, ◌==◌, ◌&&◌}
+use Rattle.std.proofs.Common.{◌≡◌, ℕ, true, false, List, [], ◌∷◌, ◌++◌, Some, refl, sym, ap, ◌∙◌, subst, append_assoc, arith, codes, ◌==◌, ◌&&◌}
 use Rattle.std.specs.Fmt.{decimal}
-use Rattle.std.specs.Str.{chars, is_utf8}
+use Rattle.std.specs.Str.{is_utf8, chars}
 use Rattle.std.proofs.lemmas.Fmt.{decimal_digit}
 use Rattle.beam_model.specs.declared.function.Import.{Import}
 use Rattle.beam_model.specs.declared.instruction.Operand.{Operand}
-use Rattle.beam_model.specs.declared.instruction.Operand.TheVariants as operand
 use Rattle.beam_model.specs.declared.opcode.Opcode.{Opcode}
+use Rattle.beam_model.specs.Prelude.{same_text, is_reserved, atom_text, kinds_of, tagged, operand_text, operands_text, call_text, bif0_text, bif_text, gc_bif_text, raise_text, label_of_text, raise_by, raise_of_text, counted, bif0_of, bif_by, is_raise_call, bif_of, gc_bif_of, instruction_by, item_by}
+use Rattle.beam_model.specs.declared.instruction.Operand.TheVariants as operand
 use Rattle.beam_model.specs.declared.opcode.Opcode.TheVariants as op
-use Rattle.beam_model.specs.SameText.{same_text}
-use Rattle.beam_model.specs.Text.{is_reserved, atom_text}
-use Rattle.beam_model.specs.Opcodes.{kinds_of}
-use Rattle.beam_model.specs.ListingText.{tagged, operand_text, operands_text, call_text, bif0_text, bif_text, gc_bif_text, raise_text}
-use Rattle.beam_model.specs.ListingForms.{label_of_text, raise_by, raise_of_text, counted, bif0_of, bif_by, is_raise_call, bif_of, gc_bif_of, instruction_by, item_by}
 use Rattle.beam_listing.specs.Typed.{IsImport}
 use Rattle.beam_listing.proofs.Traces.{square, brace}
 use Rattle.beam_listing.proofs.Elements.{IsPart, AreParts, closed}

@@ -1,18 +1,12 @@
 -- The listing that a text has is one that a file spells: the operand of each line is 0.
-use Rattle.std.proofs.Common.{◌≡◌, ℕ, zero, suc, Bool, true, false, List, [], ◌∷◌, ◌++◌, length, Some, Ok, Err, refl, ap, ◌∙◌, subst}
+use Rattle.std.proofs.Common.{◌≡◌, ℕ, zero, suc, Bool, true, false, List, [], ◌∷◌, ◌++◌, length, Some, Ok, Err, refl, ap, ◌∙◌, subst, Option, None, Result, map, if◌then◌else◌, ◌==◌}
 use Rattle.std.proofs.lemmas.List.{map-append}
-use Rattle.std.specs.Prelude.{Option, None, Result, map, if◌then◌else◌, ◌==◌}
 use Rattle.beam_model.specs.declared.function.Signature.{Signature}
 use Rattle.beam_model.specs.declared.instruction.Instruction.{Instruction}
 use Rattle.beam_model.specs.declared.item.Item.{Item}
+use Rattle.beam_model.specs.Prelude.{without_line_number, without_line_numbers, Listing, uncommented, item_of, module_of, exports_of, attributes_of, labels_of, ListingFault, syntax, unknown, listing_form_at, meant, next_form, ListingBody, with_item, body_by, body_from, no_body, export_by, listing_at, with_line, listing_of_forms, listing_of_text, after_blanks}
 use Rattle.beam_model.specs.declared.item.Item.TheVariants as item
-use Rattle.beam_model.specs.Assembly.{without_line_number, without_line_numbers}
-use Rattle.beam_model.specs.Listing.{Listing}
-use Rattle.beam_model.specs.Forms.{uncommented}
-use Rattle.beam_model.specs.ListingForms.{item_of, module_of, exports_of, attributes_of, labels_of}
-use Rattle.beam_model.specs.ListingReading.{ListingFault, syntax, unknown, listing_form_at, meant, next_form, ListingBody, with_item, body_by, body_from, no_body, export_by, listing_at, with_line, listing_of_forms, listing_of_text}
 use Rattle.beam_model.specs.Reading.{◌>>=◌}
-use Rattle.beam_model.specs.TextReading.{after_blanks}
 use Rattle.beam_listing.proofs.Spelled.{IsItem, MayBeItem, item_is}
 
 -- a statement of the value that was read, if there is one

@@ -1,11 +1,8 @@
 -- Texts between brackets, with commas between them, are taken apart again.
-use Rattle.std.proofs.Common.{◌≡◌, ℕ, zero, suc, ◌+◌, ◌<◌, false, inl, List, [], ◌∷◌, ◌++◌, length, Some, refl, sym, ap, ◌∙◌, append_assoc, arith}
-use Rattle.std.specs.Prelude.{Option, ◌==◌}
+use Rattle.std.proofs.Common.{◌≡◌, ℕ, zero, suc, ◌+◌, ◌<◌, false, inl, List, [], ◌∷◌, ◌++◌, length, Some, refl, sym, ap, ◌∙◌, append_assoc, arith, Option, ◌==◌, length-append}
 use Rattle.std.proofs.Math.Seq.{take-append_seam, drop-append_seam}
-use Rattle.std.proofs.lemmas.List.{length-append}
 use Rattle.beam_model.specs.declared.lex_state.LexState.TheVariants as inside
-use Rattle.beam_model.specs.TextReading.{after_blanks}
-use Rattle.beam_model.specs.Forms.{stop_from, stop_in, elements_after, element_by, elements_from, elements_within, bracketed_elements}
+use Rattle.beam_model.specs.Prelude.{after_blanks, stop_from, stop_in, elements_after, element_by, elements_from, elements_within, bracketed_elements}
 use Rattle.beam_erltext.proofs.Texts.{differ}
 use Rattle.beam_erltext.proofs.TermRoundTrip.{Begins, no_blanks}
 use Rattle.beam_listing.proofs.Traces.{Brackets, square, brace, left, right, Safe, stop_behind}

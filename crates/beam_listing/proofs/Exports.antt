@@ -1,23 +1,17 @@
 -- The label of a lawful export is the entry of the first function of its name and arity.
-use Rattle.std.proofs.Common.{◌≡◌, ℕ, Bool, true, false, cond, List, [], ◌∷◌, ◌++◌, refl, ap, ◌∙◌}
-use Rattle.std.specs.Prelude.{map, not, ◌==◌, ◌&&◌, ◌||◌}
+use Rattle.std.proofs.Common.{◌≡◌, Bool, true, false, cond, List, [], ◌∷◌, ◌++◌, refl, ap, ◌∙◌, map, not, ◌==◌, ◌&&◌, ◌||◌, eqb-true, eq-eqb}
 use Rattle.std.specs.List.{list_any, list_all}
-use Rattle.std.proofs.lemmas.Bool.{eqb-true, eq-eqb}
 use Rattle.std.proofs.lemmas.List.Folds.{list_any-append}
 use Rattle.std.proofs.lemmas.Slice.Eq.{bytes_eq-Decides}
+use Rattle.std.proofs.lemmas.Bool.{and_parts, or_left}
+use Rattle.beam_lemmas.proofs.SameText.{text_is}
 use Rattle.beam_model.specs.declared.function.Export.{Export}
 use Rattle.beam_model.specs.declared.function.Function.{Function}
 use Rattle.beam_model.specs.declared.function.Signature.{Signature}
-use Rattle.beam_model.specs.SameText.{same_text}
-use Rattle.beam_model.specs.Loadable.{signature_of, same_signature, are_signatures_new, exported, is_entry, is_entry_of}
-use Rattle.beam_model.specs.ListingReading.{entry_label_of, export_by}
+use Rattle.beam_model.specs.Prelude.{same_text, signature_of, same_signature, are_signatures_new, exported, is_entry, is_entry_of, entry_label_of, export_by}
 use Rattle.beam_listing.proofs.HeadForms.{signature_by, signatures_by}
 
 -- ---- tests
-
-pub split_and : (a b : Bool) → (a && b) ≡ true → (a ≡ true) × (b ≡ true)
-split_and true b e = (refl, e)
-split_and false b e = absurd cc
 
 split_not : (a b : Bool) → (not a && b) ≡ true → (a ≡ false) × (b ≡ true)
 split_not true b e = absurd cc
@@ -25,13 +19,6 @@ split_not false b e = (refl, e)
 
 no_test : (a : Bool) → a ≡ true → a ≡ false → ⊥
 no_test a e f = cc
-
-pub text_is : (s t : List ℕ) → same_text s t ≡ true → s ≡ t
-text_is s t e = (bytes_eq-Decides s t).0 e
-
-or_true : (a b : Bool) → a ≡ true → (a || b) ≡ true
-or_true true b e = refl
-or_true false b e = absurd cc
 
 -- ---- functions of one name and arity
 
@@ -43,8 +30,8 @@ record IsEntry (f : Function) (e : Export) : Type 0 where
 
 entry_is : (f : Function) (e : Export) → is_entry f (exported e) ≡ true → IsEntry f e
 entry_is f e is =
-    let a = split_and (same_text f.name e.name) (f.arity == e.arity && f.entry == e.label) is in
-    let b = split_and (f.arity == e.arity) (f.entry == e.label) a.1 in
+    let a = and_parts (same_text f.name e.name) (f.arity == e.arity && f.entry == e.label) is in
+    let b = and_parts (f.arity == e.arity) (f.entry == e.label) a.1 in
     record { name = text_is f.name e.name a.0; arity = eqb-true f.arity e.arity b.0; entry = eqb-true f.entry e.label b.1 }
 
 signature_is : (f : Function) (e : Export) → f.name ≡ e.name → f.arity ≡ e.arity → signature_of f ≡ signature_by e
@@ -62,7 +49,7 @@ clash_by true g rest before e same there new is others =
 clash_by false g rest before e same there new is others =
     let split = split_not (list_any (same_signature (signature_of g)) before) (are_signatures_new (before ++ signature_of g ∷ []) (map signature_of rest)) new in
     let longer : list_any (same_signature (signature_by e)) (before ++ signature_of g ∷ []) ≡ true =
-    list_any-append (same_signature (signature_by e)) before (signature_of g ∷ []) ∙ or_true (list_any (same_signature (signature_by e)) before) (list_any (same_signature (signature_by e)) (signature_of g ∷ [])) there in
+    list_any-append (same_signature (signature_by e)) before (signature_of g ∷ []) ∙ or_left (list_any (same_signature (signature_by e)) before) (list_any (same_signature (signature_by e)) (signature_of g ∷ [])) there in
     others longer split.1 is
 
 clash : (rest : List Function) (before : List Signature) (e : Export) → list_any (same_signature (signature_by e)) before ≡ true
@@ -98,7 +85,7 @@ entry_by : (a b : Bool) (f : Function) (rest : List Function) (before : List Sig
     → cond a f.entry (entry_label_of rest (signature_by e)) ≡ e.label
 entry_by true true f rest before e named same is new others = (entry_is f e same).entry
 entry_by true false f rest before e named same is new others =
-    let n = split_and (same_text f.name e.name) (f.arity == e.arity) named in
+    let n = and_parts (same_text f.name e.name) (f.arity == e.arity) named in
     absurd (clash rest (before ++ signature_of f ∷ []) e (known_by f before e (text_is f.name e.name n.0) (eqb-true f.arity e.arity n.1)) new is)
 entry_by false true f rest before e named same is new others = absurd (no_test (same_text f.name e.name && f.arity == e.arity) (part_named f e same) named)
   where
@@ -120,7 +107,7 @@ entry_again (f ∷ rest) before e new is =
 pub labels_again : (fs : List Function) (es : List Export) → are_signatures_new [] (map signature_of fs) ≡ true → list_all (is_entry_of fs) es ≡ true → map (export_by fs) (signatures_by es) ≡ es
 labels_again fs [] new are = refl
 labels_again fs (e ∷ es) new are =
-    let split = split_and (is_entry_of fs e) (list_all (is_entry_of fs) es) are in
+    let split = and_parts (is_entry_of fs e) (list_all (is_entry_of fs) es) are in
     let label : entry_label_of fs (signature_by e) ≡ e.label = entry_again fs [] e new split.0 in
     let others : map (export_by fs) (signatures_by es) ≡ es = labels_again fs es new split.1 in
     λ k. record { name = e.name; arity = e.arity; label = label k } ∷ others k

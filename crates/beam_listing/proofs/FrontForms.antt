@@ -1,32 +1,20 @@
 -- Forms are read exactly from the text in which they stand.
-use Rattle.std.proofs.Common.{◌≡◌, ℕ, ◌≤◌, Bool, true, false, cond, List, [], ◌∷◌, ◌++◌, length, take, drop, Option, Some, None, Result, Ok, Err, refl, sym, ap, subst, ◌∙◌, append_assoc, arith}
-use Rattle.std.specs.Prelude.{◌==◌, ◌&&◌}
+use Rattle.std.proofs.Common.{◌≡◌, ℕ, ◌≤◌, Bool, true, false, cond, List, [], ◌∷◌, ◌++◌, length, take, drop, Option, Some, None, Result, Ok, Err, refl, sym, ap, subst, ◌∙◌, append_assoc, arith, ◌==◌, eqb-true, take_at, drop_at, take-append-drop, length-take, length-drop, length-append}
 use Rattle.std.specs.List.{list_all}
-use Rattle.std.proofs.lemmas.Bool.{eqb-true}
-use Rattle.std.proofs.lemmas.List.{take_at, drop_at, take-append-drop, length-take, length-drop, length-append}
-use Rattle.beam_model.specs.Forms.{stop_in}
-use Rattle.beam_model.specs.ListingReading.{ListingFault, syntax, ended_form, form_up_to, listing_form_at, meant, next_form}
+use Rattle.std.proofs.lemmas.Bool.{and_parts}
+use Rattle.beam_lemmas.proofs.Steps.{bind_ok}
+use Rattle.beam_model.specs.Prelude.{stop_in, ListingFault, syntax, ended_form, form_up_to, listing_form_at, meant, next_form, is_blank, after_blanks}
 use Rattle.beam_model.specs.Reading.{◌>>=◌}
-use Rattle.beam_model.specs.TextReading.{is_blank, after_blanks}
-use Rattle.beam_listing.specs.BracketForm.{HasNoMargin, AreBlanks, IsBalanced}
-use Rattle.beam_listing.specs.ListingForm.{IsForm}
+use Rattle.beam_listing.specs.Prelude.{HasNoMargin, AreBlanks, IsBalanced, IsForm}
 use Rattle.beam_listing.proofs.Balanced.{balanced_told, balanced_read}
 
 -- ---- steps of reading
-
-pub bind_ok : {A B : Type 0} (r : Result A ListingFault) (f : A → Result B ListingFault) (y : B) → (r >>= f) ≡ Ok y → (x : A) × (r ≡ Ok x) × (f x ≡ Ok y)
-bind_ok (Ok x) f y e = (x, refl, e)
-bind_ok (Err d) f y e = absurd cc
 
 abbrev pub done : {A : Type 0} → A → Result A ListingFault
 done x = Ok x
 
 pub ok_is : {A : Type 0} (x y : A) → done x ≡ done y → x ≡ y
 ok_is x y e = cc
-
-both_true : (p q : Bool) → (p && q) ≡ true → (p ≡ true) × (q ≡ true)
-both_true true q h = (refl, h)
-both_true false q h = absurd cc
 
 -- ---- blanks
 
@@ -59,7 +47,7 @@ unfolding after_blanks
 after_margin [] [] a h = refl
 after_margin [] (c ∷ cs) a h = rw h refl
 after_margin (c ∷ blanks) rest a h =
-    let both = both_true (is_blank c) (list_all is_blank blanks) a in
+    let both = and_parts (is_blank c) (list_all is_blank blanks) a in
     let first = both.0 in
     rw first (after_margin blanks rest both.1 h)
 

@@ -1,9 +1,6 @@
 -- Readers of at most n elements, after m of them were read.
-use Rattle.std.proofs.Common.{◌≡◌, ℕ, zero, suc, ◌<◌, ◌-◌, ◌+◌, List, length, Ok, Err, if◌then◌else◌, refl, arith}
-use Rattle.std.specs.Prelude.{◌==◌, ◌||◌}
-use Rattle.beam_model.specs.Forms.{element_by, elements_from, list_parts}
-use Rattle.beam_model.specs.ListingForms.{headed_of}
-use Rattle.beam_model.specs.ListingReading.{syntax, is_term, is_partial_tuple, is_partial_list, is_partial_term, ListingBody, body_by, body_from}
+use Rattle.std.proofs.Common.{◌≡◌, ℕ, zero, suc, ◌<◌, ◌-◌, ◌+◌, List, length, Ok, Err, if◌then◌else◌, refl, arith, ◌==◌, ◌||◌}
+use Rattle.beam_model.specs.Prelude.{element_by, elements_from, list_parts, headed_of, syntax, is_term, is_partial_tuple, is_partial_list, is_partial_term, ListingBody, body_by, body_from}
 
 pub elements_from_is : (n m close : ℕ) (elements : List (List ℕ)) (text : List ℕ) → m < n → elements_from (n - m) close elements text ≡ element_by (elements_from (n - (m + 1)) close) close elements text
 unfolding elements_from

@@ -1,27 +1,15 @@
 -- The functions whose lines are printed are those of the listing, where its heads are lawful.
-use Rattle.std.proofs.Common.{◌≡◌, ℕ, Bool, true, false, List, [], ◌∷◌, ◌++◌, Some, refl, sym, ap, ◌∙◌, append_assoc, append-nil}
-use Rattle.std.specs.Prelude.{Option, None, option_map, option_and_then, is_some, unwrap_or, if◌then◌else◌}
+use Rattle.std.proofs.Common.{◌≡◌, ℕ, Bool, true, false, List, [], ◌∷◌, ◌++◌, Some, refl, sym, ap, ◌∙◌, append_assoc, append-nil, Option, None, option_map, is_some, unwrap_or, if◌then◌else◌}
+use Rattle.std.proofs.lemmas.Option.{same_Some}
+use Rattle.beam_lemmas.proofs.Options.{chained, mapped}
 use Rattle.beam_model.specs.declared.function.Function.{Function}
 use Rattle.beam_model.specs.declared.instruction.Operand.{Operand}
 use Rattle.beam_model.specs.declared.instruction.Instruction.{Instruction}
 use Rattle.beam_model.specs.declared.opcode.Opcode.{Opcode}
+use Rattle.beam_model.specs.Prelude.{label_by, label_of, same_text, Stage, start, first_label, informed, body, body_label, atom_in, number_in, informed_from, informed_by, after_first_label, within_body, after_body_label, next_stage, function_at, functions_from, after_leading_lines, front_label_or_zero}
 use Rattle.beam_model.specs.declared.opcode.Opcode.TheVariants as op
-use Rattle.beam_model.specs.Listing.{label_by, label_of}
-use Rattle.beam_model.specs.SameText.{same_text}
-use Rattle.beam_model.specs.Loadable.{Stage, start, first_label, informed, body, body_label, atom_in, number_in, informed_from, informed_by, after_first_label, within_body, after_body_label, next_stage, function_at, functions_from}
-use Rattle.beam_model.specs.ListingText.{after_leading_lines, front_label_or_zero}
 use Rattle.beam_listing.proofs.Printed.{named_function, informed_function, function_in, function_before}
 use Rattle.beam_listing.proofs.Added.{IsLed, functions_in}
-
--- ---- options
-
-pub stepped : {A B : Type 0} (f : A → Option B) (o : Option A) (y : B) → option_and_then f o ≡ Some y → (x : A) × (o ≡ Some x) × (f x ≡ Some y)
-stepped f (Some x) y e = (x, refl, e)
-stepped f None y e = absurd cc
-
-pub mapped : {A B : Type 0} (f : A → B) (o : Option A) (y : B) → option_map f o ≡ Some y → (x : A) × (o ≡ Some x) × (f x ≡ y)
-mapped f (Some x) y e = (x, refl, cc)
-mapped f None y e = absurd cc
 
 -- ---- functions whose lines were printed
 
@@ -74,23 +62,20 @@ from_func_info name (m ∷ f ∷ a ∷ o ∷ os) next rest e = absurd cc
 at_stage : (s next : Stage) (rest : List Instruction) → s ≡ next → ahead next rest ≡ ahead s rest
 at_stage s next rest same = ap (λ (t : Stage). ahead t rest) (sym same)
 
-some_is : (s next : Stage) → Some s ≡ Some next → s ≡ next
-some_is s next e = cc
-
 from_nothing : (label : Option ℕ) (next : Stage) (rest : List Instruction) → option_map (λ n. first_label) label ≡ Some next → ahead next rest ≡ if_label label rest
-from_nothing (Some n) next rest e = at_stage first_label next rest (some_is first_label next e)
+from_nothing (Some n) next rest e = at_stage first_label next rest (same_Some first_label next e)
 from_nothing None next rest e = absurd cc
 
 from_first_label : (name : List ℕ) (o : Opcode) (os : List Operand) (next : Stage) (rest : List Instruction) → after_first_label name o os ≡ Some next
     → ahead next rest ≡ function_in (after_leading_lines (made o os ∷ rest)) ++ if_label (label_by o os) rest
-from_first_label name op.Line os next rest e = at_stage first_label next rest (some_is first_label next e) ∙ sym (append-nil (function_in (after_leading_lines rest)))
+from_first_label name op.Line os next rest e = at_stage first_label next rest (same_Some first_label next e) ∙ sym (append-nil (function_in (after_leading_lines rest)))
 from_first_label name op.FuncInfo os next rest e = from_func_info name os next rest e ∙ sym (append-nil (informed_function os (front_label_or_zero rest)))
 from_first_label name _ os next rest e = absurd cc
 
 from_informed : (label : Option ℕ) (f : Function) (next : Stage) (rest : List Instruction) → option_map (λ n. body) label ≡ Some next
     → (body ≡ next → function_in (after_leading_lines rest) ≡ []) → f ∷ ahead next rest ≡ f ∷ if_label label rest
 from_informed (Some n) f next rest e none =
-    let same : body ≡ next = some_is body next e in
+    let same : body ≡ next = same_Some body next e in
     ap (λ (fs : List Function). f ∷ fs) (at_stage body next rest same ∙ sym (none same))
 from_informed None f next rest e none = absurd cc
 
@@ -99,25 +84,25 @@ numbered (Some n) rest e = refl
 numbered None rest e = absurd cc
 
 from_body : (o : Opcode) (os : List Operand) (next : Stage) (rest : List Instruction) → IsNumbered o os → within_body o ≡ Some next → ahead next rest ≡ if_label (label_by o os) rest
-from_body op.Label os next rest is e = at_stage body_label next rest (some_is body_label next e) ∙ sym (numbered (label_by op.Label os) rest is)
+from_body op.Label os next rest is e = at_stage body_label next rest (same_Some body_label next e) ∙ sym (numbered (label_by op.Label os) rest is)
 from_body op.FuncInfo os next rest is e = absurd cc
 from_body op.IntCodeEnd os next rest is e = absurd cc
-from_body _ os next rest is e = at_stage body next rest (some_is body next e)
+from_body _ os next rest is e = at_stage body next rest (same_Some body next e)
 
 from_body_label : (name : List ℕ) (o : Opcode) (os : List Operand) (next : Stage) (rest : List Instruction) → IsNumbered o os → after_body_label name o os ≡ Some next
     → ahead next rest ≡ function_in (after_leading_lines (made o os ∷ rest)) ++ if_label (label_by o os) rest
-from_body_label name op.Label os next rest is e = at_stage body_label next rest (some_is body_label next e) ∙ sym (numbered (label_by op.Label os) rest is)
-from_body_label name op.Line os next rest is e = at_stage body_label next rest (some_is body_label next e) ∙ sym (append-nil (function_in (after_leading_lines rest)))
+from_body_label name op.Label os next rest is e = at_stage body_label next rest (same_Some body_label next e) ∙ sym (numbered (label_by op.Label os) rest is)
+from_body_label name op.Line os next rest is e = at_stage body_label next rest (same_Some body_label next e) ∙ sym (append-nil (function_in (after_leading_lines rest)))
 from_body_label name op.FuncInfo os next rest is e = from_func_info name os next rest e ∙ sym (append-nil (informed_function os (front_label_or_zero rest)))
 from_body_label name op.IntCodeEnd os next rest is e = absurd cc
-from_body_label name _ os next rest is e = at_stage body next rest (some_is body next e)
+from_body_label name _ os next rest is e = at_stage body next rest (same_Some body next e)
 
 -- ---- after an entry label
 
 -- no func_info stands after the lines of a body
 body_one : (o : Opcode) (os : List Operand) (next : Stage) (rest : List Instruction) → within_body o ≡ Some next → (body ≡ next → function_in (after_leading_lines rest) ≡ [])
     → function_in (after_leading_lines (made o os ∷ rest)) ≡ []
-body_one op.Line os next rest e others = others (some_is body next e)
+body_one op.Line os next rest e others = others (same_Some body next e)
 body_one op.FuncInfo os next rest e others = absurd cc
 body_one _ os next rest e others = refl
 
@@ -127,7 +112,7 @@ from_next name s i rest next = option_map (λ gs. function_at s i ++ gs) (functi
 body_none : (name : List ℕ) (is : List Instruction) (fs : List Function) → functions_from name body is ≡ Some fs → function_in (after_leading_lines is) ≡ []
 body_none name [] fs e = refl
 body_none name (i ∷ rest) fs e =
-    let s = stepped (from_next name body i rest) (next_stage name body i) fs e in
+    let s = chained (from_next name body i rest) (next_stage name body i) fs e in
     let t = mapped (λ gs. function_at body i ++ gs) (functions_from name s.0 rest) fs s.2 in
     body_one i.opcode i.operands s.0 rest s.1 (λ same. body_none name rest t.0 (ap (λ (stage : Stage). functions_from name stage rest) same ∙ t.1))
 
@@ -156,7 +141,7 @@ functions_are name (informed f a) [] fs are e = absurd cc
 functions_are name body [] fs are e = nothing_left fs e
 functions_are name body_label [] fs are e = nothing_left fs e
 functions_are name s (i ∷ rest) fs are e =
-    let n = stepped (from_next name s i rest) (next_stage name s i) fs e in
+    let n = chained (from_next name s i rest) (next_stage name s i) fs e in
     let t = mapped (λ gs. function_at s i ++ gs) (functions_from name n.0 rest) fs n.2 in
     let again : t.0 ≡ ahead n.0 rest ++ functions_in rest = functions_are name n.0 rest t.0 are.1 t.1 in
     sym t.2 ∙ ap (λ (gs : List Function). function_at s i ++ gs) again
@@ -181,24 +166,24 @@ func_info_some name (m ∷ f ∷ a ∷ o ∷ os) entry next e = absurd cc
 
 first_one : (name : List ℕ) (o : Opcode) (os : List Operand) (next : Stage) (rest : List Instruction) → after_first_label name o os ≡ Some next
     → (first_label ≡ next → IsLed (function_in (after_leading_lines rest))) → IsLed (function_in (after_leading_lines (made o os ∷ rest)))
-first_one name op.Line os next rest e others = others (some_is first_label next e)
+first_one name op.Line os next rest e others = others (same_Some first_label next e)
 first_one name op.FuncInfo os next rest e others = func_info_some name os (front_label_or_zero rest) next e
 first_one name _ os next rest e others = absurd cc
 
 first_some : (name : List ℕ) (is : List Instruction) (fs : List Function) → functions_from name first_label is ≡ Some fs → IsLed (function_in (after_leading_lines is))
 first_some name [] fs e = absurd cc
 first_some name (i ∷ rest) fs e =
-    let s = stepped (from_next name first_label i rest) (next_stage name first_label i) fs e in
+    let s = chained (from_next name first_label i rest) (next_stage name first_label i) fs e in
     let t = mapped (λ gs. function_at first_label i ++ gs) (functions_from name s.0 rest) fs s.2 in
     first_one name i.opcode i.operands s.0 rest s.1 (λ same. first_some name rest t.0 (ap (λ (stage : Stage). functions_from name stage rest) same ∙ t.1))
 
 label_some : (label : Option ℕ) (next : Stage) (rest : List Instruction) → option_map (λ n. first_label) label ≡ Some next → (first_label ≡ next → IsLed (function_in (after_leading_lines rest))) → IsLed (if_label label rest)
-label_some (Some n) next rest e others = others (some_is first_label next e)
+label_some (Some n) next rest e others = others (same_Some first_label next e)
 label_some None next rest e others = absurd cc
 
 -- a function's line stands in front of the first instruction
 pub begins : (name : List ℕ) (i : Instruction) (rest : List Instruction) (fs : List Function) → functions_from name start (i ∷ rest) ≡ Some fs → IsLed (function_before i rest)
 begins name i rest fs e =
-    let s = stepped (from_next name start i rest) (next_stage name start i) fs e in
+    let s = chained (from_next name start i rest) (next_stage name start i) fs e in
     let t = mapped (λ gs. function_at start i ++ gs) (functions_from name s.0 rest) fs s.2 in
     label_some (label_of i) s.0 rest s.1 (λ same. first_some name rest t.0 (ap (λ (stage : Stage). functions_from name stage rest) same ∙ t.1))

@@ -1,20 +1,14 @@
 -- Printed forms are found again, and the heads of a listing are read again.
-use Rattle.std.proofs.Common.{◌≡◌, ℕ, ◌+◌, ◌^◌, ◌<◌, inr, List, [], ◌∷◌, ◌++◌, length, Some, Ok, refl, sym, ap, ◌∙◌, subst, append_assoc, append-nil, arith}
-use Rattle.std.specs.Prelude.{Option, codes}
+use Rattle.std.proofs.Common.{◌≡◌, ℕ, ◌+◌, ◌^◌, ◌<◌, inr, List, [], ◌∷◌, ◌++◌, length, Some, Ok, refl, sym, ap, ◌∙◌, subst, append_assoc, append-nil, arith, Option, codes}
 use Rattle.std.specs.Fmt.{decimal}
-use Rattle.std.specs.Str.{chars, is_utf8}
+use Rattle.std.specs.Str.{is_utf8, chars}
 use Rattle.std.proofs.Math.Seq.{take-append_seam, drop-append_seam}
-use Rattle.beam_term.specs.Atom.{IsAtomText}
+use Rattle.beam_term.specs.Prelude.{IsAtomText}
 use Rattle.beam_model.specs.declared.lex_state.LexState.TheVariants as inside
 use Rattle.beam_model.specs.declared.function.Export.{Export}
 use Rattle.beam_model.specs.declared.function.Signature.{Signature}
-use Rattle.beam_model.specs.Text.{is_reserved, atom_text}
-use Rattle.beam_model.specs.TextReading.{after_blanks}
-use Rattle.beam_model.specs.Forms.{stop_from, stop_in, tuple_parts}
-use Rattle.beam_model.specs.ListingText.{tagged, export_text, exports_text}
-use Rattle.beam_model.specs.ListingForms.{part_of, module_of, signature_of_text, signatures_from, exports_of, attributes_of, labels_of}
-use Rattle.beam_model.specs.ListingReading.{listing_form_at, next_form}
-use Rattle.beam_listing.specs.Typed.{IsExport}
+use Rattle.beam_model.specs.Prelude.{is_reserved, atom_text, after_blanks, stop_from, stop_in, tuple_parts, tagged, export_text, exports_text, part_of, module_of, signature_of_text, signatures_from, exports_of, attributes_of, labels_of, listing_form_at, next_form}
+use Rattle.beam_listing.specs.Prelude.{IsExport}
 use Rattle.beam_listing.proofs.Traces.{square, brace, stop_behind}
 use Rattle.beam_listing.proofs.Elements.{IsPart, AreParts, closed, parts_again}
 use Rattle.beam_listing.proofs.Operands.{IsWord, word, word_part, number_whole, number_part, atom_whole, atom_part, tagged_part, tagged_headed}

@@ -1,15 +1,14 @@
 -- The heads are read exactly as they stand.
-use Rattle.std.proofs.Common.{◌≡◌, ℕ, List, [], ◌∷◌, ◌++◌, Some, refl, sym, ap, subst, ◌∙◌, append_assoc, append-nil}
-use Rattle.std.specs.Prelude.{codes}
+use Rattle.std.proofs.Common.{◌≡◌, ℕ, List, [], ◌∷◌, ◌++◌, Some, refl, sym, ap, subst, ◌∙◌, append_assoc, append-nil, codes}
+use Rattle.std.proofs.lemmas.Option.{same_Some}
 use Rattle.beam_model.specs.declared.function.Signature.{Signature}
-use Rattle.beam_model.specs.Forms.{◌>>=◌, tuple_parts, list_parts}
-use Rattle.beam_model.specs.ListingForms.{atom_of_text, number_of_text, part_of, module_of, signature_of_parts, signature_of_text, signatures_from, exports_of, attributes_of, labels_of}
-use Rattle.beam_listing.specs.BracketForm.{AreBracketed, AreEach}
-use Rattle.beam_listing.specs.ItemForm.{IsModuleForm, IsSignature, IsExportsForm, IsAttributesForm, IsLabelsForm}
+use Rattle.beam_model.specs.Prelude.{tuple_parts, list_parts, atom_of_text, number_of_text, part_of, module_of, signature_of_parts, signature_of_text, signatures_from, exports_of, attributes_of, labels_of}
+use Rattle.beam_model.specs.Forms.{◌>>=◌}
+use Rattle.beam_listing.specs.Prelude.{AreBracketed, AreEach, IsModuleForm, IsSignature, IsExportsForm, IsAttributesForm, IsLabelsForm}
 use Rattle.beam_listing.proofs.Bracketed.{tuple_told, tuple_read, list_told, list_read}
 use Rattle.beam_listing.proofs.FrontForms.{Means}
 use Rattle.beam_listing.proofs.OperandMeans.{Further}
-use Rattle.beam_listing.proofs.PartMeans.{some_is, bind_some, atom_told, atom_read, number_told, number_read, part_told, part_read}
+use Rattle.beam_listing.proofs.PartMeans.{bind_some, atom_told, atom_read, number_told, number_read, part_told, part_read}
 
 -- ---- names and counts
 
@@ -54,7 +53,7 @@ signature_by_told (f ∷ []) s text are e = absurd cc
 signature_by_told (f ∷ a ∷ []) s text are e =
     let w = bind_some (atom_of_text f) (λ (name : List ℕ). number_of_text a >>= λ n. Some (made name n)) s e in
     let n = bind_some (number_of_text a) (λ (n : ℕ). Some (made w.0 n)) s w.2 in
-    subst (λ (z : Signature). IsSignature z text) (some_is (made w.0 n.0) s n.2)
+    subst (λ (z : Signature). IsSignature z text) (same_Some (made w.0 n.0) s n.2)
     (record { name_part = f; arity_part = a; in_braces = are; is_name = atom_told f w.0 w.1; is_arity = number_told a n.0 n.1 })
 signature_by_told (f ∷ a ∷ b ∷ ps) s text are e = absurd cc
 
@@ -72,7 +71,7 @@ signature_read text s is =
 
 signatures_told : (before all : List Signature) (texts : List (List ℕ)) → signatures_from before texts ≡ Some all → Further IsSignature before all texts
 unfolding signatures_from
-signatures_told before all [] e = record { others = []; sum = sym (some_is before all e) ∙ sym (append-nil before); are = tt }
+signatures_told before all [] e = record { others = []; sum = sym (same_Some before all e) ∙ sym (append-nil before); are = tt }
 signatures_told before all (text ∷ texts) e =
     let s = bind_some (signature_of_text text) (λ (s : Signature). signatures_from (before ++ s ∷ []) texts) all e in
     let r = signatures_told (before ++ s.0 ∷ []) all texts s.2 in

@@ -1,25 +1,23 @@
 -- A form that is read as an instruction is the form of that instruction.
-use Rattle.std.proofs.Common.{◌≡◌, inl, inr, ◌⊎◌, ℕ, Bool, true, false, cond, List, [], ◌∷◌, ◌++◌, length, Option, Some, None, refl, sym, ap, subst, ◌∙◌, arith}
-use Rattle.std.specs.Prelude.{codes, find, ◌==◌, ◌&&◌, nat_lt}
-use Rattle.std.proofs.lemmas.Bool.{eqb-true}
+use Rattle.std.proofs.Common.{◌≡◌, inl, inr, ◌⊎◌, ℕ, Bool, true, false, cond, List, [], ◌∷◌, ◌++◌, length, Option, Some, None, refl, sym, ap, subst, ◌∙◌, arith, codes, find, ◌==◌, ◌&&◌, nat_lt, eqb-true}
 use Rattle.std.proofs.lemmas.Bool.Decides.{nat_tests}
+use Rattle.std.proofs.lemmas.Bool.{and_parts}
+use Rattle.std.proofs.lemmas.Option.{same_Some}
+use Rattle.beam_lemmas.proofs.SameText.{text_is}
 use Rattle.beam_model.specs.declared.instruction.Operand.{Operand}
 use Rattle.beam_model.specs.declared.instruction.Instruction.{Instruction}
 use Rattle.beam_model.specs.declared.opcode.Opcode.{Opcode}
+use Rattle.beam_model.specs.Prelude.{same_text, shape_of, name_of, kinds_of, opcodes, opcode_of, opcode_named, list_parts, atom_of_text, only, label_of_text, operands_from, instruction_of_parts, is_plain_shape, is_test_shape, is_bif0_shape, is_bif_shape, is_gc_bif_shape, plain_of, test_of, raise_by, raise_of_text, counted, bif0_of, bif_by, is_raise_call, bif_of, gc_bif_of, line_instruction, instruction_by}
 use Rattle.beam_model.specs.declared.opcode.Opcode.TheVariants as op
 use Rattle.beam_model.specs.declared.shape.Shape.{Shape}
 use Rattle.beam_model.specs.declared.shape.Shape.TheVariants as shape
-use Rattle.beam_model.specs.SameText.{same_text}
-use Rattle.beam_model.specs.ListingShapes.{shape_of}
-use Rattle.beam_model.specs.Opcodes.{name_of, kinds_of, opcodes, opcode_of, opcode_named}
-use Rattle.beam_model.specs.Forms.{◌>>=◌, list_parts}
-use Rattle.beam_model.specs.ListingForms.{atom_of_text, only, label_of_text, operands_from, instruction_of_parts, is_plain_shape, is_test_shape, is_bif0_shape, is_bif_shape, is_gc_bif_shape, is_end, plain_of, test_of, raise_by, raise_of_text, counted, bif0_of, bif_by, is_raise_call, bif_of, gc_bif_of, line_instruction, instruction_by}
-use Rattle.beam_listing.specs.BracketForm.{AreListed}
-use Rattle.beam_listing.specs.OperandForm.{IsAtom, IsHeaded, AreOperands}
-use Rattle.beam_listing.specs.ItemForm.{IsCall, IsRaiseBif, IsShaped, IsInstructionForm}
+use Rattle.beam_model.specs.Forms.{◌>>=◌}
+use Rattle.beam_model.specs.ListingForms.{is_end}
+use Rattle.beam_listing.specs.Prelude.{AreListed, IsAtom, IsHeaded, IsCall, IsRaiseBif, IsShaped, IsInstructionForm}
+use Rattle.beam_listing.specs.OperandForm.{AreOperands}
 use Rattle.beam_listing.proofs.Bracketed.{list_told}
 use Rattle.beam_listing.proofs.OperandMeans.{label_told, operands_told}
-use Rattle.beam_listing.proofs.PartMeans.{some_is, bind_some, branches, same_is, is_same, both_true, renamed, atom_told, atom_read, only_told}
+use Rattle.beam_listing.proofs.PartMeans.{bind_some, branches, is_same, renamed, atom_told, atom_read, only_told}
 use Rattle.beam_listing.proofs.Written.{made}
 
 -- ---- opcodes
@@ -29,11 +27,11 @@ found_is p [] x e = absurd cc
 found_is {A = A} p (y ∷ ys) x e = by (p y) refl e (λ f. found_is p ys x f)
   where
     by : (b : Bool) → p y ≡ b → cond b (Some y) (find p ys) ≡ Some x → (find p ys ≡ Some x → p x ≡ true) → p x ≡ true
-    by true t f more = subst (λ (z : A). p z ≡ true) (some_is y x f) t
+    by true t f more = subst (λ (z : A). p z ≡ true) (same_Some y x f) t
     by false t f more = more f
 
 named_is : (name : List ℕ) (o : Opcode) → opcode_named name ≡ Some o → name ≡ name_of o
-named_is name o e = sym (same_is (name_of o) name (found_is (λ (p : Opcode). same_text (name_of p) name) opcodes o e))
+named_is name o e = sym (text_is (name_of o) name (found_is (λ (p : Opcode). same_text (name_of p) name) opcodes o e))
 
 plain_shape : (s : Shape) → is_plain_shape s ≡ true → s ≡ shape.Plain
 plain_shape shape.Plain e = refl
@@ -56,7 +54,7 @@ written_told false o texts i e = absurd cc
 written_told true o texts i e =
     let os = bind_some (operands_from [] (kinds_of o) texts) (λ (os : List Operand). Some (made o os)) i e in
     let r = operands_told [] os.0 (kinds_of o) texts os.1 in
-    (refl, record { operands = r.others; same = sym (some_is (made o os.0) i os.2) ∙ ap (made o) r.sum; are = r.are })
+    (refl, record { operands = r.others; same = sym (same_Some (made o os.0) i os.2) ∙ ap (made o) r.sum; are = r.are })
 
 shaped : (s : Shape) (o : Opcode) (texts : List (List ℕ)) (i : Instruction) (form : List ℕ) → shape_of o ≡ s → Made o texts i
     → ((os : List Operand) → AreOperands (kinds_of o) os texts → IsShaped s (made o os) form) → IsInstructionForm i form
@@ -131,7 +129,7 @@ unfolding bif0_of
 bif0_told name fail list dest i form is e =
     let label = bind_some (label_of_text fail) (λ (n : ℕ). opcode_of 9 >>= λ o. instruction_of_parts (n == 0 && is_bif0_shape (shape_of o)) o (name ∷ dest ∷ [])) i e in
     let w = written_told (label.0 == 0 && true) op.Bif0 (name ∷ dest ∷ []) i label.2 in
-    let none : label.0 ≡ 0 = eqb-true label.0 0 (both_true (label.0 == 0) true w.0).0 in
+    let none : label.0 ≡ 0 = eqb-true label.0 0 (and_parts (label.0 == 0) true w.0).0 in
     shaped shape.Bif0 op.Bif0 (name ∷ dest ∷ []) i form refl w.1 (λ os operands. record {
       name = name;
       fail = fail;
@@ -177,7 +175,7 @@ bif_by_told name fail list (a ∷ b ∷ c ∷ ds) dest i form is e =
 
 no_raise_told : (w name : List ℕ) (parts : List (List ℕ)) → IsAtom w name → is_raise_call w parts ≡ false → length parts ≡ 2 → IsAtom (codes "raise") name → ⊥
 no_raise_told w name parts is other count raise =
-    let same : w ≡ codes "raise" = some_is w (codes "raise") (sym (atom_read name w is) ∙ atom_read name (codes "raise") raise) in
+    let same : w ≡ codes "raise" = same_Some w (codes "raise") (sym (atom_read name w is) ∙ atom_read name (codes "raise") raise) in
     let call : is_raise_call w parts ≡ true = rw (count, is_same w (codes "raise") same) refl in
     let bad : true ≡ false = sym call ∙ other in
     cc (bad)
@@ -195,7 +193,7 @@ bif_told (name ∷ fail ∷ list ∷ dest ∷ []) i form is e =
     let atom = atom_told name w.0 w.1 in
     branches (is_raise_call w.0 ps.0) (raise_by ps.0) (bif_by name fail ps.0 dest) i ps.2
     (λ call f.
-    let raise = same_is w.0 (codes "raise") (both_true (length ps.0 == 2) (same_text w.0 (codes "raise")) call).1 in
+    let raise = text_is w.0 (codes "raise") (and_parts (length ps.0 == 2) (same_text w.0 (codes "raise")) call).1 in
     raise_by_told ps.0 list form i (inr (record { name = name; fail = fail; dest = dest; in_braces = is; is_name = subst (λ (v : List ℕ). IsAtom v name) raise atom })) are f)
     (λ other f. bif_by_told name fail list ps.0 dest i form (record { in_braces = is; are = are; other = no_raise_told w.0 name ps.0 atom other }) f)
 bif_told (a ∷ b ∷ c ∷ d ∷ x ∷ ps) i form is e = absurd cc
@@ -243,7 +241,7 @@ gc_bif_told _ i form is e = absurd cc (e)
 line_told : (parts : List (List ℕ)) (i : Instruction) (form : List ℕ) → IsHeaded (codes "line") parts form → (only parts >>= λ about. Some line_instruction) ≡ Some i → IsInstructionForm i form
 line_told parts i form is e =
     let about = bind_some (only parts) (λ (about : List ℕ). Some line_instruction) i e in
-    let same = some_is line_instruction i about.2 in
+    let same = same_Some line_instruction i about.2 in
     let line : IsInstructionForm line_instruction form =
     record { about = about.0; in_braces = subst (λ (ps : List (List ℕ)). IsHeaded (codes "line") ps form) (only_told parts about.0 about.1) is; same = refl } in
     subst (λ (j : Instruction). IsInstructionForm j form) same line

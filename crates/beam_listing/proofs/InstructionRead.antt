@@ -1,30 +1,26 @@
 -- The form of an instruction is read as that instruction.
-use Rattle.std.proofs.Common.{◌≡◌, ◌≢◌, inl, inr, ◌⊎◌, ℕ, Bool, true, false, List, [], ◌∷◌, ◌++◌, length, Option, Some, refl, sym, ap, subst, ◌∙◌, arith}
-use Rattle.std.specs.Prelude.{codes, ◌==◌, not}
-use Rattle.std.proofs.lemmas.Bool.{eqb-true}
-use Rattle.std.proofs.lemmas.List.{length-append}
+use Rattle.std.proofs.Common.{◌≡◌, ◌≢◌, inl, inr, ◌⊎◌, ℕ, Bool, true, false, List, [], ◌∷◌, ◌++◌, length, Option, Some, refl, sym, ap, subst, ◌∙◌, arith, codes, ◌==◌, not, eqb-true, length-append}
+use Rattle.std.proofs.lemmas.Bool.{and_parts}
+use Rattle.beam_lemmas.proofs.SameText.{text_is}
 use Rattle.beam_model.specs.declared.instruction.Operand.{Operand}
-use Rattle.beam_model.specs.declared.instruction.Operand.TheVariants as operand
 use Rattle.beam_model.specs.declared.instruction.Instruction.{Instruction}
 use Rattle.beam_model.specs.declared.item.Item.{Item}
-use Rattle.beam_model.specs.declared.item.Item.TheVariants as item
 use Rattle.beam_model.specs.declared.opcode.Opcode.{Opcode}
-use Rattle.beam_model.specs.declared.opcode.Opcode.TheVariants as op
 use Rattle.beam_model.specs.declared.opcode.Kind.{Kind}
+use Rattle.beam_model.specs.Prelude.{same_text, shape_of, name_of, kinds_of, headed_of, is_plain_shape, is_test_shape, plain_of, test_of, raise_by, raise_of_text, counted, bif0_of, bif_by, is_raise_call, bif_of, gc_bif_of, line_instruction, instruction_by, item_by, bare_item, item_of}
+use Rattle.beam_model.specs.declared.instruction.Operand.TheVariants as operand
+use Rattle.beam_model.specs.declared.item.Item.TheVariants as item
+use Rattle.beam_model.specs.declared.opcode.Opcode.TheVariants as op
 use Rattle.beam_model.specs.declared.opcode.Kind.TheVariants as kind
 use Rattle.beam_model.specs.declared.shape.Shape.{Shape}
 use Rattle.beam_model.specs.declared.shape.Shape.TheVariants as shape
-use Rattle.beam_model.specs.SameText.{same_text}
-use Rattle.beam_model.specs.ListingShapes.{shape_of}
-use Rattle.beam_model.specs.Opcodes.{name_of, kinds_of}
-use Rattle.beam_model.specs.ListingForms.{headed_of, is_plain_shape, is_test_shape, is_end, plain_of, test_of, raise_by, raise_of_text, counted, bif0_of, bif_by, is_raise_call, bif_of, gc_bif_of, line_instruction, instruction_by, item_by, bare_item, item_of}
-use Rattle.beam_listing.specs.BracketForm.{AreListed}
-use Rattle.beam_listing.specs.OperandForm.{IsAtom, IsHeaded, IsLabel, AreOperands}
-use Rattle.beam_listing.specs.ItemForm.{IsCall, IsPlainForm, IsTestForm, IsBif0Form, IsBifForm, IsGcBifForm, IsRaiseBif, IsRaiseForm, IsLineForm, IsShaped, IsInstructionForm}
+use Rattle.beam_model.specs.ListingForms.{is_end}
+use Rattle.beam_listing.specs.Prelude.{AreListed, IsAtom, IsHeaded, IsLabel, IsCall, IsPlainForm, IsTestForm, IsBif0Form, IsBifForm, IsGcBifForm, IsRaiseBif, IsRaiseForm, IsLineForm, IsShaped, IsInstructionForm}
+use Rattle.beam_listing.specs.OperandForm.{AreOperands}
 use Rattle.beam_listing.proofs.Bracketed.{list_read}
 use Rattle.beam_listing.proofs.Names.{named_again}
 use Rattle.beam_listing.proofs.OperandMeans.{letter, label_read, operands_read}
-use Rattle.beam_listing.proofs.PartMeans.{both_true, same_is, atom_read, headed_read, braced}
+use Rattle.beam_listing.proofs.PartMeans.{atom_read, headed_read, braced}
 use Rattle.beam_listing.proofs.Written.{made, is_special, either_true, plain_names, plain_item, as_item, headed_item}
 
 abbrev found : Instruction → Option Item
@@ -205,8 +201,8 @@ no_raise_read w name parts is none = by (is_raise_call w parts) refl
     by : (b : Bool) → is_raise_call w parts ≡ b → b ≡ false
     by false e = refl
     by true e =
-        let both = both_true (length parts == 2) (same_text w (codes "raise")) e in
-        absurd (none (eqb-true (length parts) 2 both.0) (subst (λ (v : List ℕ). IsAtom v name) (same_is w (codes "raise") both.1) is))
+        let both = and_parts (length parts == 2) (same_text w (codes "raise")) e in
+        absurd (none (eqb-true (length parts) 2 both.0) (subst (λ (v : List ℕ). IsAtom v name) (text_is w (codes "raise") both.1) is))
 
 bif_made : (i : Instruction) (form : List ℕ) (is : IsBifForm i form) (o : Opcode) (n : ℕ) (k : Kind) (ks : List Kind) → i.opcode ≡ o → kinds_of o ≡ k ∷ kind.Native n ∷ ks
     → bif_by is.name is.fail is.arguments is.dest ≡ Some (made o i.operands) → item_of form ≡ found i

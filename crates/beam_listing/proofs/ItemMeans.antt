@@ -1,19 +1,17 @@
 -- The forms after the heads are read exactly as they stand.
-use Rattle.std.proofs.Common.{◌≡◌, ℕ, List, [], ◌∷◌, Some, refl, subst}
-use Rattle.std.specs.Prelude.{codes, ◌==◌}
+use Rattle.std.proofs.Common.{◌≡◌, ℕ, List, [], ◌∷◌, Some, refl, subst, codes, ◌==◌}
+use Rattle.std.proofs.lemmas.Option.{same_Some}
 use Rattle.beam_model.specs.declared.function.Function.{Function}
 use Rattle.beam_model.specs.declared.instruction.Instruction.{Instruction}
 use Rattle.beam_model.specs.declared.item.Item.{Item}
+use Rattle.beam_model.specs.Prelude.{same_text, tuple_parts, atom_of_text, number_of_text, headed_by, headed_of, only, plain_of, instruction_by, function_of_parts, item_by, bare_item, item_of}
 use Rattle.beam_model.specs.declared.item.Item.TheVariants as item
-use Rattle.beam_model.specs.SameText.{same_text}
-use Rattle.beam_model.specs.Forms.{◌>>=◌, tuple_parts}
-use Rattle.beam_model.specs.ListingForms.{atom_of_text, number_of_text, headed_by, headed_of, only, plain_of, instruction_by, function_of_parts, item_by, bare_item, item_of}
-use Rattle.beam_listing.specs.OperandForm.{IsHeaded}
-use Rattle.beam_listing.specs.ItemForm.{IsFunctionForm, IsCall, IsItemForm}
+use Rattle.beam_model.specs.Forms.{◌>>=◌}
+use Rattle.beam_listing.specs.Prelude.{IsHeaded, IsFunctionForm, IsCall, IsItemForm}
 use Rattle.beam_listing.proofs.FrontForms.{Means}
 use Rattle.beam_listing.proofs.InstructionMeans.{plain_told, instruction_told}
 use Rattle.beam_listing.proofs.InstructionRead.{item_read, instruction_read}
-use Rattle.beam_listing.proofs.PartMeans.{some_is, bind_some, branches, renamed, atom_told, atom_read, number_told, number_read, head_some, headed_told, only_told}
+use Rattle.beam_listing.proofs.PartMeans.{bind_some, branches, renamed, atom_told, atom_read, number_told, number_read, head_some, headed_told, only_told}
 
 -- ---- functions
 
@@ -26,7 +24,7 @@ function_told (f ∷ a ∷ x ∷ []) g form is e =
     let w = bind_some (atom_of_text f) (λ (name : List ℕ). number_of_text a >>= λ n. number_of_text x >>= λ m. Some (made name n m)) g e in
     let n = bind_some (number_of_text a) (λ (n : ℕ). number_of_text x >>= λ m. Some (made w.0 n m)) g w.2 in
     let m = bind_some (number_of_text x) (λ (m : ℕ). Some (made w.0 n.0 m)) g n.2 in
-    subst (λ (h : Function). IsFunctionForm h form) (some_is (made w.0 n.0 m.0) g m.2) (record {
+    subst (λ (h : Function). IsFunctionForm h form) (same_Some (made w.0 n.0 m.0) g m.2) (record {
       name_part = f;
       arity_part = a;
       entry_part = x;
@@ -56,15 +54,15 @@ unfolding item_by
 item_by_told name parts x form is call e =
     branches (same_text name (codes "function")) (function_of_parts parts >>= λ f. Some (item.Function f)) _ x e (λ same g.
     let f = bind_some (function_of_parts parts) (λ (f : Function). Some (item.Function f)) x g in
-    subst (λ (y : Item). IsItemForm y form) (some_is (item.Function f.0) x f.2) (function_told parts f.0 form (renamed name (codes "function") parts form same is) f.1))
+    subst (λ (y : Item). IsItemForm y form) (same_Some (item.Function f.0) x f.2) (function_told parts f.0 form (renamed name (codes "function") parts form same is) f.1))
     (λ other g.
     branches (same_text name (codes "%")) (only parts >>= λ about. Some item.Remark) (instruction_by name parts >>= λ i. Some (item.Instruction i)) x g (λ same h.
     let about = bind_some (only parts) (λ (about : List ℕ). Some item.Remark) x h in
     let remark = subst (λ (ps : List (List ℕ)). IsHeaded (codes "%") ps form) (only_told parts about.0 about.1) (renamed name (codes "%") parts form same is) in
-    subst (λ (y : Item). IsItemForm y form) (some_is item.Remark x about.2) (about.0, remark))
+    subst (λ (y : Item). IsItemForm y form) (same_Some item.Remark x about.2) (about.0, remark))
     (λ none h.
     let i = bind_some (instruction_by name parts) (λ (i : Instruction). Some (item.Instruction i)) x h in
-    subst (λ (y : Item). IsItemForm y form) (some_is (item.Instruction i.0) x i.2) (instruction_told name parts i.0 form is call i.1)))
+    subst (λ (y : Item). IsItemForm y form) (same_Some (item.Instruction i.0) x i.2) (instruction_told name parts i.0 form is call i.1)))
 
 call_told : (form name : List ℕ) (parts : List (List ℕ)) → headed_of form ≡ Some (name, parts) → IsCall name parts form
 unfolding headed_of
@@ -81,7 +79,7 @@ item_told (c ∷ cs) x e =
     (λ other f.
     let w = bind_some (atom_of_text (c ∷ cs)) (λ (name : List ℕ). plain_of name [] >>= λ i. Some (item.Instruction i)) x f in
     let i = bind_some (plain_of w.0 []) (λ (i : Instruction). Some (item.Instruction i)) x w.2 in
-    subst (λ (y : Item). IsItemForm y (c ∷ cs)) (some_is (item.Instruction i.0) x i.2) (plain_told w.0 [] i.0 (c ∷ cs) (atom_told (c ∷ cs) w.0 w.1) i.1))
+    subst (λ (y : Item). IsItemForm y (c ∷ cs)) (same_Some (item.Instruction i.0) x i.2) (plain_told w.0 [] i.0 (c ∷ cs) (atom_told (c ∷ cs) w.0 w.1) i.1))
 
 items_read : (form : List ℕ) (x : Item) → IsItemForm x form → item_of form ≡ Some x
 items_read form (item.Function f) is =

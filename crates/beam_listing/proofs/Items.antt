@@ -3,8 +3,8 @@ use Rattle.std.proofs.Common.{ℕ, List, [], ◌∷◌, ◌++◌}
 use Rattle.beam_model.specs.declared.function.Function.{Function}
 use Rattle.beam_model.specs.declared.instruction.Instruction.{Instruction}
 use Rattle.beam_model.specs.declared.item.Item.{Item}
+use Rattle.beam_model.specs.Prelude.{without_line_number}
 use Rattle.beam_model.specs.declared.item.Item.TheVariants as item
-use Rattle.beam_model.specs.Assembly.{without_line_number}
 use Rattle.beam_listing.proofs.Shapes.{IsInstruction, instruction_written}
 use Rattle.beam_listing.proofs.Bodies.{AreItems, IsFunction, function_part, function_again}
 use Rattle.beam_listing.proofs.Printed.{function_forms, function_before, instruction_forms}

@@ -1,38 +1,33 @@
 -- The instructions of a listing that has a text can be written and read again.
-use Rattle.std.proofs.Common.{◌≡◌, ℕ, ◌^◌, ◌<◌, Bool, true, false, List, [], ◌∷◌, ◌++◌, length, Some, refl, subst, arith}
-use Rattle.std.specs.Prelude.{Option, None, codes, is_some, option_map, unwrap_or, not, if◌then◌else◌, ◌==◌, ◌&&◌}
-use Rattle.std.specs.List.{All, list_all, zip}
-use Rattle.std.proofs.lemmas.Bool.{eqb-true}
+use Rattle.std.proofs.Common.{◌≡◌, ℕ, ◌^◌, ◌<◌, Bool, true, false, List, [], ◌∷◌, ◌++◌, length, Some, refl, subst, arith, Option, None, codes, is_some, option_map, unwrap_or, not, if◌then◌else◌, ◌==◌, ◌&&◌, eqb-true}
+use Rattle.std.specs.List.{list_all, All, zip}
 use Rattle.std.proofs.lemmas.List.Elements.{All-head, All-tail}
-use Rattle.beam_term.specs.Atom.{IsAtomText}
-use Rattle.beam_term.specs.TermValue.{int_term, atom_term, reference_term, pid_term, nil_term, pair_term, tuple_term}
+use Rattle.std.proofs.lemmas.Bool.{and_parts}
+use Rattle.beam_lemmas.proofs.SameText.{text_is}
+use Rattle.beam_lemmas.proofs.Options.{chained, mapped}
 use Rattle.beam_model.specs.declared.function.Export.{Export}
 use Rattle.beam_model.specs.declared.function.Function.{Function}
 use Rattle.beam_model.specs.declared.instruction.Argument.{Argument}
-use Rattle.beam_model.specs.declared.instruction.Argument.TheVariants as argument
 use Rattle.beam_model.specs.declared.instruction.Operand.{Operand}
-use Rattle.beam_model.specs.declared.instruction.Operand.TheVariants as operand
 use Rattle.beam_model.specs.declared.instruction.Instruction.{Instruction}
 use Rattle.beam_model.specs.declared.opcode.Opcode.{Opcode}
-use Rattle.beam_model.specs.declared.opcode.Opcode.TheVariants as op
 use Rattle.beam_model.specs.declared.opcode.Kind.{Kind}
+use Rattle.beam_model.specs.Prelude.{label_by, label_of, same_text, Stage, start, first_label, informed, body, body_label, after_first_label, within_body, after_body_label, next_stage, functions_from, function_at, all_operands, atom_in, number_in, after_leading_lines, front_label_or_zero, is_func_info, is_line, kinds_of}
+use Rattle.beam_term.specs.Prelude.{IsAtomText, int_term, atom_term, reference_term, pid_term, nil_term, pair_term, tuple_term}
+use Rattle.beam_model.specs.declared.instruction.Argument.TheVariants as argument
+use Rattle.beam_model.specs.declared.instruction.Operand.TheVariants as operand
+use Rattle.beam_model.specs.declared.opcode.Opcode.TheVariants as op
 use Rattle.beam_model.specs.declared.opcode.Kind.TheVariants as kind
-use Rattle.beam_model.specs.Listing.{label_by, label_of}
-use Rattle.beam_model.specs.SameText.{same_text}
-use Rattle.beam_model.specs.Loadable.{Stage, start, first_label, informed, body, body_label, after_first_label, within_body, after_body_label, next_stage, functions_from, function_at, all_operands, atom_in, number_in}
 use Rattle.beam_model.specs.ListingForms.{is_end}
-use Rattle.beam_model.specs.ListingText.{after_leading_lines, front_label_or_zero, is_func_info, is_line}
-use Rattle.beam_model.specs.Opcodes.{kinds_of}
-use Rattle.beam_listing.specs.Typed.{IsArgument, IsOperand, AreOperands, IsExport}
-use Rattle.beam_listing.specs.Printed.{is_of_kind, is_raise_two, is_built_in, ArgumentHasText, OperandHasText, OperandsHaveText}
+use Rattle.beam_listing.specs.Prelude.{IsArgument, IsExport, is_of_kind, is_raise_two, is_built_in, ArgumentHasText, OperandHasText, OperandsHaveText}
+use Rattle.beam_listing.specs.Typed.{IsOperand, AreOperands}
 use Rattle.beam_listing.proofs.Operands.{IsReadArgument}
 use Rattle.beam_listing.proofs.Members.{AreArguments}
 use Rattle.beam_listing.proofs.Under.{IsReadOperand, IsBuiltIn, AreUnder}
 use Rattle.beam_listing.proofs.HeadForms.{AreExports}
 use Rattle.beam_listing.proofs.Printed.{named_function, informed_function, function_in, function_before}
 use Rattle.beam_listing.proofs.Items.{AreFunctions, AreInstructions}
-use Rattle.beam_listing.proofs.Exports.{split_and, text_is}
-use Rattle.beam_listing.proofs.FunctionHeads.{stepped, mapped, IsNumbered, AreNumbered}
+use Rattle.beam_listing.proofs.FunctionHeads.{IsNumbered, AreNumbered}
 
 -- ---- operands
 
@@ -59,8 +54,8 @@ built_in : (k : Kind) (o : Operand) → is_built_in k o ≡ true → IsBuiltIn k
 built_in (kind.Native n) (operand.One a) e = tt
 built_in (kind.Native n) (operand.List as') e = tt
 built_in (kind.Native n) (operand.Import i) e =
-    let first = split_and (same_text i.«module» (codes "erlang")) (i.arity == n && not (is_raise_two i)) e in
-    let second = split_and (i.arity == n) (not (is_raise_two i)) first.1 in
+    let first = and_parts (same_text i.«module» (codes "erlang")) (i.arity == n && not (is_raise_two i)) e in
+    let second = and_parts (i.arity == n) (not (is_raise_two i)) first.1 in
     record { «module» = text_is i.«module» (codes "erlang") first.0; arity = eqb-true i.arity n second.0; other = none (is_raise_two i) second.1 }
   where
     none : (b : Bool) → not b ≡ true → b ≡ false
@@ -82,8 +77,8 @@ under_all [] [] e built kinds are have = tt
 under_all [] (o ∷ os) e built kinds are have = absurd cc
 under_all (k ∷ ks) [] e built kinds are have = absurd cc
 under_all (k ∷ ks) (o ∷ os) e built kinds are have =
-    let first = split_and (is_built_in k o) (list_all builds (zip ks os)) built in
-    let second = split_and (is_of_kind k o) (list_all fits (zip ks os)) kinds in (
+    let first = and_parts (is_built_in k o) (list_all builds (zip ks os)) built in
+    let second = and_parts (is_of_kind k o) (list_all fits (zip ks os)) kinds in (
       record {
         operand = read_operand o (All-head IsOperand o os are) (All-head OperandHasText o os have);
         built_in = built_in k o first.0;
@@ -94,8 +89,8 @@ under_all (k ∷ ks) (o ∷ os) e built kinds are have =
 
 under : (ks : List Kind) (os : List Operand) → all_operands is_built_in ks os ≡ true → all_operands is_of_kind ks os ≡ true → All IsOperand os → All OperandHasText os → AreUnder ks os
 under ks os built kinds are have =
-    let first = split_and (length ks == length os) (list_all builds (zip ks os)) built in
-    let second = split_and (length ks == length os) (list_all fits (zip ks os)) kinds in
+    let first = and_parts (length ks == length os) (list_all builds (zip ks os)) built in
+    let second = and_parts (length ks == length os) (list_all fits (zip ks os)) kinds in
     under_all ks os (eqb-true (length ks) (length os) first.0) first.1 second.1 are have
 
 -- an instruction that can be written
@@ -143,10 +138,10 @@ pub lawful : (name : List ℕ) (stage : Stage) (is : List Instruction) (fs : Lis
     → All AreOperands is → All OperandsHaveText is → AreLawful is
 lawful name stage [] fs e built kinds are have = tt
 lawful name stage (i ∷ is) fs e built kinds are have =
-    let s = stepped (λ next. option_map (λ gs. function_at stage i ++ gs) (functions_from name next is)) (next_stage name stage i) fs e in
+    let s = chained (λ next. option_map (λ gs. function_at stage i ++ gs) (functions_from name next is)) (next_stage name stage i) fs e in
     let t = mapped (λ gs. function_at stage i ++ gs) (functions_from name s.0 is) fs s.2 in
-    let first = split_and (has_built_ins i) (list_all has_built_ins is) built in
-    let second = split_and (has_kinds i) (list_all has_kinds is) kinds in
+    let first = and_parts (has_built_ins i) (list_all has_built_ins is) built in
+    let second = and_parts (has_kinds i) (list_all has_kinds is) kinds in
     let typed : AreOperands i = All-head AreOperands i is are in (
       record { under = under (kinds_of i.opcode) i.operands first.0 second.0 typed (All-head OperandsHaveText i is have); typed = typed; ends = goes_on name stage i s.0 s.1 },
       lawful name s.0 is t.0 t.1 first.1 second.1 (All-tail AreOperands i is are) (All-tail OperandsHaveText i is have),

@@ -1,23 +1,17 @@
 -- A loadable listing has a text, unless a pid or a reference stands in its terms.
-use Rattle.std.proofs.Common.{◌≡◌, ℕ, Bool, true, false, List, [], ◌∷◌, length, refl, sym, ap, ◌∙◌}
-use Rattle.std.specs.Prelude.{Option, None, codes, is_some, not, option_and_then, if◌then◌else◌, ◌==◌, ◌&&◌}
-use Rattle.std.proofs.lemmas.Bool.{eqb-true}
+use Rattle.std.proofs.Common.{◌≡◌, ℕ, Bool, true, false, List, [], ◌∷◌, length, refl, sym, ap, ◌∙◌, Option, None, codes, is_some, not, option_and_then, if◌then◌else◌, ◌==◌, ◌&&◌, eqb-true}
 use Rattle.std.specs.List.{list_all, zip}
+use Rattle.std.proofs.lemmas.Bool.{and_parts, and_from}
+use Rattle.beam_lemmas.proofs.SameText.{text_is}
 use Rattle.beam_model.specs.declared.function.Import.{Import}
-use Rattle.beam_model.specs.declared.instruction.Argument.TheVariants as argument
 use Rattle.beam_model.specs.declared.instruction.Operand.{Operand}
-use Rattle.beam_model.specs.declared.instruction.Operand.TheVariants as operand
 use Rattle.beam_model.specs.declared.instruction.Instruction.{Instruction}
 use Rattle.beam_model.specs.declared.opcode.Kind.{Kind}
+use Rattle.beam_model.specs.Prelude.{Listing, native_named, allowed, is_erlang, built_in_of, same_text, all_operands, is_arity, is_frame_size, is_number_operand, is_register_operand, is_source_operand, is_import_operand, is_list_operand, is_within, is_known, are_labels_lawful, are_heads_lawful, are_exports_lawful, are_natives_known, are_limits_met, IsLoadable, kinds_of}
+use Rattle.beam_model.specs.declared.instruction.Argument.TheVariants as argument
+use Rattle.beam_model.specs.declared.instruction.Operand.TheVariants as operand
 use Rattle.beam_model.specs.declared.opcode.Kind.TheVariants as kind
-use Rattle.beam_model.specs.Listing.{Listing}
-use Rattle.beam_model.specs.NativeNames.{native_named, allowed, is_erlang, built_in_of}
-use Rattle.beam_model.specs.SameText.{same_text}
-use Rattle.beam_model.specs.Loadable.{all_operands, is_arity, is_frame_size, is_number_operand, is_register_operand, is_source_operand, is_import_operand, is_list_operand, is_within, is_known, are_labels_lawful, are_heads_lawful, are_exports_lawful, are_natives_known, are_limits_met}
-use Rattle.beam_model.specs.Loads.{IsLoadable}
-use Rattle.beam_model.specs.Opcodes.{kinds_of}
-use Rattle.beam_listing.specs.Printed.{is_any_register, is_any_source, is_any_import, is_any_list, is_of_kind, is_raise_two, is_built_in, TermsHaveText, HasListingText}
-use Rattle.beam_listing.proofs.Exports.{split_and, text_is}
+use Rattle.beam_listing.specs.Prelude.{is_any_register, is_any_source, is_any_import, is_any_list, is_of_kind, is_raise_two, is_built_in, TermsHaveText, HasListingText}
 
 -- ---- within the limits of a kind, so of this kind
 
@@ -86,10 +80,6 @@ if_some : {A : Type 0} (b : Bool) (o : Option A) → is_some (if b then o else N
 if_some true o e = (refl, e)
 if_some false o e = absurd cc
 
-and_true : (a b : Bool) → a ≡ true → b ≡ true → (a && b) ≡ true
-and_true true b e f = f
-and_true false b e f = absurd cc
-
 abbrev is_allowed : List ℕ → ℕ → Bool
 is_allowed name arity = is_some (option_and_then allowed (native_named name arity))
 
@@ -97,7 +87,7 @@ is_allowed name arity = is_some (option_and_then allowed (native_named name arit
 no_raise : (i : Import) → is_allowed i.function i.arity ≡ true → (b : Bool) → is_raise_two i ≡ b → not b ≡ true
 no_raise i known false e = refl
 no_raise i known true e =
-    let both = split_and (i.arity == 2) (same_text i.function (codes "raise")) e in
+    let both = and_parts (i.arity == 2) (same_text i.function (codes "raise")) e in
     let name : i.function ≡ codes "raise" = text_is i.function (codes "raise") both.1 in
     let arity : i.arity ≡ 2 = eqb-true i.arity 2 both.0 in
     sym (ap (is_allowed (codes "raise")) arity) ∙ sym (ap (λ (f : List ℕ). is_allowed f i.arity) name) ∙ known
@@ -110,9 +100,9 @@ known_native i e =
 
 built_in : (k : Kind) (o : Operand) → is_known k o ≡ true → is_built_in k o ≡ true
 built_in (kind.Native n) (operand.Import i) e =
-    let known = split_and (is_some (built_in_of i)) (i.arity == n) e in
+    let known = and_parts (is_some (built_in_of i)) (i.arity == n) e in
     let native = known_native i known.0 in
-    and_true (is_erlang i.«module») (i.arity == n && not (is_raise_two i)) native.0 (and_true (i.arity == n) (not (is_raise_two i)) known.1 native.1)
+    and_from (is_erlang i.«module») (i.arity == n && not (is_raise_two i)) native.0 (and_from (i.arity == n) (not (is_raise_two i)) known.1 native.1)
 built_in (kind.Native n) (operand.One a) e = refl
 built_in (kind.Native n) (operand.List as') e = refl
 built_in _ o e = refl
@@ -122,13 +112,13 @@ built_in _ o e = refl
 all_pass : {X : Type 0} (p q : X → Bool) → ((x : X) → p x ≡ true → q x ≡ true) → (xs : List X) → list_all p xs ≡ true → list_all q xs ≡ true
 all_pass p q passes [] e = refl
 all_pass p q passes (x ∷ xs) e =
-    let s = split_and (p x) (list_all p xs) e in
-    and_true (q x) (list_all q xs) (passes x s.0) (all_pass p q passes xs s.1)
+    let s = and_parts (p x) (list_all p xs) e in
+    and_from (q x) (list_all q xs) (passes x s.0) (all_pass p q passes xs s.1)
 
 operands_pass : (p q : Kind → Operand → Bool) → ((k : Kind) (o : Operand) → p k o ≡ true → q k o ≡ true) → (ks : List Kind) (os : List Operand) → all_operands p ks os ≡ true → all_operands q ks os ≡ true
 operands_pass p q passes ks os e =
-    let s = split_and (length ks == length os) (list_all (λ x. p x.0 x.1) (zip ks os)) e in
-    and_true (length ks == length os) (list_all (λ x. q x.0 x.1) (zip ks os)) s.0
+    let s = and_parts (length ks == length os) (list_all (λ x. p x.0 x.1) (zip ks os)) e in
+    and_from (length ks == length os) (list_all (λ x. q x.0 x.1) (zip ks os)) s.0
     (all_pass (λ (x : Kind × Operand). p x.0 x.1) (λ (x : Kind × Operand). q x.0 x.1) (λ x. passes x.0 x.1) (zip ks os) s.1)
 
 instructions_pass : (p q : Kind → Operand → Bool) → ((k : Kind) (o : Operand) → p k o ≡ true → q k o ≡ true) → (is : List Instruction)

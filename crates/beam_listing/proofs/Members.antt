@@ -1,17 +1,12 @@
 -- Printed lists and imports are read again, and each operand under its kind.
-use Rattle.std.proofs.Common.{◌≡◌, ℕ, ◌^◌, ◌<◌, ◌≤◌, ℤ, List, [], ◌∷◌, ◌++◌, Some, refl, sym, ap, ◌∙◌, subst, append_assoc, append-nil, arith}
-use Rattle.std.specs.Prelude.{codes}
-use Rattle.std.specs.Fmt.{decimal, signed_decimal}
-use Rattle.std.specs.Str.{chars, is_utf8}
-use Rattle.beam_term.specs.Atom.{IsAtomText}
-use Rattle.beam_term.specs.TermValue.{TermValue, int_term, atom_term, reference_term, pid_term, nil_term, pair_term, tuple_term, IsTerm, IsSmall}
+use Rattle.std.proofs.Common.{◌≡◌, ℕ, ◌^◌, ◌<◌, ◌≤◌, ℤ, List, [], ◌∷◌, ◌++◌, Some, refl, sym, ap, ◌∙◌, subst, append_assoc, append-nil, arith, codes}
+use Rattle.std.specs.Fmt.{signed_decimal, decimal}
+use Rattle.std.specs.Str.{is_utf8, chars}
 use Rattle.beam_model.specs.declared.function.Import.{Import}
 use Rattle.beam_model.specs.declared.instruction.Argument.{Argument}
+use Rattle.beam_model.specs.Prelude.{is_reserved, atom_text, text_of, HasText, tuple_parts, list_parts, tagged, term_text, argument_text, arguments_text, import_text, list_text, headed_of, part_of, plain_register, register_of_parts, term_of_part, term_source, nil_source, member_of_parts, member_of_text, number_member, members_from, members_of_text, import_of_text, native_of}
+use Rattle.beam_term.specs.Prelude.{IsAtomText, TermValue, int_term, atom_term, reference_term, pid_term, nil_term, pair_term, tuple_term, IsTerm, IsSmall}
 use Rattle.beam_model.specs.declared.instruction.Argument.TheVariants as argument
-use Rattle.beam_model.specs.Text.{is_reserved, atom_text, text_of, HasText}
-use Rattle.beam_model.specs.Forms.{tuple_parts, list_parts}
-use Rattle.beam_model.specs.ListingText.{tagged, term_text, argument_text, arguments_text, import_text, list_text}
-use Rattle.beam_model.specs.ListingForms.{headed_of, part_of, plain_register, register_of_parts, term_of_part, term_source, nil_source, member_of_parts, member_of_text, number_member, members_from, members_of_text, import_of_text, native_of}
 use Rattle.beam_erltext.proofs.Texts.{differ}
 use Rattle.beam_erltext.proofs.IntegerRoundTrip.{digit_is, decimal_begins}
 use Rattle.beam_listing.specs.Typed.{IsImport}

@@ -1,11 +1,11 @@
 -- The names of the opcodes of the profile are atoms, and name them.
 use Rattle.std.proofs.Common.{◌≡◌, ◌≤◌, true, length, Some, refl, arith}
-use Rattle.std.specs.Str.{chars, is_utf8}
+use Rattle.std.specs.Str.{is_utf8, chars}
 use Rattle.std.proofs.lemmas.Str.{IsUtf8-from_is_utf8}
-use Rattle.beam_term.specs.Atom.{IsAtomText}
 use Rattle.beam_model.specs.declared.opcode.Opcode.{Opcode}
+use Rattle.beam_model.specs.Prelude.{name_of, opcode_named}
+use Rattle.beam_term.specs.Prelude.{IsAtomText}
 use Rattle.beam_model.specs.declared.opcode.Opcode.TheVariants as op
-use Rattle.beam_model.specs.Opcodes.{name_of, opcode_named}
 
 name_utf8 : (o : Opcode) → is_utf8 (name_of o) ≡ true
 unfolding is_utf8 chars lib.Utf8.encode

@@ -1,27 +1,24 @@
 -- Operands are read exactly as they stand.
-use Rattle.std.proofs.Common.{◌≡◌, arith, suc, take, Ok, inl, inr, ◌⊎◌, ℕ, Bool, true, false, cond, List, [], ◌∷◌, ◌++◌, Option, Some, None, refl, sym, ap, subst, ◌∙◌, append_assoc, append-nil}
-use Rattle.std.specs.Prelude.{codes, ◌==◌}
-use Rattle.std.proofs.lemmas.Bool.{eqb-true}
+use Rattle.std.proofs.Common.{◌≡◌, arith, suc, take, Ok, inl, inr, ◌⊎◌, ℕ, Bool, true, false, cond, List, [], ◌∷◌, ◌++◌, Option, Some, None, refl, sym, ap, subst, ◌∙◌, append_assoc, append-nil, codes, ◌==◌, eqb-true}
 use Rattle.std.proofs.lemmas.Bool.Decides.{nat_tests}
-use Rattle.beam_term.specs.TermValue.{TermValue, int_term, atom_term, nil_term}
+use Rattle.std.proofs.lemmas.Option.{same_Some}
+use Rattle.beam_lemmas.proofs.SameText.{text_is}
+use Rattle.beam_term.specs.Prelude.{TermValue, int_term, atom_term, nil_term}
 use Rattle.beam_erltext.proofs.Texts.{differ}
 use Rattle.beam_erltext.proofs.AtomRoundTrip.{IsBare, bare_is}
 use Rattle.beam_model.specs.declared.function.Import.{Import}
 use Rattle.beam_model.specs.declared.instruction.Argument.{Argument}
-use Rattle.beam_model.specs.declared.instruction.Argument.TheVariants as argument
 use Rattle.beam_model.specs.declared.instruction.Operand.{Operand}
-use Rattle.beam_model.specs.declared.instruction.Operand.TheVariants as operand
 use Rattle.beam_model.specs.declared.opcode.Kind.{Kind}
+use Rattle.beam_model.specs.Prelude.{same_text, is_digit, is_name, is_unquoted, Reading, fault_at, name_len, unquoted_atom_at, atom_at, list_parts, integer_of_text, atom_of_text, number_of_text, headed_of, only, part_of, plain_register, typed_register, register_of_parts, register_of_text, label_of_text, term_of_part, term_source, is_register_name, source_of_parts, nil_source, source_of_text, member_of_parts, number_member, member_of_text, members_from, members_of_text, import_of_parts, import_of_text, native_of, label_argument, atom_argument, operand_of_text, operands_from}
+use Rattle.beam_model.specs.declared.instruction.Argument.TheVariants as argument
+use Rattle.beam_model.specs.declared.instruction.Operand.TheVariants as operand
 use Rattle.beam_model.specs.declared.opcode.Kind.TheVariants as kind
-use Rattle.beam_model.specs.SameText.{same_text}
-use Rattle.beam_model.specs.Text.{is_digit, is_name, is_unquoted}
-use Rattle.beam_model.specs.TextReading.{Reading, fault_at, name_len, unquoted_atom_at, atom_at}
-use Rattle.beam_model.specs.Forms.{◌>>=◌, list_parts}
-use Rattle.beam_model.specs.ListingForms.{integer_of_text, atom_of_text, number_of_text, headed_of, only, part_of, plain_register, typed_register, register_of_parts, register_of_text, label_of_text, term_of_part, term_source, is_register_name, source_of_parts, nil_source, source_of_text, member_of_parts, number_member, member_of_text, members_from, members_of_text, import_of_parts, import_of_text, native_of, label_argument, atom_argument, operand_of_text, operands_from}
-use Rattle.beam_listing.specs.BracketForm.{AreEach}
-use Rattle.beam_listing.specs.OperandForm.{IsNumber, IsAtom, IsTermText, IsHeaded, IsTagged, IsLabel, IsPlainRegister, IsTypedRegister, IsRegister, IsConstant, IsSource, BeginsWithDigit, IsMember, IsImport, IsNative, AreMembers, IsOperand, AreOperands}
+use Rattle.beam_model.specs.Forms.{◌>>=◌}
+use Rattle.beam_listing.specs.Prelude.{AreEach, IsNumber, IsAtom, IsTermText, IsHeaded, IsTagged, IsLabel, IsPlainRegister, IsTypedRegister, IsRegister, IsConstant, IsSource, BeginsWithDigit, IsMember, IsNative, AreMembers}
+use Rattle.beam_listing.specs.OperandForm.{IsImport, IsOperand, AreOperands}
 use Rattle.beam_listing.proofs.Bracketed.{list_told, list_read}
-use Rattle.beam_listing.proofs.PartMeans.{some_is, bind_some, branches, same_is, integer_told, integer_read, atom_told, atom_read, term_told, term_read, number_told, number_read, headed_told, headed_read, only_told, part_told, part_read, renamed, Brace, braced}
+use Rattle.beam_listing.proofs.PartMeans.{bind_some, branches, integer_told, integer_read, atom_told, atom_read, term_told, term_read, number_told, number_read, headed_told, headed_read, only_told, part_told, part_read, renamed, Brace, braced}
 
 -- ---- labels
 
@@ -43,9 +40,9 @@ by_name name n = cond (same_text name (codes "x")) (Some (argument.X n)) (cond (
 by_name_told : (name : List ℕ) (n : ℕ) (a : Argument) (part text : List ℕ) → IsHeaded name (part ∷ []) text → IsNumber n part → by_name name n ≡ Some a → IsPlainRegister a text
 by_name_told name n a part text is number e =
     branches (same_text name (codes "x")) (Some (argument.X n)) (cond (same_text name (codes "y")) (Some (argument.Y n)) None) a e
-    (λ same f. subst (λ (b : Argument). IsPlainRegister b text) (some_is (argument.X n) a f) (part, renamed name (codes "x") (part ∷ []) text same is, number))
+    (λ same f. subst (λ (b : Argument). IsPlainRegister b text) (same_Some (argument.X n) a f) (part, renamed name (codes "x") (part ∷ []) text same is, number))
     (λ other f. branches (same_text name (codes "y")) (Some (argument.Y n)) None a f
-    (λ same g. subst (λ (b : Argument). IsPlainRegister b text) (some_is (argument.Y n) a g) (part, renamed name (codes "y") (part ∷ []) text same is, number))
+    (λ same g. subst (λ (b : Argument). IsPlainRegister b text) (same_Some (argument.Y n) a g) (part, renamed name (codes "y") (part ∷ []) text same is, number))
     (λ none g. absurd cc (g)))
 
 plain_told : (name : List ℕ) (parts : List (List ℕ)) (a : Argument) (text : List ℕ) → IsHeaded name parts text → plain_register name parts ≡ Some a → IsPlainRegister a text
@@ -125,7 +122,7 @@ register_read text a is =
 value_told : {A : Type 0} (o : Option A) (f : A → TermValue) (t : TermValue) (text : List ℕ) → (o >>= λ x. Some (f x)) ≡ Some t → ((x : A) → o ≡ Some x → IsConstant (f x) text) → IsConstant t text
 value_told {A = A} o f t text e each =
     let x = bind_some o (λ (x : A). Some (f x)) t e in
-    subst (λ (u : TermValue). IsConstant u text) (some_is (f x.0) t x.2) (each x.0 x.1)
+    subst (λ (u : TermValue). IsConstant u text) (same_Some (f x.0) t x.2) (each x.0 x.1)
 
 constant_told : (name part : List ℕ) (t : TermValue) (text : List ℕ) → IsHeaded name (part ∷ []) text → term_of_part name part ≡ Some t → IsConstant t text
 unfolding term_of_part
@@ -154,7 +151,7 @@ term_source_told name parts a text is e =
     let p = bind_some (only parts) (λ (part : List ℕ). term_of_part name part >>= λ t. Some (argument.Term t)) a e in
     let t = bind_some (term_of_part name p.0) (λ (t : TermValue). Some (argument.Term t)) a p.2 in
     let headed = subst (λ (ps : List (List ℕ)). IsHeaded name ps text) (only_told parts p.0 p.1) is in
-    subst (λ (b : Argument). IsSource b text) (some_is (argument.Term t.0) a t.2) (constant_told name p.0 t.0 text headed t.1)
+    subst (λ (b : Argument). IsSource b text) (same_Some (argument.Term t.0) a t.2) (constant_told name p.0 t.0 text headed t.1)
 
 source_by_told : (name : List ℕ) (parts : List (List ℕ)) (a : Argument) (text : List ℕ) → IsHeaded name parts text → source_of_parts name parts ≡ Some a → IsSource a text
 source_by_told name parts a text is e =
@@ -166,7 +163,7 @@ unfolding nil_source
 nil_told text a e =
     let w = bind_some (atom_of_text text) (λ (name : List ℕ). cond (same_text name (codes "nil")) (Some (argument.Term nil_term)) None) a e in
     branches (same_text w.0 (codes "nil")) (Some (argument.Term nil_term)) None a w.2
-    (λ same f. subst (λ (b : Argument). IsSource b text) (some_is (argument.Term nil_term) a f) (inl (subst (λ (v : List ℕ). IsAtom v text) (same_is w.0 (codes "nil") same) (atom_told text w.0 w.1))))
+    (λ same f. subst (λ (b : Argument). IsSource b text) (same_Some (argument.Term nil_term) a f) (inl (subst (λ (v : List ℕ). IsAtom v text) (text_is w.0 (codes "nil") same) (atom_told text w.0 w.1))))
     (λ other f. absurd cc (f))
 
 source_told : (text : List ℕ) (a : Argument) → source_of_text text ≡ Some a → IsSource a text
@@ -293,7 +290,7 @@ member_by_told name parts a text is e =
     let p = bind_some (only parts) (λ (part : List ℕ). number_of_text part >>= λ n. Some (argument.Label n)) a f in
     let n = bind_some (number_of_text p.0) (λ (n : ℕ). Some (argument.Label n)) a p.2 in
     let headed = subst (λ (ps : List (List ℕ)). IsHeaded name ps text) (only_told parts p.0 p.1) is in
-    subst (λ (b : Argument). IsMember b text) (some_is (argument.Label n.0) a n.2) (p.0, renamed name (codes "f") (p.0 ∷ []) text same headed, number_told p.0 n.0 n.1))
+    subst (λ (b : Argument). IsMember b text) (same_Some (argument.Label n.0) a n.2) (p.0, renamed name (codes "f") (p.0 ∷ []) text same headed, number_told p.0 n.0 n.1))
     (λ other f. as_member a text (source_by_told name parts a text is f))
 
 member_told : (text : List ℕ) (a : Argument) → member_of_text text ≡ Some a → IsMember a text
@@ -307,7 +304,7 @@ member_told (c ∷ cs) a e =
     (λ other f. branches (is_digit c) (number_member (c ∷ cs)) (nil_source (c ∷ cs)) a f
     (λ digit g.
     let n = bind_some (number_of_text (c ∷ cs)) (λ (n : ℕ). Some (argument.Number n)) a g in
-    subst (λ (b : Argument). IsMember b (c ∷ cs)) (some_is (argument.Number n.0) a n.2) (digit, number_told (c ∷ cs) n.0 n.1))
+    subst (λ (b : Argument). IsMember b (c ∷ cs)) (same_Some (argument.Number n.0) a n.2) (digit, number_told (c ∷ cs) n.0 n.1))
     (λ letter g. as_member a (c ∷ cs) (nil_told (c ∷ cs) a g)))
 
 braced_member : (a : Argument) (cs name : List ℕ) (parts : List (List ℕ)) → headed_of (123 ∷ cs) ≡ Some (name, parts) → member_of_parts name parts ≡ Some a → member_of_text (123 ∷ cs) ≡ Some a
@@ -357,7 +354,7 @@ pub record Further {A : Type 0} (Says : A → List ℕ → Type 0) (before all :
 
 members_told : (before all : List Argument) (texts : List (List ℕ)) → members_from before texts ≡ Some all → Further IsMember before all texts
 unfolding members_from
-members_told before all [] e = record { others = []; sum = sym (some_is before all e) ∙ sym (append-nil before); are = tt }
+members_told before all [] e = record { others = []; sum = sym (same_Some before all e) ∙ sym (append-nil before); are = tt }
 members_told before all (text ∷ texts) e =
     let m = bind_some (member_of_text text) (λ (m : Argument). members_from (before ++ m ∷ []) texts) all e in
     let r = members_told (before ++ m.0 ∷ []) all texts m.2 in
@@ -400,7 +397,7 @@ import_by_told name (m ∷ f ∷ a ∷ []) i text is e =
     let wf = bind_some (atom_of_text f) (λ (v : List ℕ). number_of_text a >>= λ n. chosen name wm.0 v n) i wm.2 in
     let n = bind_some (number_of_text a) (chosen name wm.0 wf.0) i wf.2 in
     branches (same_text name (codes "extfunc")) (Some (made wm.0 wf.0 n.0)) None i n.2
-    (λ same g. subst (λ (j : Import). IsImport j text) (some_is (made wm.0 wf.0 n.0) i g) (record {
+    (λ same g. subst (λ (j : Import). IsImport j text) (same_Some (made wm.0 wf.0 n.0) i g) (record {
       module_part = m;
       function_part = f;
       arity_part = a;
@@ -428,7 +425,7 @@ native_told : (arity : ℕ) (text : List ℕ) (i : Import) → native_of arity t
 unfolding native_of
 native_told arity text i e =
     let w = bind_some (atom_of_text text) (λ (name : List ℕ). Some (record { «module» = codes "erlang"; function = name; arity = arity })) i e in
-    let same = some_is (record { «module» = codes "erlang"; function = w.0; arity = arity }) i w.2 in
+    let same = same_Some (record { «module» = codes "erlang"; function = w.0; arity = arity }) i w.2 in
     subst (λ (j : Import). IsNative arity j text) same (record { «module» = refl; is_function = atom_told text w.0 w.1; same = refl })
 
 native_read : (arity : ℕ) (text : List ℕ) (i : Import) → IsNative arity i text → native_of arity text ≡ Some i
@@ -443,17 +440,17 @@ native_read arity text i is =
 as_told : {A : Type 0} (o : Option A) (f : A → Operand) (x : Operand) (P : Operand → Type 0) → (o >>= λ a. Some (f a)) ≡ Some x → ((a : A) → o ≡ Some a → P (f a)) → P x
 as_told {A = A} o f x P e each =
     let a = bind_some o (λ (a : A). Some (f a)) x e in
-    subst P (some_is (f a.0) x a.2) (each a.0 a.1)
+    subst P (same_Some (f a.0) x a.2) (each a.0 a.1)
 
 number_argument_told : (P : Argument → Type 0) (text : List ℕ) (a : Argument) → number_member text ≡ Some a → ((n : ℕ) → IsNumber n text → P (argument.Number n)) → P a
 number_argument_told P text a e each =
     let n = bind_some (number_of_text text) (λ (n : ℕ). Some (argument.Number n)) a e in
-    subst P (some_is (argument.Number n.0) a n.2) (each n.0 (number_told text n.0 n.1))
+    subst P (same_Some (argument.Number n.0) a n.2) (each n.0 (number_told text n.0 n.1))
 
 label_argument_told : (P : Argument → Type 0) (text : List ℕ) (a : Argument) → label_argument text ≡ Some a → ((n : ℕ) → IsLabel n text → P (argument.Label n)) → P a
 label_argument_told P text a e each =
     let n = bind_some (label_of_text text) (λ (n : ℕ). Some (argument.Label n)) a e in
-    subst P (some_is (argument.Label n.0) a n.2) (each n.0 (label_told text n.0 n.1))
+    subst P (same_Some (argument.Label n.0) a n.2) (each n.0 (label_told text n.0 n.1))
 
 atom_argument_told : (P : Argument → Type 0) (text : List ℕ) (a : Argument) → atom_argument text ≡ Some a
     → ((name : List ℕ) → IsTagged (codes "atom") (IsAtom name) text → P (argument.Term (atom_term name))) → P a
@@ -461,7 +458,7 @@ unfolding atom_argument
 atom_argument_told P text a e each =
     let p = bind_some (part_of (codes "atom") text) (λ (part : List ℕ). atom_of_text part >>= λ name. Some (argument.Term (atom_term name))) a e in
     let w = bind_some (atom_of_text p.0) (λ (name : List ℕ). Some (argument.Term (atom_term name))) a p.2 in
-    subst P (some_is (argument.Term (atom_term w.0)) a w.2) (each w.0 (p.0, part_told (codes "atom") text p.0 p.1, atom_told p.0 w.0 w.1))
+    subst P (same_Some (argument.Term (atom_term w.0)) a w.2) (each w.0 (p.0, part_told (codes "atom") text p.0 p.1, atom_told p.0 w.0 w.1))
 
 pub operand_told : (k : Kind) (text : List ℕ) (o : Operand) → operand_of_text k text ≡ Some o → IsOperand k o text
 unfolding operand_of_text
@@ -504,7 +501,7 @@ pub record FurtherOperands (ks : List Kind) (before all : List Operand) (texts :
 
 pub operands_told : (before all : List Operand) (ks : List Kind) (texts : List (List ℕ)) → operands_from before ks texts ≡ Some all → FurtherOperands ks before all texts
 unfolding operands_from
-operands_told before all [] [] e = record { others = []; sum = sym (some_is before all e) ∙ sym (append-nil before); are = tt }
+operands_told before all [] [] e = record { others = []; sum = sym (same_Some before all e) ∙ sym (append-nil before); are = tt }
 operands_told before all (k ∷ ks) (text ∷ texts) e =
     let o = bind_some (operand_of_text k text) (λ (o : Operand). operands_from (before ++ o ∷ []) ks texts) all e in
     let r = operands_told (before ++ o.0 ∷ []) all ks texts o.2 in

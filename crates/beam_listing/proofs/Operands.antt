@@ -1,19 +1,13 @@
 -- Printed operands are read again.
-use Rattle.std.proofs.Common.{◌≡◌, ℕ, ◌^◌, ◌<◌, ◌≤◌, true, ℤ, pos, List, [], ◌∷◌, ◌++◌, length, Some, refl, sym, ap, ◌∙◌, subst, append_assoc, append-nil, arith}
-use Rattle.std.specs.Prelude.{codes}
-use Rattle.std.specs.Fmt.{decimal, signed_decimal}
+use Rattle.std.proofs.Common.{◌≡◌, ℕ, ◌^◌, ◌<◌, ◌≤◌, true, ℤ, pos, List, [], ◌∷◌, ◌++◌, length, Some, refl, sym, ap, ◌∙◌, subst, append_assoc, append-nil, arith, codes}
+use Rattle.std.specs.Fmt.{signed_decimal, decimal}
 use Rattle.std.proofs.lemmas.Int.{ints}
 use Rattle.std.proofs.lemmas.Str.{IsUtf8-from_is_utf8}
-use Rattle.std.specs.Str.{chars, is_utf8}
-use Rattle.beam_term.specs.Atom.{IsAtomText}
-use Rattle.beam_term.specs.TermValue.{TermValue, int_term, atom_term, reference_term, pid_term, nil_term, pair_term, tuple_term, IsSmall, IsInRange, IsTerm}
+use Rattle.std.specs.Str.{is_utf8, chars}
 use Rattle.beam_model.specs.declared.instruction.Argument.{Argument}
+use Rattle.beam_model.specs.Prelude.{is_reserved, atom_text, text_of, HasText, after_blanks, integer_at, atom_at, term_at, tuple_parts, tagged, term_text, argument_text, whole_of, integer_of_text, atom_of_text, term_of, number_of_text, headed_of, part_of, plain_register, register_of_parts, register_of_text, label_of_text, term_of_part, term_source, nil_source, source_of_text}
+use Rattle.beam_term.specs.Prelude.{IsAtomText, TermValue, int_term, atom_term, reference_term, pid_term, nil_term, pair_term, tuple_term, IsSmall, IsInRange, IsTerm}
 use Rattle.beam_model.specs.declared.instruction.Argument.TheVariants as argument
-use Rattle.beam_model.specs.Text.{is_reserved, atom_text, text_of, HasText}
-use Rattle.beam_model.specs.TextReading.{after_blanks, integer_at, atom_at, term_at}
-use Rattle.beam_model.specs.Forms.{tuple_parts}
-use Rattle.beam_model.specs.ListingText.{tagged, term_text, argument_text}
-use Rattle.beam_model.specs.ListingForms.{whole_of, integer_of_text, atom_of_text, term_of, number_of_text, headed_of, part_of, plain_register, register_of_parts, register_of_text, label_of_text, term_of_part, term_source, nil_source, source_of_text}
 use Rattle.beam_erltext.proofs.IntegerRoundTrip.{integer_again, lt_true}
 use Rattle.beam_erltext.proofs.AtomRoundTrip.{atom_again}
 use Rattle.beam_erltext.proofs.TermRoundTrip.{from_integer, from_atom, integer_begins, atom_begins, text_begins, term_again}

@@ -1,21 +1,17 @@
 -- Numbers, atoms, terms and braces with a name in front are read exactly as they stand.
-use Rattle.std.proofs.Common.{arith, ◌≡◌, ℕ, ◌^◌, ◌<◌, Bool, true, false, cond, ℤ, pos, negsuc, List, [], ◌∷◌, ◌++◌, Option, Some, None, Ok, Err, refl, sym, ap, subst, ◌∙◌}
-use Rattle.std.specs.Prelude.{nat_lt, ◌&&◌}
+use Rattle.std.proofs.Common.{arith, ◌≡◌, ℕ, ◌^◌, ◌<◌, Bool, true, false, cond, ℤ, pos, negsuc, List, [], ◌∷◌, ◌++◌, Option, Some, None, Ok, Err, refl, sym, ap, subst, ◌∙◌, nat_lt}
 use Rattle.std.proofs.lemmas.Bool.Decides.{nat_tests}
 use Rattle.std.proofs.lemmas.Slice.Eq.{bytes_eq-Decides}
-use Rattle.beam_term.specs.TermValue.{TermValue}
+use Rattle.std.proofs.lemmas.Option.{same_Some}
+use Rattle.beam_lemmas.proofs.SameText.{text_is}
+use Rattle.beam_term.specs.Prelude.{TermValue}
 use Rattle.beam_erltext.proofs.IntegerRoundTrip.{lt_true}
-use Rattle.beam_model.specs.SameText.{same_text}
-use Rattle.beam_model.specs.TextReading.{Reading, integer_at, atom_at, term_at}
-use Rattle.beam_model.specs.Forms.{◌>>=◌, tuple_parts}
-use Rattle.beam_model.specs.ListingForms.{whole_of, integer_of_text, atom_of_text, term_of, word_of, number_of_text, headed_by, headed_of, only, part_of}
-use Rattle.beam_listing.specs.OperandForm.{IsInteger, IsNumber, IsAtom, IsTermText, IsHeaded}
+use Rattle.beam_model.specs.Prelude.{same_text, Reading, integer_at, atom_at, term_at, tuple_parts, whole_of, integer_of_text, atom_of_text, term_of, word_of, number_of_text, headed_by, headed_of, only, part_of}
+use Rattle.beam_model.specs.Forms.{◌>>=◌}
+use Rattle.beam_listing.specs.Prelude.{IsInteger, IsNumber, IsAtom, IsTermText, IsHeaded}
 use Rattle.beam_listing.proofs.Bracketed.{tuple_told, tuple_read}
 
 -- ---- steps
-
-pub some_is : {A : Type 0} (x y : A) → Some x ≡ Some y → x ≡ y
-some_is x y e = cc
 
 pub bind_some : {A B : Type 0} (o : Option A) (f : A → Option B) (y : B) → (o >>= f) ≡ Some y → (x : A) × (o ≡ Some x) × (f x ≡ Some y)
 bind_some (Some x) f y e = (x, refl, e)
@@ -26,15 +22,8 @@ pub branches : {A C : Type 0} (b : Bool) (p q : Option A) (x : A) → cond b p q
 branches true p q x e yes_ no_ = yes_ refl e
 branches false p q x e yes_ no_ = no_ refl e
 
-pub same_is : (s t : List ℕ) → same_text s t ≡ true → s ≡ t
-same_is s t e = (bytes_eq-Decides s t).0 e
-
 pub is_same : (s t : List ℕ) → s ≡ t → same_text s t ≡ true
 is_same s t e = (bytes_eq-Decides s t).1 e
-
-pub both_true : (a b : Bool) → (a && b) ≡ true → (a ≡ true) × (b ≡ true)
-both_true true b e = (refl, e)
-both_true false b e = absurd cc
 
 -- ---- whole texts
 
@@ -74,7 +63,7 @@ word_told : (z : ℤ) (n : ℕ) → word_of z ≡ Some n → (z ≡ pos n) × (n
 word_told (pos m) n e = by (nat_lt m (2 ^ 32)) refl e
   where
     by : (b : Bool) → nat_lt m (2 ^ 32) ≡ b → cond b (Some m) None ≡ Some n → (pos m ≡ pos n) × (n < 2 ^ 32)
-    by true t f = let same = some_is m n f in (ap (λ (k : ℕ). pos k) same, subst (λ (k : ℕ). k < 2 ^ 32) same (below m (2 ^ 32) t))
+    by true t f = let same = same_Some m n f in (ap (λ (k : ℕ). pos k) same, subst (λ (k : ℕ). k < 2 ^ 32) same (below m (2 ^ 32) t))
     by false t f = absurd cc
 word_told (negsuc m) n e = absurd cc
 
@@ -97,7 +86,7 @@ head_told [] name parts e = absurd cc
 head_told (head ∷ []) name parts e = absurd cc
 head_told (head ∷ part ∷ others) name parts e =
     let n = bind_some (atom_of_text head) (λ (name : List ℕ). Some (name, part ∷ others)) (name, parts) e in
-    let pair : (n.0, part ∷ others) ≡ (name, parts) = some_is (n.0, part ∷ others) (name, parts) n.2 in
+    let pair : (n.0, part ∷ others) ≡ (name, parts) = same_Some (n.0, part ∷ others) (name, parts) n.2 in
     (head, ap (λ (p : List ℕ × List (List ℕ)). head ∷ p.1) pair, atom_told head name (n.1 ∙ ap (λ (p : List ℕ × List (List ℕ)). Some p.0) pair))
 
 -- at least one part stands after the name
@@ -120,7 +109,7 @@ headed_read text name part parts is = rw (tuple_read (is.head ∷ part ∷ parts
 
 pub only_told : (parts : List (List ℕ)) (part : List ℕ) → only parts ≡ Some part → parts ≡ part ∷ []
 only_told [] part e = absurd cc
-only_told (p ∷ []) part e = ap (λ (q : List ℕ). q ∷ []) (some_is p part e)
+only_told (p ∷ []) part e = ap (λ (q : List ℕ). q ∷ []) (same_Some p part e)
 only_told (p ∷ q ∷ ps) part e = absurd cc
 
 pub part_told : (name text part : List ℕ) → part_of name text ≡ Some part → IsHeaded name (part ∷ []) text
@@ -129,7 +118,7 @@ part_told name text part e =
     let h = bind_some (headed_of text) (λ (h : List ℕ × List (List ℕ)). only h.1 >>= λ part. cond (same_text h.0 name) (Some part) None) part e in
     let p = bind_some (only h.0.1) (λ (part : List ℕ). cond (same_text h.0.0 name) (Some part) None) part h.2 in
     branches (same_text h.0.0 name) (Some p.0) None part p.2
-    (λ same f. headed_told text name (part ∷ []) (h.1 ∙ (λ i. Some (same_is h.0.0 name same i, (only_told h.0.1 p.0 p.1 ∙ ap (λ (q : List ℕ). q ∷ []) (some_is p.0 part f)) i))))
+    (λ same f. headed_told text name (part ∷ []) (h.1 ∙ (λ i. Some (text_is h.0.0 name same i, (only_told h.0.1 p.0 p.1 ∙ ap (λ (q : List ℕ). q ∷ []) (same_Some p.0 part f)) i))))
     (λ other f. absurd cc)
 
 pub part_read : (name text part : List ℕ) → IsHeaded name (part ∷ []) text → part_of name text ≡ Some part
@@ -138,7 +127,7 @@ part_read name text part is = rw (headed_read text name part [] is, is_same name
 
 -- a text with a name in front has each equal name in front
 pub renamed : (name other : List ℕ) (parts : List (List ℕ)) (text : List ℕ) → same_text name other ≡ true → IsHeaded name parts text → IsHeaded other parts text
-renamed name other parts text same is = subst (λ (w : List ℕ). IsHeaded w parts text) (same_is name other same) is
+renamed name other parts text same is = subst (λ (w : List ℕ). IsHeaded w parts text) (text_is name other same) is
 
 -- a text in braces begins with a brace
 pub record Brace (text : List ℕ) : Type 0 where

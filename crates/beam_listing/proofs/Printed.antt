@@ -1,12 +1,9 @@
 -- The printed instructions of a listing are forms: the form of each function, before its first label, and the form of each instruction.
-use Rattle.std.proofs.Common.{◌≡◌, ℕ, Bool, true, false, List, [], ◌∷◌, ◌++◌, Some, refl, sym, ap, ◌∙◌, append_assoc}
-use Rattle.std.specs.Prelude.{Option, None, is_some, if◌then◌else◌}
+use Rattle.std.proofs.Common.{◌≡◌, ℕ, Bool, true, false, List, [], ◌∷◌, ◌++◌, Some, refl, sym, ap, ◌∙◌, append_assoc, Option, None, is_some, if◌then◌else◌}
 use Rattle.beam_model.specs.declared.function.Function.{Function}
 use Rattle.beam_model.specs.declared.instruction.Operand.{Operand}
 use Rattle.beam_model.specs.declared.instruction.Instruction.{Instruction}
-use Rattle.beam_model.specs.Listing.{label_of}
-use Rattle.beam_model.specs.Loadable.{atom_in, number_in}
-use Rattle.beam_model.specs.ListingText.{after_leading_lines, front_label_or_zero, is_func_info, named_text, informed_text, function_line_at, before_text, instruction_text, instructions_text}
+use Rattle.beam_model.specs.Prelude.{label_of, atom_in, number_in, after_leading_lines, front_label_or_zero, is_func_info, named_text, informed_text, function_line_at, before_text, instruction_text, instructions_text}
 use Rattle.beam_listing.proofs.Bodies.{forms_text, function_form}
 
 forms_append : (fs gs : List (List ℕ)) → forms_text (fs ++ gs) ≡ forms_text fs ++ forms_text gs

@@ -1,12 +1,9 @@
 -- From the answer of a reading to the listing whose forms stand in the text.
-use Rattle.std.proofs.Common.{◌≡◌, ℕ, List, Result, Ok, Err, refl, sym, ap, ◌∙◌}
-use Rattle.std.specs.Prelude.{IfOk, MatchResult}
-use Rattle.beam_model.specs.Listing.{Listing}
-use Rattle.beam_model.specs.Forms.{uncommented}
-use Rattle.beam_model.specs.ListingReading.{syntax, unknown, listing_of_forms}
+use Rattle.std.proofs.Common.{◌≡◌, ℕ, List, Result, Ok, Err, refl, sym, ap, ◌∙◌, IfOk, MatchResult}
+use Rattle.beam_model.specs.Prelude.{Listing, uncommented, syntax, unknown, listing_of_forms}
 use Rattle.beam_listing.specs.declared.error.ListingError.{ListingError}
 use Rattle.beam_listing.specs.declared.error.ListingError.TheVariants.{Syntax, UnknownForm, NoMemory}
-use Rattle.beam_listing.specs.ListingForm.{IsListingText}
+use Rattle.beam_listing.specs.Prelude.{IsListingText}
 use Rattle.beam_listing.proofs.FrontForms.{ok_is}
 use Rattle.beam_listing.proofs.TextStanding.{text_told, text_read}
 

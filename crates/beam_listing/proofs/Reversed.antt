@@ -1,6 +1,5 @@
 -- A stack whose last element is the innermost.
-use Rattle.std.proofs.Common.{◌≡◌, ℕ, List, [], ◌∷◌, ◌++◌, length}
-use Rattle.std.specs.Prelude.{reverse}
+use Rattle.std.proofs.Common.{◌≡◌, ℕ, List, [], ◌∷◌, ◌++◌, length, reverse}
 use Rattle.std.proofs.lemmas.List.{reverse-append, length-reverse}
 
 pub reversed_push : (outer : List ℕ) (c : ℕ) → reverse (outer ++ c ∷ []) ≡ c ∷ reverse outer

@@ -1,23 +1,17 @@
 -- A printed listing is read as itself.
-use Rattle.std.proofs.Common.{◌≡◌, ℕ, true, List, [], ◌∷◌, length, Some, Ok, refl, sym, ap, ◌∙◌}
-use Rattle.std.specs.Prelude.{Option, None, Result, map, unwrap_or, ◌==◌}
+use Rattle.std.proofs.Common.{◌≡◌, ℕ, true, List, [], ◌∷◌, length, Some, Ok, refl, sym, ap, ◌∙◌, Option, None, Result, map, unwrap_or, ◌==◌, eqb-true}
 use Rattle.std.specs.List.{list_all}
-use Rattle.std.proofs.lemmas.Bool.{eqb-true}
+use Rattle.std.proofs.lemmas.Bool.{and_parts}
 use Rattle.beam_model.specs.declared.function.Export.{Export}
 use Rattle.beam_model.specs.declared.function.Function.{Function}
 use Rattle.beam_model.specs.declared.instruction.Instruction.{Instruction}
-use Rattle.beam_model.specs.Assembly.{without_line_number, without_line_numbers}
-use Rattle.beam_model.specs.Listing.{Listing}
-use Rattle.beam_model.specs.ListingText.{listing_text}
-use Rattle.beam_model.specs.ListingReading.{ListingFault, export_by, listing_of_text}
-use Rattle.beam_model.specs.Loadable.{start, functions_from, functions_of, signature_of, are_signatures_new, are_functions_lawful, exported_signature, is_entry_of}
-use Rattle.beam_listing.specs.Typed.{IsListing}
-use Rattle.beam_listing.specs.Printed.{HasListingText}
+use Rattle.beam_model.specs.Prelude.{without_line_number, without_line_numbers, Listing, listing_text, ListingFault, export_by, listing_of_text, start, functions_from, functions_of, signature_of, are_signatures_new, are_functions_lawful, exported_signature, is_entry_of}
+use Rattle.beam_listing.specs.Prelude.{IsListing, HasListingText}
 use Rattle.beam_listing.proofs.HeadForms.{signatures_by}
 use Rattle.beam_listing.proofs.Items.{items_of, are_items}
 use Rattle.beam_listing.proofs.Added.{functions_in, Begins, body_of, adds_body}
 use Rattle.beam_listing.proofs.Whole.{IsReadListing, listing_again}
-use Rattle.beam_listing.proofs.Exports.{split_and, labels_again}
+use Rattle.beam_listing.proofs.Exports.{labels_again}
 use Rattle.beam_listing.proofs.FunctionHeads.{functions_are, begins}
 use Rattle.beam_listing.proofs.Lawful.{AreLawful, lawful, numbered, are_instructions, are_exports}
 
@@ -30,7 +24,7 @@ record HasFunctions (n : ℕ) (o : Option (List Function)) : Type 0 where
 
 has_functions : (n : ℕ) (o : Option (List Function)) → are_functions_lawful n o ≡ true → HasFunctions n o
 has_functions n (Some fs) e =
-    let s = split_and (length fs == n) (are_signatures_new [] (map signature_of fs)) e in
+    let s = and_parts (length fs == n) (are_signatures_new [] (map signature_of fs)) e in
     record { functions = fs; found = refl; count = eqb-true (length fs) n s.0; new = s.1 }
 has_functions n None e = absurd cc
 
@@ -49,7 +43,7 @@ done l = Ok l
 pub printed_again : (l : Listing) → IsListing l → HasListingText l → listing_of_text (listing_text l) ≡ Ok (without_line_numbers l)
 printed_again l is has =
     let heads = has_functions l.function_count (functions_of l) has.heads in
-    let entries = split_and (list_all (is_entry_of (unwrap_or (functions_of l) [])) l.exports) (are_signatures_new [] (map exported_signature l.exports)) has.exports in
+    let entries = and_parts (list_all (is_entry_of (unwrap_or (functions_of l) [])) l.exports) (are_signatures_new [] (map exported_signature l.exports)) has.exports in
     let lawful_exports : list_all (is_entry_of heads.functions) l.exports ≡ true =
     sym (ap (λ (o : Option (List Function)). list_all (is_entry_of (unwrap_or o [])) l.exports) heads.found) ∙ entries.0 in
     let fs : List Function = functions_in l.instructions in

@@ -1,17 +1,12 @@
 -- Each printed instruction is read again, by the shape in which it is written.
-use Rattle.std.proofs.Common.{◌≡◌, true, false, List, refl, ap}
-use Rattle.std.specs.Prelude.{◌||◌}
+use Rattle.std.proofs.Common.{◌≡◌, true, false, List, refl, ap, ◌||◌}
 use Rattle.beam_model.specs.declared.instruction.Operand.{Operand}
 use Rattle.beam_model.specs.declared.opcode.Opcode.{Opcode}
+use Rattle.beam_model.specs.Prelude.{listed_operands, kinds_of, name_of, atom_text, shape_of, shape_text, instruction_text, is_plain_shape, is_test_shape}
 use Rattle.beam_model.specs.declared.opcode.Opcode.TheVariants as op
 use Rattle.beam_model.specs.declared.shape.Shape.{Shape}
 use Rattle.beam_model.specs.declared.shape.Shape.TheVariants as shape
-use Rattle.beam_model.specs.CodeChunk.{listed_operands}
-use Rattle.beam_model.specs.Opcodes.{kinds_of, name_of}
-use Rattle.beam_model.specs.Text.{atom_text}
-use Rattle.beam_model.specs.ListingShapes.{shape_of}
-use Rattle.beam_model.specs.ListingText.{shape_text, instruction_text}
-use Rattle.beam_model.specs.ListingForms.{is_plain_shape, is_test_shape, is_end}
+use Rattle.beam_model.specs.ListingForms.{is_end}
 use Rattle.beam_listing.proofs.Under.{AreUnder}
 use Rattle.beam_listing.proofs.Written.{IsWritten, made, plain_written, test_written, line_written}
 use Rattle.beam_listing.proofs.BuiltIns.{bif0_any, bif1_any, bif2_any, gc_bif1_any, gc_bif2_any, raise_any}

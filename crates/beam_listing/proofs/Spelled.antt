@@ -1,20 +1,15 @@
 -- Each instruction that is read is one that a file spells: the operand of a line is 0.
-use Rattle.std.proofs.Common.{◌≡◌, ℕ, Bool, true, false, List, [], ◌∷◌, ◌++◌, length, Some, refl, ap}
-use Rattle.std.specs.Prelude.{Option, None, codes, if◌then◌else◌, ◌==◌, ◌&&◌}
+use Rattle.std.proofs.Common.{◌≡◌, ℕ, Bool, true, false, List, [], ◌∷◌, ◌++◌, length, Some, refl, ap, Option, None, codes, if◌then◌else◌, ◌==◌, ◌&&◌}
+use Rattle.std.proofs.lemmas.Bool.{and_parts}
 use Rattle.beam_model.specs.declared.instruction.Operand.{Operand}
 use Rattle.beam_model.specs.declared.instruction.Instruction.{Instruction}
 use Rattle.beam_model.specs.declared.item.Item.{Item}
-use Rattle.beam_model.specs.declared.item.Item.TheVariants as item
 use Rattle.beam_model.specs.declared.opcode.Opcode.{Opcode}
+use Rattle.beam_model.specs.Prelude.{without_line_number, listed_operands, same_text, shape_of, kinds_of, opcode_of, opcode_named, list_parts, atom_of_text, headed_of, only, label_of_text, operands_from, instruction_of_parts, is_plain_shape, is_test_shape, is_bif0_shape, is_bif_shape, is_gc_bif_shape, is_raise_shape, plain_of, test_of, raise_by, raise_of_text, counted, bif0_of, bif_by, is_raise_call, bif_of, gc_bif_of, line_instruction, instruction_by, function_of_parts, item_by, bare_item, item_of}
+use Rattle.beam_model.specs.declared.item.Item.TheVariants as item
 use Rattle.beam_model.specs.declared.opcode.Opcode.TheVariants as op
-use Rattle.beam_model.specs.Assembly.{without_line_number}
-use Rattle.beam_model.specs.CodeChunk.{listed_operands}
-use Rattle.beam_model.specs.SameText.{same_text}
-use Rattle.beam_model.specs.ListingShapes.{shape_of}
-use Rattle.beam_model.specs.Opcodes.{kinds_of, opcode_of, opcode_named}
-use Rattle.beam_model.specs.Forms.{◌>>=◌, list_parts}
-use Rattle.beam_model.specs.ListingForms.{atom_of_text, headed_of, only, label_of_text, operands_from, instruction_of_parts, is_plain_shape, is_test_shape, is_bif0_shape, is_bif_shape, is_gc_bif_shape, is_raise_shape, is_end, plain_of, test_of, raise_by, raise_of_text, counted, bif0_of, bif_by, is_raise_call, bif_of, gc_bif_of, line_instruction, instruction_by, function_of_parts, item_by, bare_item, item_of}
-use Rattle.beam_listing.proofs.Exports.{split_and}
+use Rattle.beam_model.specs.Forms.{◌>>=◌}
+use Rattle.beam_model.specs.ListingForms.{is_end}
 
 abbrev IsSpelled : Option Instruction → Type 0
 IsSpelled None = Unit {0}
@@ -96,7 +91,7 @@ unfolding bif0_of
 bif0_spelled name fail dest =
     bound (label_of_text fail) (λ label. opcode_of 9 >>= λ o. instruction_of_parts (label == 0 && is_bif0_shape (shape_of o)) o (name ∷ dest ∷ [])) (λ label.
     bound (opcode_of 9) (λ o. instruction_of_parts (label == 0 && is_bif0_shape (shape_of o)) o (name ∷ dest ∷ [])) (λ o.
-    written_spelled (label == 0 && is_bif0_shape (shape_of o)) o (name ∷ dest ∷ []) (λ fits. bif0_is o (split_and (label == 0) (is_bif0_shape (shape_of o)) fits).1)))
+    written_spelled (label == 0 && is_bif0_shape (shape_of o)) o (name ∷ dest ∷ []) (λ fits. bif0_is o (and_parts (label == 0) (is_bif0_shape (shape_of o)) fits).1)))
 
 bif_by_spelled : (name fail : List ℕ) (parts : List (List ℕ)) (dest : List ℕ) → IsSpelled (bif_by name fail parts dest)
 unfolding bif_by

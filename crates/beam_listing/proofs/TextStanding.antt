@@ -1,24 +1,16 @@
 -- A text is read exactly as the listing whose forms stand in it.
-use Rattle.std.proofs.Common.{◌≡◌, ℕ, zero, suc, ◌≤◌, Bool, true, false, cond, List, [], ◌∷◌, ◌++◌, map, length, Result, Ok, Err, refl, sym, ap, subst, ◌∙◌, append_assoc, arith}
-use Rattle.std.specs.Prelude.{◌==◌}
-use Rattle.std.proofs.lemmas.List.{append-nil, length-append}
+use Rattle.std.proofs.Common.{◌≡◌, ℕ, zero, suc, ◌≤◌, Bool, true, false, cond, List, [], ◌∷◌, ◌++◌, map, length, Result, Ok, Err, refl, sym, ap, subst, ◌∙◌, append_assoc, arith, ◌==◌, append-nil, length-append}
+use Rattle.beam_lemmas.proofs.Steps.{bind_ok}
 use Rattle.beam_erltext.proofs.Texts.{differ}
 use Rattle.beam_model.specs.declared.function.Signature.{Signature}
 use Rattle.beam_model.specs.declared.function.Function.{Function}
 use Rattle.beam_model.specs.declared.instruction.Instruction.{Instruction}
 use Rattle.beam_model.specs.declared.item.Item.{Item}
+use Rattle.beam_model.specs.Prelude.{Listing, InSequence, uncommented, item_of, module_of, exports_of, attributes_of, labels_of, ListingFault, syntax, unknown, next_form, ListingBody, with_item, body_by, body_from, no_body, export_by, listing_at, with_line, listing_of_forms, listing_of_text, after_blanks}
 use Rattle.beam_model.specs.declared.item.Item.TheVariants as item
-use Rattle.beam_model.specs.Listing.{Listing}
-use Rattle.beam_model.specs.Sequence.{InSequence}
-use Rattle.beam_model.specs.Forms.{uncommented}
-use Rattle.beam_model.specs.ListingForms.{item_of, module_of, exports_of, attributes_of, labels_of}
-use Rattle.beam_model.specs.ListingReading.{ListingFault, syntax, unknown, next_form, ListingBody, with_item, body_by, body_from, no_body, export_by, listing_at, with_line, listing_of_forms, listing_of_text}
 use Rattle.beam_model.specs.Reading.{◌>>=◌}
-use Rattle.beam_model.specs.TextReading.{after_blanks}
-use Rattle.beam_listing.specs.BracketForm.{HasNoMargin}
-use Rattle.beam_listing.specs.ItemForm.{IsModuleForm, IsExportsForm, IsAttributesForm, IsLabelsForm, IsItemForm}
-use Rattle.beam_listing.specs.ListingForm.{IsForm, functions_in, instructions_in, AreInFunctions, AreForms, IsListingText}
-use Rattle.beam_listing.proofs.FrontForms.{bind_ok, done, ok_is, no_margin, margin, after_margin, next_told, next_read, form_margin, form_bytes}
+use Rattle.beam_listing.specs.Prelude.{HasNoMargin, IsModuleForm, IsExportsForm, IsAttributesForm, IsLabelsForm, IsItemForm, IsForm, functions_in, instructions_in, AreInFunctions, AreForms, IsListingText}
+use Rattle.beam_listing.proofs.FrontForms.{done, ok_is, no_margin, margin, after_margin, next_told, next_read, form_margin, form_bytes}
 use Rattle.beam_listing.proofs.HeadMeans.{module_means, exports_means, attributes_means, labels_means}
 use Rattle.beam_listing.proofs.ItemMeans.{item_means}
 

@@ -1,22 +1,21 @@
 -- Printed texts, as scanned for comments, full stops and commas: the scan ends as it begins, outside of quotes and brackets.
-use Rattle.std.proofs.Common.{◌≡◌, ℕ, suc, ◌+◌, ◌/◌, ◌%◌, ◌^◌, ◌<◌, ◌≤◌, Bool, true, false, cond, ◌⊎◌, inl, inr, ℤ, pos, negsuc, List, [], ◌∷◌, ◌++◌, length, Some, refl, sym, ap, ◌∙◌, subst, arith}
-use Rattle.std.specs.Prelude.{◌==◌, ◌&&◌, ◌||◌, nat_le, nat_lt}
+use Rattle.std.proofs.Common.{◌≡◌, ℕ, suc, ◌+◌, ◌/◌, ◌%◌, ◌^◌, ◌<◌, ◌≤◌, Bool, true, false, cond, ◌⊎◌, inl, inr, ℤ, pos, negsuc, List, [], ◌∷◌, ◌++◌, length, Some, refl, sym, ap, ◌∙◌, subst, arith, ◌==◌, ◌&&◌, ◌||◌, nat_le, nat_lt}
 use Rattle.std.specs.List.{list_all, flat_map}
-use Rattle.std.specs.Fmt.{decimal, signed_decimal, digits, digit_glyph}
+use Rattle.std.specs.Fmt.{signed_decimal, digits, digit_glyph, decimal}
 use Rattle.std.proofs.lemmas.Fmt.{decimal_by_steps, hex_one_digit, hex_two_digits}
-use Rattle.std.proofs.lemmas.Bool.{cases_lt}
+use Rattle.std.proofs.lemmas.Bool.{cases_lt, and_parts, or_parts}
 use Rattle.std.proofs.lemmas.Bool.Decides.{nat_tests}
 use Rattle.std.proofs.lemmas.Int.{ints}
 use Rattle.std.proofs.lemmas.List.Concat.{flat_map-cons}
 use Rattle.std.proofs.lemmas.List.Folds.{list_all-append}
-use Rattle.beam_term.specs.TermValue.{TermValue, Terms, int_term, atom_term, reference_term, pid_term, nil_term, pair_term, tuple_term, no_terms, more_terms, IsSmall, IsInRange, AreInRange}
+use Rattle.beam_lemmas.proofs.Tests.{and_false}
 use Rattle.beam_model.specs.declared.lex_state.LexState.{LexState}
+use Rattle.beam_model.specs.Prelude.{is_lower, is_digit, is_name, is_unquoted, escaped, atom_text, text_of, tail_text, items_text, HasText, AllHaveText, inside_after, is_comment, is_closing, open_after, is_stop, stop_from, uncommented_from}
+use Rattle.beam_term.specs.Prelude.{TermValue, Terms, int_term, atom_term, reference_term, pid_term, nil_term, pair_term, tuple_term, no_terms, more_terms, IsSmall, IsInRange, AreInRange}
 use Rattle.beam_model.specs.declared.lex_state.LexState.TheVariants as inside
-use Rattle.beam_model.specs.Text.{is_lower, is_digit, is_name, is_unquoted, escaped, atom_text, text_of, tail_text, items_text, HasText, AllHaveText}
-use Rattle.beam_model.specs.Forms.{inside_after, is_comment, is_closing, open_after, is_stop, stop_from, uncommented_from}
 use Rattle.beam_erltext.proofs.Texts.{differ}
 use Rattle.beam_erltext.proofs.IntegerRoundTrip.{digit_is}
-use Rattle.beam_erltext.proofs.AtomRoundTrip.{and_true, bare_is}
+use Rattle.beam_erltext.proofs.AtomRoundTrip.{bare_is}
 
 -- no byte of the text is a stop or a part of a comment, and the scan leads from one state to another
 abbrev pub Trace : ℕ → LexState → List ℕ → List ℕ → LexState → List ℕ → Type 0
@@ -70,10 +69,6 @@ uncommented_behind mark s d (c ∷ cs) t e rest h =
 
 -- ---- bytes outside of quotes
 
-and_false : (b : Bool) → (b && false) ≡ false
-and_false true = refl
-and_false false = refl
-
 -- a byte that is neither a quote nor a bracket, and begins no comment
 pub record IsPlain (c : ℕ) : Type 0 where
   pub percent : (c == 37) ≡ false
@@ -126,7 +121,7 @@ mark_no_name c mark e (inr m) = rw m (not_name c 46 e refl)
 pub safe_name : (text : List ℕ) → list_all is_name text ≡ true → Safe text
 safe_name [] all mark m d = (refl, refl)
 safe_name (c ∷ cs) all mark m d =
-    let both = and_true (is_name c) (list_all is_name cs) all in
+    let both = and_parts (is_name c) (list_all is_name cs) all in
     trace_append mark inside.Nothing d (c ∷ []) inside.Nothing d cs inside.Nothing d
     (plain_trace mark d c (name_plain c both.0) (mark_no_name c mark both.0 m)) (safe_name cs both.1 mark m d)
 
@@ -183,10 +178,6 @@ quoted_hex c small = by (cases_lt c 16)
     by (inl h) = rw (hex_one_digit true c h) (quoted_glyph c h)
     by (inr h) = rw (hex_two_digits true c h small) (quoted_append (digit_glyph true (c / 16) ∷ []) (digit_glyph true (c % 16) ∷ []) (quoted_glyph (c / 16) (omega arith)) (quoted_glyph (c % 16) (omega arith)))
 
-or_false : (a b : Bool) → (a || b) ≡ false → (a ≡ false) × (b ≡ false)
-or_false true b e = absurd cc
-or_false false b e = (refl, e)
-
 abbrev escaped_by : ℕ → Bool → Bool → List ℕ
 escaped_by c mark control = cond mark (92 ∷ c ∷ []) (cond control (92 ∷ 120 ∷ 123 ∷ (digits 16 true c ++ 125 ∷ [])) (c ∷ []))
 
@@ -202,7 +193,7 @@ quoted_escaped c = by (c == 39 || c == 92) (nat_lt c 32 || c == 127) refl refl
         quoted_append (92 ∷ 120 ∷ []) (123 ∷ (digits 16 true c ++ 125 ∷ [])) (quoted_escape 120)
         (quoted_append (123 ∷ []) (digits 16 true c ++ 125 ∷ []) (quoted_byte 123 refl refl)
         (quoted_append (digits 16 true c) (125 ∷ []) (quoted_hex c (low f)) (quoted_byte 125 refl refl)))
-    by false false e f = quoted_byte c (or_false (c == 39) (c == 92) e).0 (or_false (c == 39) (c == 92) e).1
+    by false false e f = quoted_byte c (or_parts (c == 39) (c == 92) e).0 (or_parts (c == 39) (c == 92) e).1
 
 quoted_name : (name : List ℕ) → Quoted (flat_map escaped name)
 quoted_name [] = λ mark d. (refl, refl)

@@ -1,19 +1,15 @@
 -- Each printed operand is read again under its kind.
-use Rattle.std.proofs.Common.{◌≡◌, ℕ, true, false, List, [], ◌∷◌, ◌++◌, Some, refl, sym, ap, ◌∙◌, append_assoc, append-nil}
-use Rattle.std.specs.Prelude.{codes}
+use Rattle.std.proofs.Common.{◌≡◌, ℕ, true, false, List, [], ◌∷◌, ◌++◌, Some, refl, sym, ap, ◌∙◌, append_assoc, append-nil, codes}
 use Rattle.beam_model.specs.declared.function.Import.{Import}
-use Rattle.beam_model.specs.declared.instruction.Argument.TheVariants as argument
 use Rattle.beam_model.specs.declared.instruction.Operand.{Operand}
-use Rattle.beam_model.specs.declared.instruction.Operand.TheVariants as operand
 use Rattle.beam_model.specs.declared.opcode.Kind.{Kind}
+use Rattle.beam_model.specs.Prelude.{atom_text, is_number_operand, is_label_operand, is_atom_operand, term_text, operand_text, number_member, label_argument, atom_argument, part_of, source_of_text, register_of_text, import_of_text, native_of, members_of_text, as_one, as_import, as_list, operand_of_text, operands_from}
+use Rattle.beam_model.specs.declared.instruction.Argument.TheVariants as argument
+use Rattle.beam_model.specs.declared.instruction.Operand.TheVariants as operand
 use Rattle.beam_model.specs.declared.opcode.Kind.TheVariants as kind
-use Rattle.beam_term.specs.TermValue.{int_term, atom_term, reference_term, pid_term, nil_term, pair_term, tuple_term}
-use Rattle.beam_model.specs.Text.{atom_text}
-use Rattle.beam_model.specs.Loadable.{is_number_operand, is_label_operand, is_atom_operand}
-use Rattle.beam_model.specs.ListingText.{term_text, operand_text}
-use Rattle.beam_model.specs.ListingForms.{number_member, label_argument, atom_argument, part_of, source_of_text, register_of_text, import_of_text, native_of, members_of_text, as_one, as_import, as_list, operand_of_text, operands_from}
+use Rattle.beam_term.specs.Prelude.{int_term, atom_term, reference_term, pid_term, nil_term, pair_term, tuple_term}
 use Rattle.beam_listing.specs.Typed.{IsImport}
-use Rattle.beam_listing.specs.Printed.{is_any_register, is_any_source, is_any_import, is_any_list, is_of_kind, is_raise_two}
+use Rattle.beam_listing.specs.Prelude.{is_any_register, is_any_source, is_any_import, is_any_list, is_of_kind, is_raise_two}
 use Rattle.beam_listing.proofs.Elements.{IsPart, AreParts}
 use Rattle.beam_listing.proofs.Operands.{IsReadArgument, atom_whole, atom_part, atom_word, tagged_headed, x_again, y_again, f_again, x_source, y_source, term_source_again}
 use Rattle.beam_listing.proofs.Members.{AreArguments, argument_part, number_again, list_again, list_text_part, import_again, import_part, native_again}

@@ -1,14 +1,9 @@
 -- The whole text of a listing is read, by what its instructions' forms add to a body.
-use Rattle.std.proofs.Common.{◌≡◌, ℕ, ◌^◌, ◌<◌, List, [], ◌∷◌, ◌++◌, length, Ok, refl, ap, ◌∙◌, append_assoc, arith}
-use Rattle.std.specs.Prelude.{codes, map}
+use Rattle.std.proofs.Common.{◌≡◌, ℕ, ◌^◌, ◌<◌, List, [], ◌∷◌, ◌++◌, length, Ok, refl, ap, ◌∙◌, append_assoc, arith, codes, map}
 use Rattle.std.specs.Fmt.{decimal}
-use Rattle.beam_term.specs.Atom.{IsAtomText}
 use Rattle.beam_model.specs.declared.item.Item.{Item}
-use Rattle.beam_model.specs.Listing.{Listing}
-use Rattle.beam_model.specs.Text.{atom_text}
-use Rattle.beam_model.specs.ListingText.{tagged, heads_text, listing_text}
-use Rattle.beam_model.specs.ListingForms.{module_of, exports_of, attributes_of, labels_of}
-use Rattle.beam_model.specs.ListingReading.{ListingBody, no_body, body_from, export_by, listing_at, with_line, listing_of_forms, listing_of_text}
+use Rattle.beam_model.specs.Prelude.{Listing, atom_text, tagged, heads_text, listing_text, module_of, exports_of, attributes_of, labels_of, ListingBody, no_body, body_from, export_by, listing_at, with_line, listing_of_forms, listing_of_text}
+use Rattle.beam_term.specs.Prelude.{IsAtomText}
 use Rattle.beam_listing.proofs.Elements.{AreParts}
 use Rattle.beam_listing.proofs.HeadForms.{AreExports, signatures_by, next_again, exports_form, module_part, module_again, exports_part, exports_again, attributes_part, attributes_again, labels_part, labels_again}
 use Rattle.beam_listing.proofs.Bodies.{forms_text, forms_plain, forms_uncommented, AreItems, item_parts, Adds, body_again}

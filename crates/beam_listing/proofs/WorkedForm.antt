@@ -1,13 +1,8 @@
 -- A form's value by reading is its value by the definition.
-use Rattle.std.proofs.Common.{◌≡◌, Some, refl}
-use Rattle.std.specs.Prelude.{codes}
-use Rattle.std.specs.Str.{chars, is_utf8}
-use Rattle.beam_model.specs.Text.{is_reserved}
-use Rattle.beam_model.specs.TextReading.{after_blanks, digits_after, digits_at, integer_at, atom_at}
-use Rattle.beam_model.specs.Forms.{stop_from, elements_from, elements_within, bracketed_elements}
-use Rattle.beam_model.specs.ListingForms.{integer_of_text, atom_of_text, number_of_text, headed_of, plain_register, register_of_parts, register_of_text, term_of_part, term_source, source_of_text, operand_of_text, operands_from, plain_of, instruction_by, item_by, item_of}
-use Rattle.beam_listing.specs.ItemForm.{IsItemForm}
-use Rattle.beam_listing.specs.WorkedForm.{moves_ok}
+use Rattle.std.proofs.Common.{◌≡◌, Some, refl, codes}
+use Rattle.std.specs.Str.{is_utf8, chars}
+use Rattle.beam_model.specs.Prelude.{is_reserved, after_blanks, digits_after, digits_at, integer_at, atom_at, stop_from, elements_from, elements_within, bracketed_elements, integer_of_text, atom_of_text, number_of_text, headed_of, plain_register, register_of_parts, register_of_text, term_of_part, term_source, source_of_text, operand_of_text, operands_from, plain_of, instruction_by, item_by, item_of}
+use Rattle.beam_listing.specs.Prelude.{IsItemForm, moves_ok}
 use Rattle.beam_listing.proofs.ItemMeans.{item_means}
 
 move_read : item_of (codes "{move,{atom,ok},{x,0}}") ≡ Some moves_ok

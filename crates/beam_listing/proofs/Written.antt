@@ -1,25 +1,20 @@
 -- Printed instructions are read again.
-use Rattle.std.proofs.Common.{◌≡◌, ℕ, Bool, true, false, cond, List, [], ◌∷◌, ◌++◌, length, Some, refl, sym, ap, ◌∙◌, subst, append_assoc, arith}
-use Rattle.std.specs.Prelude.{Option, codes, not, ◌||◌, ◌==◌}
+use Rattle.std.proofs.Common.{◌≡◌, ℕ, Bool, true, false, cond, List, [], ◌∷◌, ◌++◌, length, Some, refl, sym, ap, ◌∙◌, subst, append_assoc, arith, Option, codes, not, ◌||◌, ◌==◌}
 use Rattle.std.specs.List.{list_any}
-use Rattle.std.specs.Str.{chars, is_utf8}
+use Rattle.std.specs.Str.{is_utf8, chars}
 use Rattle.beam_model.specs.declared.instruction.Argument.TheVariants as argument
 use Rattle.beam_model.specs.declared.instruction.Operand.{Operand}
-use Rattle.beam_model.specs.declared.instruction.Operand.TheVariants as operand
 use Rattle.beam_model.specs.declared.instruction.Instruction.{Instruction}
 use Rattle.beam_model.specs.declared.item.Item.{Item}
-use Rattle.beam_model.specs.declared.item.Item.TheVariants as item
 use Rattle.beam_model.specs.declared.opcode.Opcode.{Opcode}
-use Rattle.beam_model.specs.declared.opcode.Opcode.TheVariants as op
 use Rattle.beam_model.specs.declared.opcode.Kind.{Kind}
+use Rattle.beam_model.specs.Prelude.{same_text, is_reserved, atom_text, kinds_of, name_of, shape_of, list_parts, operand_text, operands_text, plain_text, line_text, test_text, headed_of, operands_from, is_plain_shape, is_test_shape, plain_of, test_of, instruction_by, item_by, bare_item, item_of}
+use Rattle.beam_model.specs.declared.instruction.Operand.TheVariants as operand
+use Rattle.beam_model.specs.declared.item.Item.TheVariants as item
+use Rattle.beam_model.specs.declared.opcode.Opcode.TheVariants as op
 use Rattle.beam_model.specs.declared.opcode.Kind.TheVariants as kind
-use Rattle.beam_model.specs.SameText.{same_text}
-use Rattle.beam_model.specs.Text.{is_reserved, atom_text}
-use Rattle.beam_model.specs.Opcodes.{kinds_of, name_of}
-use Rattle.beam_model.specs.ListingShapes.{shape_of}
-use Rattle.beam_model.specs.Forms.{◌>>=◌, list_parts}
-use Rattle.beam_model.specs.ListingText.{operand_text, operands_text, plain_text, line_text, test_text}
-use Rattle.beam_model.specs.ListingForms.{headed_of, operands_from, is_plain_shape, is_test_shape, is_end, plain_of, test_of, instruction_by, item_by, bare_item, item_of}
+use Rattle.beam_model.specs.Forms.{◌>>=◌}
+use Rattle.beam_model.specs.ListingForms.{is_end}
 use Rattle.beam_listing.proofs.Traces.{Brackets, square, brace, right}
 use Rattle.beam_listing.proofs.Elements.{IsPart, AreParts, closed, parts_again}
 use Rattle.beam_listing.proofs.Operands.{IsWord, word, word_part, atom_part, atom_whole}

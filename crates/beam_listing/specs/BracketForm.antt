@@ -2,7 +2,7 @@
 -- (Erlang Reference Manual, Data Types; the compiler's .S files).
 use Rattle.std.specs.Prelude.{◌≡◌, ◌≢◌, ◌⊎◌, ℕ, ◌==◌, List, [], ◌∷◌, ◌++◌, IsTrue, IsFalse, ⊤}
 use Rattle.std.specs.List.{list_all, list_any}
-use Rattle.beam_model.specs.TextReading.{is_blank}
+use Rattle.beam_model.specs.Prelude.{is_blank}
 
 -- a text that begins with no blank
 abbrev pub HasNoMargin : List ℕ → Type 0

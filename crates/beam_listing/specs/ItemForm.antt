@@ -5,13 +5,11 @@ use Rattle.beam_model.specs.declared.function.Signature.{Signature}
 use Rattle.beam_model.specs.declared.function.Function.{Function}
 use Rattle.beam_model.specs.declared.instruction.Instruction.{Instruction}
 use Rattle.beam_model.specs.declared.item.Item.{Item}
+use Rattle.beam_model.specs.Prelude.{line_instruction, shape_of, name_of, kinds_of}
 use Rattle.beam_model.specs.declared.item.Item.TheVariants as item
 use Rattle.beam_model.specs.declared.opcode.Opcode.TheVariants as op
 use Rattle.beam_model.specs.declared.shape.Shape.{Shape}
 use Rattle.beam_model.specs.declared.shape.Shape.TheVariants as shape
-use Rattle.beam_model.specs.ListingForms.{line_instruction}
-use Rattle.beam_model.specs.ListingShapes.{shape_of}
-use Rattle.beam_model.specs.Opcodes.{name_of, kinds_of}
 use Rattle.beam_listing.specs.BracketForm.{AreBracketed, AreListed, AreEach}
 use Rattle.beam_listing.specs.OperandForm.{IsNumber, IsAtom, IsHeaded, IsTagged, IsLabel, AreOperands}
 

@@ -7,3 +7,4 @@ pub mod Printed
 pub mod Reads
 pub mod Typed
 pub mod WorkedForm
+pub mod Prelude

@@ -4,11 +4,8 @@ use Rattle.beam_model.specs.declared.function.Signature.{Signature}
 use Rattle.beam_model.specs.declared.function.Function.{Function}
 use Rattle.beam_model.specs.declared.instruction.Instruction.{Instruction}
 use Rattle.beam_model.specs.declared.item.Item.{Item}
+use Rattle.beam_model.specs.Prelude.{Listing, InSequence, uncommented, export_by}
 use Rattle.beam_model.specs.declared.item.Item.TheVariants as item
-use Rattle.beam_model.specs.Listing.{Listing}
-use Rattle.beam_model.specs.Sequence.{InSequence}
-use Rattle.beam_model.specs.Forms.{uncommented}
-use Rattle.beam_model.specs.ListingReading.{export_by}
 use Rattle.beam_listing.specs.BracketForm.{HasNoMargin, AreBlanks, IsBalanced}
 use Rattle.beam_listing.specs.ItemForm.{IsModuleForm, IsExportsForm, IsAttributesForm, IsLabelsForm, IsItemForm}
 

@@ -1,15 +1,14 @@
 -- Which text is which operand, by what stands where (the compiler's .S files). Numbers, atoms and terms are those of Erlang text.
 use Rattle.std.specs.Prelude.{◌≡◌, ◌⊎◌, ℕ, ◌^◌, ◌<◌, ℤ, pos, List, [], ◌∷◌, Ok, IsTrue, codes, ⊤}
-use Rattle.beam_term.specs.TermValue.{TermValue, int_term, atom_term, nil_term}
 use Rattle.beam_model.specs.declared.function.Import.{Import}
 use Rattle.beam_model.specs.declared.instruction.Argument.{Argument}
-use Rattle.beam_model.specs.declared.instruction.Argument.TheVariants as argument
 use Rattle.beam_model.specs.declared.instruction.Operand.{Operand}
-use Rattle.beam_model.specs.declared.instruction.Operand.TheVariants as operand
 use Rattle.beam_model.specs.declared.opcode.Kind.{Kind}
+use Rattle.beam_model.specs.Prelude.{is_digit, integer_at, atom_at, term_at}
+use Rattle.beam_term.specs.Prelude.{TermValue, int_term, atom_term, nil_term}
+use Rattle.beam_model.specs.declared.instruction.Argument.TheVariants as argument
+use Rattle.beam_model.specs.declared.instruction.Operand.TheVariants as operand
 use Rattle.beam_model.specs.declared.opcode.Kind.TheVariants as kind
-use Rattle.beam_model.specs.Text.{is_digit}
-use Rattle.beam_model.specs.TextReading.{integer_at, atom_at, term_at}
 use Rattle.beam_listing.specs.BracketForm.{AreBracketed, AreListed, AreEach}
 
 -- ---- numbers, atoms and terms: the whole text, with blanks after it

@@ -1,19 +1,15 @@
 -- Which listings are read again from the text that is printed of them.
 use Rattle.std.specs.Prelude.{◌≡◌, Bool, true, false, not, ◌==◌, ◌&&◌, codes}
-use Rattle.std.specs.List.{All, list_all}
+use Rattle.std.specs.List.{list_all, All}
 use Rattle.beam_model.specs.declared.function.Import.{Import}
 use Rattle.beam_model.specs.declared.instruction.Argument.{Argument}
-use Rattle.beam_model.specs.declared.instruction.Argument.TheVariants as argument
 use Rattle.beam_model.specs.declared.instruction.Operand.{Operand}
-use Rattle.beam_model.specs.declared.instruction.Operand.TheVariants as operand
 use Rattle.beam_model.specs.declared.instruction.Instruction.{Instruction}
 use Rattle.beam_model.specs.declared.opcode.Kind.{Kind}
+use Rattle.beam_model.specs.Prelude.{Listing, same_text, all_operands, is_number_operand, is_label_operand, is_atom_operand, are_heads_lawful, are_exports_lawful, kinds_of, HasText}
+use Rattle.beam_model.specs.declared.instruction.Argument.TheVariants as argument
+use Rattle.beam_model.specs.declared.instruction.Operand.TheVariants as operand
 use Rattle.beam_model.specs.declared.opcode.Kind.TheVariants as kind
-use Rattle.beam_model.specs.Listing.{Listing}
-use Rattle.beam_model.specs.SameText.{same_text}
-use Rattle.beam_model.specs.Loadable.{all_operands, is_number_operand, is_label_operand, is_atom_operand, are_heads_lawful, are_exports_lawful}
-use Rattle.beam_model.specs.Opcodes.{kinds_of}
-use Rattle.beam_model.specs.Text.{HasText}
 
 -- ---- kinds
 

@@ -1,6 +1,6 @@
 -- The result of a reader of forms against the definition of the text's listing.
 use Rattle.std.specs.Prelude.{◌≡◌, Result, Ok, Err}
-use Rattle.beam_model.specs.ListingReading.{ListingFault, syntax, unknown, ListingBody}
+use Rattle.beam_model.specs.Prelude.{ListingFault, syntax, unknown, ListingBody}
 use Rattle.beam_listing.specs.declared.read.ListingBody.{ListingBody as BodyRead}
 use Rattle.beam_listing.specs.declared.refusal.FormRefusal.{FormRefusal}
 use Rattle.beam_listing.specs.declared.refusal.FormRefusal.TheVariants as refusals

@@ -1,6 +1,6 @@
 -- An instruction for a worked example of its form.
 use Rattle.std.specs.Prelude.{[], ◌∷◌, codes}
-use Rattle.beam_term.specs.TermValue.{atom_term}
+use Rattle.beam_term.specs.Prelude.{atom_term}
 use Rattle.beam_model.specs.declared.instruction.Argument.TheVariants as argument
 use Rattle.beam_model.specs.declared.instruction.Operand.TheVariants as operand
 use Rattle.beam_model.specs.declared.item.Item.{Item}

@@ -1,16 +1,14 @@
 -- Changes of code, and the processes that linger in it (Erlang Reference Manual, Compilation and Code Loading; the manual of OTP's code server).
 use Rattle.std.specs.Prelude.{◌≡◌, ℕ, Bool, true, false, ◌||◌, ◌==◌, if◌then◌else◌, List, [], ◌∷◌, Option, Some, None, option_map, is_some, map, filter, flat_map}
 use Rattle.std.specs.List.{AllByRecursion, list_any}
-use Rattle.beam_term.specs.TermValue.{nil_term}
+use Rattle.beam_term.specs.Prelude.{nil_term}
 use Rattle.beam_machine.specs.declared.process.Goes.{Goes}
 use Rattle.beam_machine.specs.declared.process.Goes.TheVariants.{At, Enter, Nowhere}
 use Rattle.beam_machine.specs.declared.process.Frame.{Frame}
 use Rattle.beam_machine.specs.declared.process.Slot.{Slot}
 use Rattle.beam_machine.specs.declared.process.Slot.TheVariants.{Value, Tag}
 use Rattle.beam_machine.specs.declared.process.Deadline.{Deadline}
-use Rattle.beam_model.specs.Listing.{Listing}
-use Rattle.beam_model.specs.SameText.{same_text}
-use Rattle.beam_model.specs.Place.{Place}
+use Rattle.beam_model.specs.Prelude.{Listing, same_text, Place}
 use Rattle.beam_machine.specs.Code.{Code, Versions, versions_of, listing_of}
 use Rattle.beam_machine.specs.Process.{Process, ended, killed}
 use Rattle.beam_machine.specs.State.{with_signals, downs}

@@ -18,8 +18,7 @@ use Rattle.beam_machine.specs.declared.event.Then.TheVariants.{Ended}
 use Rattle.beam_machine.specs.declared.process.Goes.{Goes}
 use Rattle.beam_machine.specs.declared.process.Goes.TheVariants.{At, Enter, Nowhere}
 use Rattle.beam_model.specs.declared.instruction.Instruction.{Instruction}
-use Rattle.beam_model.specs.Listing.{Listing, row_of_label, next_row}
-use Rattle.beam_model.specs.Place.{Place, is_same_place}
+use Rattle.beam_model.specs.Prelude.{Listing, row_of_label, next_row, Place, is_same_place}
 use Rattle.beam_machine.specs.Change.{is_live}
 use Rattle.beam_machine.specs.Code.{Code, Instance, Versions, versions_of}
 use Rattle.beam_machine.specs.Next.{Answer, Next, Rows, next, row, running, steps}

@@ -6,7 +6,7 @@ use Rattle.beam_machine.specs.declared.debug.DebugReply.TheVariants.{Node}
 use Rattle.beam_machine.specs.declared.event.Event.TheVariants.{Steps}
 use Rattle.beam_machine.specs.declared.event.Refused.TheVariants.{NoMemory}
 use Rattle.beam_machine.specs.declared.event.Reply.TheVariants.{Ran}
-use Rattle.beam_model.specs.Listing.{Listing}
+use Rattle.beam_model.specs.Prelude.{Listing}
 use Rattle.beam_machine.specs.Debug.{Debugged, DebugAnswer, debug_next}
 use Rattle.beam_machine.specs.Quiet.{is_quiet_event, is_upgrade}
 use Rattle.beam_machine.specs.Run.{effective_rows}

@@ -1,15 +1,10 @@
 -- Commands and replies as bytes: frames of a length in four bytes, a kind, and a body. (This node's own.)
 use Rattle.std.specs.Prelude.{◌≡◌, ◌≤◌, ℕ, zero, suc, ◌-◌, ◌^◌, ◌==◌, ◌&&◌, ℤ, pos, negsuc, Bool, true, false, nat_lt, not, if◌then◌else◌, IsTrue, List, [], ◌∷◌, ◌++◌, length, take, drop, codes, Option, Some, None, option_map, option_and_then, Result, Ok, Err}
 use Rattle.std.specs.List.{flat_map}
-use Rattle.std.specs.Str.{chars, is_utf8}
+use Rattle.std.specs.Str.{is_utf8, chars}
 use Rattle.byteorder.specs.Endian.{big_number, big_bytes}
-use Rattle.beam_term.specs.Atom.{IsAtomText}
-use Rattle.beam_term.specs.TermValue.{TermValue, int_term, atom_term, pid_term, tuple_term, tuple_of, list_of, elements_of}
-use Rattle.beam_model.specs.External.{IsExternal, external_bytes}
-use Rattle.beam_model.specs.ExternalFault.{ExternalFault}
-use Rattle.beam_model.specs.ExternalReading.{external_at}
-use Rattle.beam_model.specs.Native.{elements_in}
-use Rattle.beam_model.specs.SameText.{same_text}
+use Rattle.beam_model.specs.Prelude.{IsExternal, external_bytes, ExternalFault, external_at, elements_in, same_text}
+use Rattle.beam_term.specs.Prelude.{IsAtomText, TermValue, int_term, atom_term, pid_term, tuple_term, tuple_of, list_of, elements_of}
 use Rattle.beam_machine.specs.declared.command.CommandKind.{CommandKind}
 use Rattle.beam_machine.specs.declared.command.CommandKind.TheVariants as kind
 use Rattle.beam_machine.specs.declared.command.FrameFault.{FrameFault}

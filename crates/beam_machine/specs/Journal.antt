@@ -2,7 +2,7 @@
 use Rattle.std.specs.Prelude.{ℕ, ◌≡◌, List, map, Option, Ok}
 use Rattle.beam_machine.specs.declared.debug.DebugEvent.{DebugEvent}
 use Rattle.beam_machine.specs.declared.debug.DebugReply.{DebugReply}
-use Rattle.beam_model.specs.Listing.{Listing}
+use Rattle.beam_model.specs.Prelude.{Listing}
 use Rattle.beam_machine.specs.Debug.{Debugged, debug_run, undisturbed}
 use Rattle.beam_machine.specs.State.{empty}
 use Rattle.beam_machine.specs.View.{View}

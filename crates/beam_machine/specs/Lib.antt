@@ -20,3 +20,4 @@ pub mod Run
 pub mod State
 pub mod Touch
 pub mod View
+pub mod Prelude

@@ -1,5 +1,5 @@
 -- The term of a constant.
-use Rattle.beam_term.specs.TermValue.{TermValue}
+use Rattle.beam_term.specs.Prelude.{TermValue}
 use Rattle.beam_machine.specs.declared.lent.MaybeOwned.{MaybeOwned}
 use Rattle.beam_machine.specs.declared.lent.MaybeOwned.TheVariants.{Here, Lent}
 

@@ -1,7 +1,7 @@
 -- The node after one event (Erlang Reference Manual, Processes: Signals; the manuals of modules erlang and code; else this node's own).
 use Rattle.std.specs.Prelude.{ℕ, suc, zero, Bool, true, false, ◌+◌, ◌-◌, ◌^◌, ◌==◌, ◌&&◌, not, nat_lt, nat_le, if◌then◌else◌, List, [], ◌∷◌, ◌++◌, length, map, Option, Some, None, is_some, unwrap_or, Result, Ok, Err, codes}
 use Rattle.std.specs.List.{list_any}
-use Rattle.beam_term.specs.TermValue.{TermValue, atom_term, nil_term, tuple_of}
+use Rattle.beam_term.specs.Prelude.{TermValue, atom_term, nil_term, tuple_of}
 use Rattle.beam_machine.specs.declared.callee.After.{After}
 use Rattle.beam_machine.specs.declared.event.Event.{Event}
 use Rattle.beam_machine.specs.declared.event.Event.TheVariants as event
@@ -13,25 +13,20 @@ use Rattle.beam_machine.specs.declared.event.Reply.TheVariants.{Done, Changed, V
 use Rattle.beam_machine.specs.declared.event.Refused.{Refused}
 use Rattle.beam_machine.specs.declared.event.Refused.TheVariants.{NoProcess, BackwardClock, NotReady, Sticky, NotPurged, Duplicated, TooMany}
 use Rattle.beam_model.specs.declared.exception.Fault.{Fault}
-use Rattle.beam_model.specs.declared.exception.Exception.TheVariants as exception
 use Rattle.beam_model.specs.declared.exception.Exception.{Exception}
+use Rattle.beam_model.specs.Prelude.{Place, Listing, around, with_message, same_text, is_erlang}
+use Rattle.beam_model.specs.declared.exception.Exception.TheVariants as exception
 use Rattle.beam_machine.specs.declared.process.Deadline.{Deadline}
 use Rattle.beam_machine.specs.declared.process.Monitor.{Monitor}
 use Rattle.beam_machine.specs.declared.process.Signal.{Signal}
 use Rattle.beam_machine.specs.declared.process.Signal.TheVariants.{Message, Exit, Down}
 use Rattle.beam_machine.specs.declared.process.Status.TheVariants.{Running}
-use Rattle.beam_model.specs.Place.{Place}
-use Rattle.beam_model.specs.Listing.{Listing}
 use Rattle.beam_machine.specs.Code.{Code}
-use Rattle.beam_model.specs.Exception.{around}
-use Rattle.beam_model.specs.Mailbox.{with_message}
-use Rattle.beam_model.specs.SameText.{same_text}
 use Rattle.beam_machine.specs.Process.{Process, is_running, is_ended, is_waiting, then_of, started, ended, killed, own_reference, monitor_of, without_monitor}
 use Rattle.beam_machine.specs.Row.{Outcome, makes, sends, asks, sleeps, answers, goes_on, arguments_of, outcome}
 use Rattle.beam_machine.specs.State.{State, process_of, live_process, with_process, receiver_of, posted, with_made}
 use Rattle.beam_machine.specs.NodeNative.{Answered, answer_of, most_processes}
 use Rattle.beam_machine.specs.Change.{current_of, old_of, loaded, deleted, purged, lingers_in_old, lingers_in_olds, killing}
-use Rattle.beam_model.specs.NativeNames.{is_erlang}
 
 abbrev pub Answer : Type 0
 Answer = Result Reply Refused

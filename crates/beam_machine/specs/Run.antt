@@ -6,7 +6,7 @@ use Rattle.beam_machine.specs.declared.event.Then.{Then}
 use Rattle.beam_machine.specs.declared.event.Then.TheVariants.{GoesOn, Waits, Ended}
 use Rattle.beam_machine.specs.declared.event.Reply.TheVariants.{Ran}
 use Rattle.beam_machine.specs.declared.event.Refused.TheVariants.{NoMemory}
-use Rattle.beam_model.specs.Listing.{Listing}
+use Rattle.beam_model.specs.Prelude.{Listing}
 use Rattle.beam_machine.specs.State.{State}
 use Rattle.beam_machine.specs.Next.{Answer, next}
 

@@ -1,14 +1,13 @@
 -- The state of the node: code, processes, the clock, and how many instances and references there were (Erlang Reference Manual, Processes:
 -- Registered Processes, Signals, Monitors).
 use Rattle.std.specs.Prelude.{ℕ, Bool, false, ◌-◌, nat_lt, if◌then◌else◌, List, [], ◌∷◌, ◌++◌, map, filter, slice_get, slice_set, Option, Some, None}
-use Rattle.beam_term.specs.TermValue.{TermValue, atom_term, pid_term}
+use Rattle.beam_term.specs.Prelude.{TermValue, atom_term, pid_term}
 use Rattle.beam_machine.specs.declared.process.Monitor.{Monitor}
 use Rattle.beam_machine.specs.declared.process.Signal.{Signal}
 use Rattle.beam_machine.specs.declared.process.Signal.TheVariants.{Down}
 use Rattle.beam_machine.specs.declared.process.Status.{Status}
 use Rattle.beam_machine.specs.declared.process.Status.TheVariants.{Ended}
-use Rattle.beam_model.specs.Listing.{is_this_number}
-use Rattle.beam_model.specs.SameText.{same_text}
+use Rattle.beam_model.specs.Prelude.{is_this_number, same_text}
 use Rattle.beam_machine.specs.Code.{Code}
 use Rattle.beam_machine.specs.Process.{Process, is_ended}
 use Rattle.beam_machine.specs.Row.{own_number}

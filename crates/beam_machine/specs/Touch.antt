@@ -1,12 +1,12 @@
 -- The parts of the node that an event may touch. (This node's own.)
 use Rattle.std.specs.Prelude.{◌≡◌, ℕ, ◌+◌, ◌≤◌, List, [], ◌∷◌, ◌++◌, length, Some, None}
-use Rattle.beam_term.specs.TermValue.{TermValue}
+use Rattle.beam_term.specs.Prelude.{TermValue}
 use Rattle.beam_machine.specs.declared.event.Event.{Event}
 use Rattle.beam_machine.specs.declared.event.Event.TheVariants as event
 use Rattle.beam_machine.specs.declared.process.Deadline.{Deadline}
 use Rattle.beam_machine.specs.declared.process.Signal.{Signal}
 use Rattle.beam_machine.specs.declared.process.Status.TheVariants.{Running}
-use Rattle.beam_model.specs.Listing.{Listing}
+use Rattle.beam_model.specs.Prelude.{Listing}
 use Rattle.beam_machine.specs.Change.{old_of, deleted}
 use Rattle.beam_machine.specs.Next.{put_process, made_process, steps, delivered, end_old, end_olds, purge_old, load_new}
 use Rattle.beam_machine.specs.Process.{Process, started}

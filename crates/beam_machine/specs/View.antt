@@ -1,18 +1,13 @@
 -- The view of a process, and its text. (This node's own.)
 use Rattle.std.specs.Prelude.{ℕ, ◌+◌, Bool, true, false, if◌then◌else◌, List, [], ◌∷◌, ◌++◌, length, take, map, Option, Some, None, option_map, codes}
 use Rattle.std.specs.Fmt.{decimal}
-use Rattle.beam_term.specs.TermValue.{TermValue, nil_term}
 use Rattle.beam_model.specs.declared.function.Import.{Import}
 use Rattle.beam_model.specs.declared.instruction.Instruction.{Instruction}
 use Rattle.beam_model.specs.declared.instruction.Operand.{Operand}
 use Rattle.beam_model.specs.declared.opcode.Opcode.{Opcode}
+use Rattle.beam_model.specs.Prelude.{end_of_code, instruction_at, Listing, label_of, is_row, instruction_text, atom_in, number_in, Place, atom_text, text_of}
+use Rattle.beam_term.specs.Prelude.{TermValue, nil_term}
 use Rattle.beam_model.specs.declared.opcode.Opcode.TheVariants as op
-use Rattle.beam_model.specs.Fetch.{end_of_code, instruction_at}
-use Rattle.beam_model.specs.Listing.{Listing, label_of, is_row}
-use Rattle.beam_model.specs.ListingText.{instruction_text}
-use Rattle.beam_model.specs.Loadable.{atom_in, number_in}
-use Rattle.beam_model.specs.Place.{Place}
-use Rattle.beam_model.specs.Text.{atom_text, text_of}
 use Rattle.beam_machine.specs.declared.process.Frame.{Frame}
 use Rattle.beam_machine.specs.declared.process.Goes.{Goes}
 use Rattle.beam_machine.specs.declared.process.Goes.TheVariants.{At, Enter, Nowhere}

@@ -1,9 +1,9 @@
 -- The messages that indices name.
-use Rattle.std.proofs.Common.{◌≡◌, ℕ, ◌+◌, List, [], ◌∷◌, ◌++◌, length, remove, slice_index_or, sym, ap, ◌∙◌, refl, arith}
+use Rattle.std.proofs.Common.{◌≡◌, ℕ, ◌+◌, List, [], ◌∷◌, ◌++◌, length, remove, slice_index_or, sym, ap, ◌∙◌, refl, arith, map-id}
 use Rattle.std.specs.List.{range_with_len}
-use Rattle.std.proofs.lemmas.List.{map-append, take-map, drop-map, map-id}
+use Rattle.std.proofs.lemmas.List.{map-append, take-map, drop-map}
 use Rattle.std.proofs.lemmas.List.FromFn.{map-range_with_len_more, fill_by_all}
-use Rattle.beam_term.specs.TermValue.{TermValue, nil_term}
+use Rattle.beam_term.specs.Prelude.{TermValue, nil_term}
 use Rattle.beam_mailbox.specs.Chunks.{chosen}
 
 pub range_more : (n : ℕ) → range_with_len 0 (n + 1) ≡ range_with_len 0 n ++ n ∷ []

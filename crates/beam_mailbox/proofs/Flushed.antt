@@ -1,13 +1,10 @@
 -- The first message of a reference.
-use Rattle.std.proofs.Common.{◌≡◌, ◌≢◌, ℕ, zero, suc, ◌+◌, ◌==◌, ◌&&◌, ◌≤◌, ◌<◌, Bool, true, false, cond, List, [], ◌∷◌, ◌++◌, length, take, drop, nat_lt, get_or, refl, sym, ap, ◌∙◌, arith}
+use Rattle.std.proofs.Common.{◌≡◌, ◌≢◌, ℕ, zero, suc, ◌+◌, ◌==◌, ◌&&◌, ◌≤◌, ◌<◌, Bool, true, false, cond, List, [], ◌∷◌, ◌++◌, length, take, drop, nat_lt, get_or, refl, sym, ap, ◌∙◌, arith, slice_get, remove, Option, Some, None}
 use Rattle.std.proofs.lemmas.Bool.Decides.{nat_tests}
 use Rattle.std.proofs.lemmas.Option.{slice_get_within, slice_get-get_or}
-use Rattle.std.specs.Prelude.{slice_get, remove, Option, Some, None}
-use Rattle.beam_term.specs.TermValue.{TermValue, int_term, atom_term, reference_term, pid_term, nil_term, pair_term, tuple_term, tuple_of}
-use Rattle.beam_term.specs.Order.{rank_of}
-use Rattle.beam_term.specs.Elements.{elements_of-terms_of, count_of-terms_of}
-use Rattle.beam_model.specs.Mailbox.{Mailbox, message_at, with_next, with_removed, without_first}
-use Rattle.beam_machine.specs.Row.{is_this_term, is_of_reference}
+use Rattle.beam_machine.specs.Prelude.{is_this_term, is_of_reference}
+use Rattle.beam_model.specs.Prelude.{Mailbox, message_at, with_next, with_removed, without_first}
+use Rattle.beam_term.specs.Prelude.{TermValue, int_term, atom_term, reference_term, pid_term, nil_term, pair_term, tuple_term, tuple_of, rank_of, elements_of-terms_of, count_of-terms_of}
 use Rattle.beam_mailbox.specs.Messages.{is_one_of_reference}
 
 pub of_tuple : (reference : TermValue) (xs : List TermValue) → is_of_reference reference (tuple_of xs) ≡ (length xs == 5 && is_this_term reference (slice_get xs 1))

@@ -1,8 +1,8 @@
 -- Lists that are joined: their elements, and the list without one of them.
-use Rattle.std.proofs.Common.{◌≡◌, ◌<◌, ◌≤◌, ℕ, zero, suc, ◌+◌, ◌-◌, List, [], ◌∷◌, ◌++◌, length, remove, take, set, slice_get, slice_index_or, sym, ap, ◌∙◌, refl, zero-add, append_assoc, arith}
-use Rattle.std.proofs.lemmas.List.{length-append, nil_from_length}
+use Rattle.std.proofs.Common.{◌≡◌, ◌<◌, ◌≤◌, ℕ, zero, suc, ◌+◌, ◌-◌, List, [], ◌∷◌, ◌++◌, length, remove, take, set, slice_get, slice_index_or, sym, ap, ◌∙◌, refl, zero-add, append_assoc, arith, length-append}
+use Rattle.std.proofs.lemmas.List.{nil_from_length}
 use Rattle.std.proofs.lemmas.List.Edits.{remove-append_left, remove-append_right, length-remove}
-use Rattle.beam_term.specs.TermValue.{TermValue}
+use Rattle.beam_term.specs.Prelude.{TermValue}
 use Rattle.beam_mailbox.specs.Chunks.{joined, piece}
 
 slice_get_left : (xs ys : List TermValue) (i : ℕ) → i < length xs → slice_get (xs ++ ys) i ≡ slice_get xs i

@@ -1,7 +1,7 @@
 -- The position of the save pointer.
-use Rattle.std.proofs.Common.{◌≡◌, ◌<◌, ◌≤◌, ℕ, zero, suc, ◌+◌, ◌-◌, List, [], ◌∷◌, ◌++◌, length, take, sym, ap, ◌∙◌, ◌≢◌, ◌⊎◌, inl, inr, refl, subst, set, remove, slice_get, slice_index_or, append_assoc, append-nil, is_some, true, arith}
-use Rattle.std.proofs.lemmas.List.{length-append, take_all, take-append-le, get_or_default, get_or_past, length_push}
-use Rattle.beam_term.specs.TermValue.{TermValue}
+use Rattle.std.proofs.Common.{◌≡◌, ◌<◌, ◌≤◌, ℕ, zero, suc, ◌+◌, ◌-◌, List, [], ◌∷◌, ◌++◌, length, take, sym, ap, ◌∙◌, ◌≢◌, ◌⊎◌, inl, inr, refl, subst, set, remove, slice_get, slice_index_or, append_assoc, append-nil, is_some, true, arith, length-append, take_all}
+use Rattle.std.proofs.lemmas.List.{take-append-le, get_or_default, get_or_past, length_push}
+use Rattle.beam_term.specs.Prelude.{TermValue}
 use Rattle.beam_mailbox.specs.Chunks.{joined, piece, AreFilled, IsAt}
 use Rattle.std.proofs.lemmas.Bool.{cases_lt, cases_eq}
 use Rattle.beam_mailbox.proofs.Joined.{joined_append, joined_more, slice_get_joined, remove_joined, remove_last}

@@ -1,7 +1,7 @@
 -- The messages of chunks, and where among them the save pointer is.
 use Rattle.std.specs.Prelude.{◌≡◌, ◌<◌, ◌≤◌, ◌+◌, ℕ, List, [], ◌∷◌, ◌++◌, length, map, take, slice_index_or}
 use Rattle.std.specs.List.{All}
-use Rattle.beam_term.specs.TermValue.{TermValue, nil_term}
+use Rattle.beam_term.specs.Prelude.{TermValue, nil_term}
 
 -- the messages at these indices
 abbrev pub chosen : List TermValue → List ℕ → List TermValue

@@ -1,10 +1,10 @@
 -- The messages among signals.
 use Rattle.std.specs.Prelude.{Bool, false, List, [], ◌∷◌, ◌++◌, Option, Some, None}
-use Rattle.beam_term.specs.TermValue.{TermValue}
+use Rattle.beam_model.specs.Prelude.{Mailbox}
 use Rattle.beam_machine.specs.declared.process.Signal.{Signal}
 use Rattle.beam_machine.specs.declared.process.Signal.TheVariants.{Message, Exit, Down}
-use Rattle.beam_model.specs.Mailbox.{Mailbox}
-use Rattle.beam_machine.specs.Row.{is_of_reference}
+use Rattle.beam_machine.specs.Prelude.{is_of_reference}
+use Rattle.beam_term.specs.Prelude.{TermValue}
 
 -- the messages, in their order
 abbrev pub messages_of : List Signal → List TermValue

@@ -3,8 +3,7 @@ use Rattle.std.specs.Prelude.{◌≡◌, ℕ, ◌+◌, ◌^◌, ◌≤◌, ◌==
 use Rattle.std.specs.Result.{result_ok}
 use Rattle.std.specs.List.{list_any, list_all}
 use Rattle.byteorder.specs.Endian.{big_bytes}
-use Rattle.beam_term.specs.TermValue.{TermValue, int_term, atom_term, nil_term}
-use Rattle.beam_term.specs.Order.{term_eq}
+use Rattle.beam_term.specs.Prelude.{TermValue, int_term, atom_term, nil_term, term_eq}
 use Rattle.beam_model.specs.declared.compact.Compact.{Compact}
 use Rattle.beam_model.specs.declared.compact.Compact.TheVariants as compact
 use Rattle.beam_model.specs.declared.compact.CompactOperand.{CompactOperand}

@@ -1,8 +1,8 @@
 -- Which bytes spell which chunks, by what stands where: the IFF form of a BEAM file (the BEAM file format; EA IFF 85).
 use Rattle.std.specs.Prelude.{◌≡◌, ◌⊎◌, ℕ, ◌+◌, ◌<◌, List, [], ◌∷◌, ◌++◌, length, map, codes}
-use Rattle.std.specs.List.{filter}
-use Rattle.std.specs.Option.{option_to_list}
 use Rattle.std.specs.Str.{bytes_eq}
+use Rattle.std.specs.Option.{option_to_list}
+use Rattle.std.specs.List.{filter}
 use Rattle.byteorder.specs.Endian.{big_number}
 use Rattle.beam_model.specs.Form.{Form, Chunk, padded}
 

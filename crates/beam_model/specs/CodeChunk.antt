@@ -1,7 +1,7 @@
 -- The Code chunk of a BEAM file: a head, and instructions up to int_code_end.
 use Rattle.std.specs.Prelude.{ℕ, zero, suc, ◌+◌, ◌-◌, ◌==◌, nat_lt, if◌then◌else◌, List, [], ◌∷◌, length, drop, slice_get, Option, Some, None, option_map, Result, Ok, Err, Bool, true, false}
 use Rattle.byteorder.specs.Endian.{big_number}
-use Rattle.beam_term.specs.TermValue.{TermValue, int_term, atom_term, nil_term}
+use Rattle.beam_term.specs.Prelude.{TermValue, int_term, atom_term, nil_term}
 use Rattle.beam_model.specs.declared.compact.Compact.{Compact}
 use Rattle.beam_model.specs.declared.compact.Compact.TheVariants as compact
 use Rattle.beam_model.specs.declared.compact.CompactOperand.{CompactOperand}

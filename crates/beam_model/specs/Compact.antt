@@ -1,9 +1,9 @@
 -- Operands of BEAM code: the compact term encoding of the BEAM file format.
 use Rattle.std.specs.Prelude.{◌≡◌, ℕ, zero, suc, ◌+◌, ◌-◌, ◌*◌, ◌/◌, ◌%◌, ◌^◌, ◌<◌, ℤ, pos, negsuc, nat_lt, ◌==◌, if◌then◌else◌, Bool, false, List, [], ◌∷◌, ◌++◌, length, drop, Result, Ok, Err}
-use Rattle.std.specs.Int.{w64}
 use Rattle.std.specs.List.{All}
+use Rattle.std.specs.Int.{w64}
 use Rattle.byteorder.specs.Endian.{big_number, big_bytes, twos_complement, low_bytes}
-use Rattle.beam_term.specs.TermValue.{IsSmall}
+use Rattle.beam_term.specs.Prelude.{IsSmall}
 use Rattle.beam_model.specs.declared.compact.CompactTag.{CompactTag}
 use Rattle.beam_model.specs.declared.compact.CompactTag.TheVariants as tag
 use Rattle.beam_model.specs.declared.compact.Compact.{Compact}

@@ -8,7 +8,7 @@ use Rattle.beam_model.specs.declared.exception.Fault.{Fault}
 use Rattle.beam_model.specs.declared.exception.Fault.TheVariants.{Undef, FunctionClause, IllegalOperand, Badarith, Badarg, SystemLimit, IfClause, TimeoutValue}
 use Rattle.beam_model.specs.declared.exception.ClauseFault.{ClauseFault}
 use Rattle.beam_model.specs.declared.exception.ClauseFault.TheVariants.{TryClause, Badmatch, CaseClause, Badrecord}
-use Rattle.beam_term.specs.TermValue.{TermValue, atom_term, nil_term, pair_term, tuple_of, depth_of}
+use Rattle.beam_term.specs.Prelude.{TermValue, atom_term, nil_term, pair_term, tuple_of, depth_of}
 
 -- the text of a fault's reason
 abbrev pub reason_text : Fault → List ℕ

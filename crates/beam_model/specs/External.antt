@@ -5,8 +5,7 @@ use Rattle.std.specs.Prelude.{◌≡◌, ℕ, suc, ◌+◌, ◌*◌, ◌^◌, �
 use Rattle.std.specs.List.{flat_map}
 use Rattle.std.specs.Int.{w16, w32, w64, from_be_bytes, to_be_bytes, to_le_bytes, cast_signed, cast_unsigned}
 use Rattle.std.specs.Int.Signed.{lt_z, le_z}
-use Rattle.beam_term.specs.Atom.{IsAtomText}
-use Rattle.beam_term.specs.TermValue.{TermValue, Terms, int_term, atom_term, reference_term, pid_term, nil_term, pair_term, tuple_term, no_terms, more_terms, count_of, list_of, depth_of, IsSmall}
+use Rattle.beam_term.specs.Prelude.{IsAtomText, TermValue, Terms, int_term, atom_term, reference_term, pid_term, nil_term, pair_term, tuple_term, no_terms, more_terms, count_of, list_of, depth_of, IsSmall}
 
 -- two bytes, the higher first
 pub record IsHalf (field : List ℕ) (n : ℕ) : Type 0 where

@@ -1,7 +1,7 @@
 -- The faults of bytes that should spell a term in the External Term Format, and where each of them stands.
 use Rattle.std.specs.Prelude.{◌≡◌, ◌≢◌, ◌⊎◌, ◌+◌, ◌*◌, ℕ, suc, ◌<◌, ℤ, Bool, true, false, ◌==◌, ◌&&◌, ◌||◌, nat_lt, List, [], ◌∷◌, ◌++◌, length}
 use Rattle.std.specs.Str.{chars, IsUtf8}
-use Rattle.beam_term.specs.TermValue.{TermValue, IsSmall}
+use Rattle.beam_term.specs.Prelude.{TermValue, IsSmall}
 use Rattle.beam_model.specs.External.{IsHalf, IsWord, little, IsSigned, SpellsAtom, SpellsTerm}
 
 pub data ExternalFault : Type 0 where

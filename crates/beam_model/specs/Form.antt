@@ -1,7 +1,7 @@
 -- The IFF form of a BEAM file: `FOR1`, a size, `BEAM`, and chunks in any order.
 use Rattle.std.specs.Prelude.{ℕ, zero, suc, ◌+◌, ◌-◌, ◌*◌, ◌/◌, Bool, ◌&&◌, ◌||◌, ◌==◌, nat_eq, nat_lt, if◌then◌else◌, List, [], ◌∷◌, ◌++◌, length, take, drop, codes, replicate, Option, Some, None, Result, Ok, Err}
-use Rattle.std.specs.List.{list_all, zip, starts_with}
 use Rattle.std.specs.Str.{bytes_eq}
+use Rattle.std.specs.List.{list_all, starts_with, zip}
 use Rattle.byteorder.specs.Endian.{big_number, big_bytes}
 pub use Rattle.beam_model.specs.Reading.{◌>>=◌}
 

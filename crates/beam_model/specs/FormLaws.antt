@@ -1,7 +1,7 @@
 -- Laws of forms: what is written is read again, and a file that is cut is truncated.
-use Rattle.std.proofs.Common.{◌≡◌, ℕ, zero, suc, ◌+◌, ◌-◌, ◌^◌, ◌<◌, ◌≤◌, Bool, true, false, cond, ltb, ◌&&◌, ◌||◌, inl, inr, List, [], ◌∷◌, ◌++◌, length, take, drop, codes, Option, Some, None, Result, Ok, Err, refl, sym, ap, ◌∙◌, append_assoc, arith, length-append, length-drop}
-use Rattle.std.specs.Prelude.{nat_eq, ◌==◌}
-use Rattle.std.specs.List.{list_all, zip, starts_with}
+use Rattle.std.specs.Prelude.{◌≡◌, ℕ, zero, suc, ◌+◌, ◌-◌, ◌^◌, ◌<◌, ◌≤◌, Bool, true, false, cond, ltb, ◌&&◌, ◌||◌, List, [], ◌∷◌, ◌++◌, length, take, drop, codes, Option, Some, None, Result, Ok, Err, refl, nat_eq, ◌==◌}
+use Rattle.std.proofs.Common.{inl, inr, sym, ap, ◌∙◌, append_assoc, arith, length-append, length-drop}
+use Rattle.std.specs.List.{list_all, starts_with, zip}
 use Rattle.std.proofs.lemmas.Bool.{cases_lt, ltb-false, lt-ltb, le-ltb}
 use Rattle.std.proofs.lemmas.List.{drop-take, nil_from_length, append-nil, take_at, drop_at, take-append-drop, length-replicate, length-take}
 use Rattle.byteorder.specs.Endian.{big_number, big_bytes}

@@ -3,7 +3,7 @@
 -- (The frame that a row needs, and what it makes of it: genop.tab, from allocate to trim. Where an exception goes: Erlang Reference Manual,
 -- Expressions, Catch and Throw, Try. The shapes are this node's own.)
 use Rattle.std.specs.Prelude.{◌≡◌, ◌≤◌, ℕ, ◌+◌, ◌==◌, ◌&&◌, ◌||◌, not, nat_lt, nat_eq, Bool, true, false, if◌then◌else◌, List, [], ◌∷◌, ◌++◌, length, drop, replicate, slice_get, slice_set, Option, Some, None, is_some, unwrap_or, option_map, option_and_then, codes}
-use Rattle.std.specs.List.{flat_map, list_all, zip}
+use Rattle.std.specs.List.{list_all, flat_map, zip}
 use Rattle.std.specs.Cmp.Lexicographic.{pointwise}
 use Rattle.std.specs.Option.{option_eq}
 use Rattle.beam_model.specs.declared.function.Import.{Import}

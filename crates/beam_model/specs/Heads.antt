@@ -1,8 +1,8 @@
 -- What a listing must be to be loaded, by what stands where: its functions, one after the other (genop.tab: `label`, `line`,
 -- `func_info`, `int_code_end`; the compiler's .S files).
 use Rattle.std.specs.Prelude.{◌≡◌, ◌≢◌, ℕ, map, length, List, [], ◌∷◌, ◌++◌, IsTrue}
-use Rattle.std.specs.List.{All, list_all}
-use Rattle.beam_term.specs.TermValue.{atom_term}
+use Rattle.std.specs.List.{list_all, All}
+use Rattle.beam_term.specs.Prelude.{atom_term}
 use Rattle.beam_model.specs.declared.function.Function.{Function}
 use Rattle.beam_model.specs.declared.instruction.Argument.TheVariants as argument
 use Rattle.beam_model.specs.declared.instruction.Operand.TheVariants as operand

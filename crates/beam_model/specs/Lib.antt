@@ -38,3 +38,4 @@ pub mod TablesLaws
 pub mod Text
 pub mod TextGrammar
 pub mod TextReading
+pub mod Prelude

@@ -1,6 +1,6 @@
 -- The forms of a listing, each by its text: heads, functions, instructions and their operands (the compiler's .S files).
 use Rattle.std.specs.Prelude.{ℕ, ◌+◌, ◌^◌, Bool, true, false, ℤ, pos, negsuc, List, [], ◌∷◌, ◌++◌, length, ◌==◌, ◌&&◌, ◌||◌, nat_lt, Option, Some, None, Ok, Err, codes, if◌then◌else◌}
-use Rattle.beam_term.specs.TermValue.{TermValue, int_term, atom_term, nil_term}
+use Rattle.beam_term.specs.Prelude.{TermValue, int_term, atom_term, nil_term}
 use Rattle.beam_model.specs.declared.function.Import.{Import}
 use Rattle.beam_model.specs.declared.function.Signature.{Signature}
 use Rattle.beam_model.specs.declared.function.Function.{Function}

@@ -1,7 +1,7 @@
 -- Listings as text: the one text that is printed of a listing (the compiler's .S files). A text is its bytes in UTF-8.
 use Rattle.std.specs.Prelude.{ℕ, Bool, true, false, List, [], ◌∷◌, ◌++◌, Option, Some, None, is_some, unwrap_or, if◌then◌else◌, codes}
-use Rattle.std.specs.Fmt.{decimal, signed_decimal}
-use Rattle.beam_term.specs.TermValue.{TermValue, int_term, atom_term, nil_term}
+use Rattle.std.specs.Fmt.{signed_decimal, decimal}
+use Rattle.beam_term.specs.Prelude.{TermValue, int_term, atom_term, nil_term}
 use Rattle.beam_model.specs.declared.function.Export.{Export}
 use Rattle.beam_model.specs.declared.function.Import.{Import}
 use Rattle.beam_model.specs.declared.instruction.Argument.{Argument}

@@ -1,7 +1,7 @@
 -- What a listing must be to be loaded: five rules.
 use Rattle.std.specs.Prelude.{ℕ, map, Bool, true, false, not, ◌&&◌, ◌||◌, ◌==◌, nat_lt, nat_le, length, if◌then◌else◌, List, [], ◌∷◌, ◌++◌, Option, Some, None, option_map, option_and_then, is_some, unwrap_or}
 use Rattle.std.specs.List.{list_any, list_all, zip}
-use Rattle.beam_term.specs.TermValue.{TermValue, atom_term}
+use Rattle.beam_term.specs.Prelude.{TermValue, atom_term}
 use Rattle.beam_model.specs.declared.function.Export.{Export}
 use Rattle.beam_model.specs.declared.function.Function.{Function}
 use Rattle.beam_model.specs.declared.function.Signature.{Signature}

@@ -1,7 +1,7 @@
 -- A mailbox: messages in the order of their delivery, with a save pointer (genop.tab, loop_rec, loop_rec_end and remove_message; the manual
 -- of module erlang, demonitor/2).
 use Rattle.std.specs.Prelude.{ℕ, Bool, ◌+◌, Option, List, [], ◌∷◌, ◌++◌, length, slice_get, remove, nat_lt, if◌then◌else◌}
-use Rattle.beam_term.specs.TermValue.{TermValue}
+use Rattle.beam_term.specs.Prelude.{TermValue}
 
 pub record Mailbox : Type 0 where
   pub messages : List TermValue

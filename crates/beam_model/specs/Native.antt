@@ -1,10 +1,10 @@
 -- The natives of module `erlang` that ask nothing of the node, as functions of terms (the manual of module erlang; Erlang Reference
 -- Manual, Expressions).
 use Rattle.std.specs.Prelude.{◌==◌, ◌&&◌, ◌||◌, nat_lt, nat_le, not, Bool, true, false, ℕ, suc, ◌^◌, ℤ, pos, negsuc, neg_ℤ, ◌+ℤ◌, ◌-ℤ◌, ◌*ℤ◌, int_lt, int_le, int_div, int_rem, Option, None, Some, Result, Ok, Err, if◌then◌else◌, List, [], ◌∷◌, map, length, slice_get, slice_set, codes, unsigned_abs}
+use Rattle.std.specs.Str.{chars}
 use Rattle.std.specs.Ordering.{is_eq, is_ne, is_lt, is_le, is_gt, is_ge}
 use Rattle.beam_model.specs.SameText.{same_text}
 use Rattle.std.specs.Int.{w64, int_bit_and, int_bit_or, int_bit_xor, int_bit_not, int_shr}
-use Rattle.std.specs.Str.{chars}
 use Rattle.std.specs.Fmt.{signed_decimal}
 use Rattle.beam_model.specs.declared.exception.Fault.{Fault}
 use Rattle.beam_model.specs.declared.exception.Fault.TheVariants.{Undef, Badarith, Badarg, SystemLimit}
@@ -28,8 +28,7 @@ use Rattle.beam_model.specs.declared.native.Ternary.{Ternary}
 use Rattle.beam_model.specs.declared.native.Ternary.TheVariants.{Raise, SetElement}
 use Rattle.beam_model.specs.declared.native.Native.{Native}
 use Rattle.beam_model.specs.declared.native.Native.TheVariants as native
-use Rattle.beam_term.specs.TermValue.{TermValue, int_term, atom_term, reference_term, pid_term, nil_term, pair_term, tuple_term, tuple_of, list_of, list_before, elements_of, count_of, depth_of}
-use Rattle.beam_term.specs.Order.{term_cmp}
+use Rattle.beam_term.specs.Prelude.{TermValue, int_term, atom_term, reference_term, pid_term, nil_term, pair_term, tuple_term, tuple_of, list_of, list_before, elements_of, count_of, depth_of, term_cmp}
 
 -- ---- integers
 

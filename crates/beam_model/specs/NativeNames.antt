@@ -23,7 +23,7 @@ use Rattle.beam_model.specs.SameText.{same_text}
 use Rattle.beam_model.specs.declared.exception.Exception.{Exception}
 use Rattle.beam_model.specs.declared.exception.Exception.TheVariants as exception
 use Rattle.beam_model.specs.declared.exception.Fault.TheVariants.{Undef}
-use Rattle.beam_term.specs.TermValue.{TermValue}
+use Rattle.beam_term.specs.Prelude.{TermValue}
 
 -- the entry of a name in a table
 abbrev pub look_up : {A : Type 0} → List ℕ → List (List ℕ × A) → Option A

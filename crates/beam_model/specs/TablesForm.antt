@@ -1,7 +1,7 @@
 -- Which chunks spell which tables, by what stands where (the BEAM file format: AtU8, ImpT, ExpT and LitT; External Term Format).
 use Rattle.std.specs.Prelude.{◌≡◌, ℕ, suc, ◌<◌, ◌≤◌, List, [], ◌∷◌, ◌++◌, length, slice_get, Some, IsTrue, MatchOption}
 use Rattle.std.specs.Str.{is_utf8}
-use Rattle.beam_term.specs.TermValue.{TermValue}
+use Rattle.beam_term.specs.Prelude.{TermValue}
 use Rattle.beam_model.specs.External.{IsExternal}
 use Rattle.beam_model.specs.Form.{Form}
 use Rattle.beam_model.specs.Tables.{Tables}

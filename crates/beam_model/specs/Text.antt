@@ -1,10 +1,10 @@
 -- Erlang text: how a term is written (Erlang Reference Manual, Data Types). A text is its bytes in UTF-8.
 use Rattle.std.specs.Prelude.{ℕ, Bool, true, false, List, [], ◌∷◌, ◌++◌, ◌==◌, ◌&&◌, ◌||◌, nat_le, nat_lt, codes, if◌then◌else◌, reverse}
-use Rattle.std.specs.List.{list_all, list_any, flat_map}
-use Rattle.std.specs.Fmt.{decimal, signed_decimal, digits}
 use Rattle.std.specs.Str.{bytes_eq}
+use Rattle.std.specs.List.{list_all, list_any, flat_map}
+use Rattle.std.specs.Fmt.{signed_decimal, digits, decimal}
 use mathlib.Core.Bool.{not}
-use Rattle.beam_term.specs.TermValue.{TermValue, Terms, int_term, atom_term, reference_term, pid_term, nil_term, pair_term, tuple_term, no_terms, more_terms}
+use Rattle.beam_term.specs.Prelude.{TermValue, Terms, int_term, atom_term, reference_term, pid_term, nil_term, pair_term, tuple_term, no_terms, more_terms}
 
 -- a to z
 abbrev pub is_lower : ℕ → Bool

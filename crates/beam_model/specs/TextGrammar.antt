@@ -2,7 +2,7 @@
 -- Source: Erlang Reference Manual, Data Types. The tokens (integers, atoms, strings, with the blanks after them) are those of TextReading.
 use Rattle.std.specs.Prelude.{◌≡◌, ℕ, ◌⊎◌, List, [], ◌∷◌, Ok}
 use Rattle.std.specs.Str.{chars}
-use Rattle.beam_term.specs.TermValue.{TermValue, Terms, int_term, atom_term, reference_term, pid_term, nil_term, pair_term, tuple_term, no_terms, more_terms}
+use Rattle.beam_term.specs.Prelude.{TermValue, Terms, int_term, atom_term, reference_term, pid_term, nil_term, pair_term, tuple_term, no_terms, more_terms}
 use Rattle.beam_model.specs.TextReading.{after_blanks, integer_at, atom_at, string_at, list_of_characters}
 
 -- a statement of a text and of the rest of the text after its front

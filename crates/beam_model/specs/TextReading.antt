@@ -2,9 +2,9 @@
 -- Source: Erlang Reference Manual, Data Types; the escapes are its escape sequences but for octal and control characters.
 use Rattle.std.specs.Prelude.{ℕ, zero, suc, ◌+◌, ◌-◌, ◌*◌, ◌^◌, Bool, ℤ, pos, neg_ℤ, List, [], ◌∷◌, ◌++◌, length, take, drop, count_by, ◌==◌, ◌&&◌, ◌||◌, nat_le, nat_lt, Option, Some, None, Result, Ok, Err, encode_utf8, if◌then◌else◌}
 use Rattle.std.specs.Char.{digit_value}
-use Rattle.std.specs.Str.{chars, is_utf8}
+use Rattle.std.specs.Str.{is_utf8, chars}
 use lib.Utf8.{scalar}
-use Rattle.beam_term.specs.TermValue.{TermValue, int_term, atom_term, nil_term, pair_term, tuple_of}
+use Rattle.beam_term.specs.Prelude.{TermValue, int_term, atom_term, nil_term, pair_term, tuple_of}
 use Rattle.beam_model.specs.Text.{is_digit, is_name, is_unquoted}
 pub use Rattle.beam_model.specs.Reading.{◌>>=◌}
 

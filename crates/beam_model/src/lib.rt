@@ -12,5 +12,6 @@ pub mod lex_state;
 pub mod listing;
 pub mod native;
 pub mod opcode;
+pub mod operand_value;
 pub mod place;
 pub mod shape;

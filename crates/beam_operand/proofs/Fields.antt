@@ -1,13 +1,12 @@
 -- A field that was written is read again.
-use Rattle.std.proofs.Common.{◌≡◌, ℕ, suc, ◌+◌, ◌-◌, ◌*◌, ◌/◌, ◌%◌, ◌^◌, ◌<◌, ◌≤◌, ℤ, pos, negsuc, ◌-ℤ◌, true, false, ltb, eqb, List, [], ◌∷◌, ◌++◌, length, Ok, refl, arith}
-use Rattle.std.proofs.lemmas.Bool.{ltb-true, lt-ltb, le-ltb, ne_eqb, cond_both}
-use Rattle.std.proofs.lemmas.Int.{ints}
-use Rattle.std.proofs.lemmas.List.{drop_at, length-append}
-use Rattle.std.proofs.Math.Nat.{mod-eq_of_lt}
+use Rattle.std.proofs.Common.{◌≡◌, ℕ, suc, ◌+◌, ◌-◌, ◌*◌, ◌/◌, ◌%◌, ◌^◌, ◌<◌, ◌≤◌, ℤ, pos, negsuc, ◌-ℤ◌, true, false, ltb, eqb, List, [], ◌∷◌, ◌++◌, length, Ok, refl, arith, ltb-true, lt-ltb, le-ltb, ne_eqb, drop_at, length-append}
 use Rattle.std.specs.Int.{w64}
+use Rattle.std.proofs.Math.Nat.{mod-eq_of_lt}
+use Rattle.std.proofs.lemmas.Bool.{cond_both}
+use Rattle.std.proofs.lemmas.Int.{ints}
 use Rattle.byteorder.specs.Endian.{big_number, big_bytes, twos_complement, low_bytes}
 use Rattle.byteorder.specs.Numbers.{big_number-reads_back, length-bytes_high_first}
-use Rattle.beam_model.specs.Compact.{value_at, wide_at, field, wide_of, wide_length, magnitude}
+use Rattle.beam_model.specs.Prelude.{value_at, wide_at, field, wide_of, wide_length, magnitude}
 
 pub record IsField (tag : ℕ) (text : List ℕ) (z : ℤ) : Type 0 where
   pub first : ℕ

@@ -1,8 +1,9 @@
 -- Facts of the bytes from the result of a reading.
-use Rattle.std.proofs.Common.{◌≡◌, ◌≢◌, ℕ, ◌+◌, ◌-◌, ◌≤◌, List, [], ◌∷◌, ◌++◌, length, take, drop, Result, Ok, Err, refl, sym, ap, subst, ◌∙◌, append_assoc, arith}
-use Rattle.std.proofs.lemmas.List.{append-nil, take_at, drop_at, length-append, append_cancel_right}
+use Rattle.std.proofs.Common.{◌≡◌, ◌≢◌, ℕ, ◌+◌, ◌-◌, ◌≤◌, List, [], ◌∷◌, ◌++◌, length, take, drop, Result, Ok, Err, refl, sym, ap, subst, ◌∙◌, append_assoc, arith, append-nil, take_at, drop_at, length-append}
+use Rattle.std.proofs.lemmas.List.{append_cancel_right}
 use Rattle.beam_model.specs.declared.compact.CompactOperand.{CompactOperand}
-use Rattle.beam_model.specs.Compact.{OperandFault, truncated, unsupported_operand, integer_too_large, bad_sign, operand_at, SpellsOperand}
+use Rattle.beam_model.specs.Prelude.{OperandFault, unsupported_operand, bad_sign, operand_at, SpellsOperand}
+use Rattle.beam_model.specs.Compact.{truncated, integer_too_large}
 use Rattle.beam_operand.specs.declared.error.OperandError.{OperandError}
 use Rattle.beam_operand.specs.declared.error.OperandError.TheVariants.{Truncated, UnsupportedOperand, IntegerTooLarge, BadSign, NoMemory}
 use Rattle.beam_operand.specs.Faults.{Fails}

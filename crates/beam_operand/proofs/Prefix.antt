@@ -1,7 +1,9 @@
 -- Readers that take a front of the bytes: what was read is read again, whatever follows, and a fault other than
 -- truncated stays.
 use Rattle.std.proofs.Common.{◌≡◌, ◌≢◌, ℕ, Bool, true, false, cond, List, [], ◌∷◌, ◌++◌, Result, Ok, Err, refl, sym, ap, ◌∙◌, append_assoc, inl, inr, ◌⊎◌}
-use Rattle.beam_model.specs.Compact.{OperandFault, truncated, ◌>>=◌}
+use Rattle.beam_lemmas.proofs.Steps.{bind_ok}
+use Rattle.beam_model.specs.Prelude.{OperandFault}
+use Rattle.beam_model.specs.Compact.{truncated, ◌>>=◌}
 
 abbrev pub Reader : Type 0 → Type 0
 Reader X = List ℕ → Result (X × List ℕ) OperandFault
@@ -15,11 +17,6 @@ pub record Took {X : Type 0} (read : List ℕ → Result (X × List ℕ) Operand
 pub record IsPrefix {X : Type 0} (read : List ℕ → Result (X × List ℕ) OperandFault) : Type 0 where
   pub took : (bytes : List ℕ) (x : X) (rest : List ℕ) → read bytes ≡ Ok (x, rest) → Took read bytes x rest
   pub stays : (bytes : List ℕ) (e : OperandFault) → read bytes ≡ Err e → e ≢ truncated → (more : List ℕ) → read (bytes ++ more) ≡ Err e
-
--- the value of a step that did not fail
-pub bind_ok : {A B F : Type 0} (r : Result A F) (f : A → Result B F) (y : B) → (r >>= f) ≡ Ok y → (x : A) × (r ≡ Ok x) × (f x ≡ Ok y)
-bind_ok (Ok x) f y e = (x, refl, e)
-bind_ok (Err d) f y e = absurd cc
 
 -- which step failed
 pub bind_err : {A B F : Type 0} (r : Result A F) (f : A → Result B F) (d : F) → (r >>= f) ≡ Err d → (r ≡ Err d) ⊎ ((x : A) × (r ≡ Ok x) × (f x ≡ Err d))

@@ -1,15 +1,14 @@
 -- Each reader of operands takes a front of the bytes.
-use Rattle.std.proofs.Common.{◌≡◌, ℕ, zero, suc, ◌+◌, ◌*◌, ◌/◌, ◌%◌, ◌^◌, ◌≤◌, ℤ, pos, negsuc, Bool, true, false, cond, ltb, eqb, List, [], ◌∷◌, ◌++◌, length, take, drop, Ok, Err, refl, sym, ap, ◌∙◌, arith}
-use Rattle.std.proofs.lemmas.Bool.{ltb-false, le-ltb}
-use Rattle.std.proofs.lemmas.List.{take-append-drop, drop_at, length-append, length-take}
+use Rattle.std.proofs.Common.{◌≡◌, ℕ, zero, suc, ◌+◌, ◌*◌, ◌/◌, ◌%◌, ◌^◌, ◌≤◌, ℤ, pos, negsuc, Bool, true, false, cond, ltb, eqb, List, [], ◌∷◌, ◌++◌, length, take, drop, Ok, Err, refl, sym, ap, ◌∙◌, arith, ltb-false, le-ltb, take-append-drop, drop_at, length-append, length-take}
 use Rattle.byteorder.specs.Endian.{big_number, twos_complement}
 use Rattle.byteorder.specs.Numbers.{big_from-append, big_from-take}
 use Rattle.beam_model.specs.declared.compact.CompactTag.{CompactTag}
-use Rattle.beam_model.specs.declared.compact.CompactTag.TheVariants as tag
 use Rattle.beam_model.specs.declared.compact.Compact.{Compact}
 use Rattle.beam_model.specs.declared.compact.Compact.TheVariants.{Number, Integer, X, Y, Label, Literal}
+use Rattle.beam_model.specs.Prelude.{OperandFault, unsupported_operand, bad_sign, compact_tag, eleven_bits_at, wide_at, value_at, natural, is_small, natural_at, compact_integer_at, number_at, atom_or_nil, register_of_tag, register_at, extended_of, single_of_tag, single_at, members_at, compact_list_at, as_operand, is_one, operand_of_tag, operand_at}
+use Rattle.beam_model.specs.declared.compact.CompactTag.TheVariants as tag
 use Rattle.beam_model.specs.declared.compact.CompactOperand.TheVariants as operand
-use Rattle.beam_model.specs.Compact.{OperandFault, truncated, unsupported_operand, integer_too_large, bad_sign, ◌>>=◌, compact_tag, eleven_bits_at, wide_at, value_at, natural, is_small, natural_at, compact_integer_at, number_at, atom_or_nil, register_of_tag, register_at, extended_of, single_of_tag, single_at, members_at, compact_list_at, as_operand, is_one, operand_of_tag, operand_at}
+use Rattle.beam_model.specs.Compact.{truncated, integer_too_large, ◌>>=◌}
 use Rattle.beam_operand.proofs.Prefix.{Reader, Took, IsPrefix, prefix_ok, prefix_err, prefix_if, prefix_bind, prefix_behind}
 
 -- a test that did not fail

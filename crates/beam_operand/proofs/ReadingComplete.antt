@@ -1,19 +1,17 @@
 -- A spelled operand is read, whatever bytes follow.
-use Rattle.std.proofs.Common.{◌≡◌, ◌≢◌, ◌⊎◌, inl, inr, ℕ, zero, suc, ◌+◌, ◌/◌, ◌%◌, ◌^◌, ◌<◌, ℤ, pos, negsuc, true, false, cond, ltb, eqb, List, [], ◌∷◌, ◌++◌, length, drop, Result, Ok, Err, refl, sym, ap, ◌∙◌, append_assoc, arith}
-use Rattle.std.proofs.lemmas.Bool.{lt-ltb, le-ltb, ne_eqb}
+use Rattle.std.proofs.Common.{◌≡◌, ◌≢◌, ◌⊎◌, inl, inr, ℕ, zero, suc, ◌+◌, ◌/◌, ◌%◌, ◌^◌, ◌<◌, ℤ, pos, negsuc, true, false, cond, ltb, eqb, List, [], ◌∷◌, ◌++◌, length, drop, Result, Ok, Err, refl, sym, ap, ◌∙◌, append_assoc, arith, lt-ltb, le-ltb, ne_eqb, drop_at, length-append}
 use Rattle.std.proofs.lemmas.Int.{ints}
-use Rattle.std.proofs.lemmas.List.{drop_at, length-append}
 use Rattle.byteorder.specs.Endian.{big_number, twos_complement}
 use Rattle.byteorder.specs.Numbers.{big_from-append}
-use Rattle.beam_term.specs.TermValue.{IsSmall}
 use Rattle.beam_model.specs.declared.compact.CompactTag.{CompactTag}
-use Rattle.beam_model.specs.declared.compact.CompactTag.TheVariants as tag
 use Rattle.beam_model.specs.declared.compact.Compact.{Compact}
-use Rattle.beam_model.specs.declared.compact.Compact.TheVariants.{Number, Integer, Nil, Atom, X, Y, Label, Literal}
+use Rattle.beam_model.specs.declared.compact.Compact.TheVariants.{Number, Integer, Atom, X, Y, Label, Literal, Nil}
 use Rattle.beam_model.specs.declared.compact.CompactOperand.{CompactOperand}
+use Rattle.beam_model.specs.Prelude.{OperandFault, compact_tag, tag_number, value_at, is_small, number_at, atom_or_nil, register_of_tag, register_at, extended_of, single_of_tag, single_at, members_at, compact_list_at, as_operand, is_one, operand_of_tag, operand_at, IsFourBits, IsElevenBits, IsWide, IsValue, IsField, IsTaggedNumber, IsRegister, IsLiteralOperand, IsTyped, IsSingle, AreMembers, IsListed, IsSpelling}
+use Rattle.beam_term.specs.Prelude.{IsSmall}
+use Rattle.beam_model.specs.declared.compact.CompactTag.TheVariants as tag
 use Rattle.beam_model.specs.declared.compact.CompactOperand.TheVariants as operand
-use Rattle.beam_model.specs.Compact.{OperandFault, ◌>>=◌, compact_tag, tag_number, value_at, is_small, number_at, atom_or_nil, register_of_tag, register_at, extended_of, single_of_tag, single_at, members_at, compact_list_at, as_operand, is_one, operand_of_tag, operand_at}
-use Rattle.beam_model.specs.CompactForm.{IsFourBits, IsElevenBits, IsWide, IsValue, IsField, IsTaggedNumber, IsRegister, IsLiteralOperand, IsTyped, IsSingle, AreMembers, IsListed, IsSpelling}
+use Rattle.beam_model.specs.Compact.{◌>>=◌}
 use Rattle.beam_operand.proofs.RoundTrip.{tag_is, natural_again, number_read, label_read, atom_read, x_read, y_read, integer_read, atom_not_nil, from_single}
 
 four_spelled : (first : ℕ) (z : ℤ) (rest more : List ℕ) → IsFourBits first rest z → value_at first (rest ++ more) ≡ Ok (z, more)

@@ -1,20 +1,21 @@
 -- The bytes spell the operand that is read from them.
-use Rattle.std.proofs.Common.{◌≡◌, ◌≢◌, ◌⊎◌, inl, inr, ℕ, zero, suc, ◌+◌, ◌*◌, ◌/◌, ◌%◌, ◌^◌, ◌<◌, ◌≤◌, ℤ, pos, negsuc, Bool, true, false, cond, ltb, eqb, List, [], ◌∷◌, ◌++◌, length, take, drop, Result, Ok, Err, refl, sym, ap, subst, ◌∙◌, append_assoc, arith}
-use Rattle.std.proofs.lemmas.Bool.{ltb-true, ltb-false, eqb-true, eqb-false}
-use Rattle.std.proofs.lemmas.List.{append-nil, take-append-drop, length-take}
+use Rattle.std.proofs.Common.{◌≡◌, ◌≢◌, ◌⊎◌, inl, inr, ℕ, zero, suc, ◌+◌, ◌*◌, ◌/◌, ◌%◌, ◌^◌, ◌<◌, ◌≤◌, ℤ, pos, negsuc, Bool, true, false, cond, ltb, eqb, List, [], ◌∷◌, ◌++◌, length, take, drop, Result, Ok, Err, refl, sym, ap, subst, ◌∙◌, append_assoc, arith, ltb-true, ltb-false, eqb-true, append-nil, take-append-drop, length-take}
+use Rattle.std.proofs.lemmas.Bool.{eqb-false}
+use Rattle.beam_lemmas.proofs.Tests.{chosen}
+use Rattle.beam_lemmas.proofs.Steps.{bind_ok}
 use Rattle.byteorder.specs.Endian.{big_number, twos_complement}
 use Rattle.byteorder.specs.Numbers.{big_from-take}
 use Rattle.beam_model.specs.declared.compact.CompactTag.{CompactTag}
-use Rattle.beam_model.specs.declared.compact.CompactTag.TheVariants as tag
 use Rattle.beam_model.specs.declared.compact.Compact.{Compact}
-use Rattle.beam_model.specs.declared.compact.Compact.TheVariants.{Number, Integer, Nil, Atom, X, Y, Label, Literal}
+use Rattle.beam_model.specs.declared.compact.Compact.TheVariants.{Number, Integer, Atom, X, Y, Label, Literal, Nil}
 use Rattle.beam_model.specs.declared.compact.CompactOperand.{CompactOperand}
+use Rattle.beam_model.specs.Prelude.{OperandFault, unsupported_operand, compact_tag, tag_number, eleven_bits_at, wide_at, value_at, natural, is_small, natural_at, compact_integer_at, number_at, atom_or_nil, register_of_tag, register_at, extended_of, single_of_tag, single_at, members_at, compact_list_at, as_operand, is_one, operand_of_tag, operand_at, IsFourBits, IsElevenBits, IsWide, IsValue, IsField, IsTaggedNumber, IsRegister, IsLiteralOperand, IsTyped, IsSingle, AreMembers, IsListed, IsSpelling}
+use Rattle.beam_model.specs.declared.compact.CompactTag.TheVariants as tag
 use Rattle.beam_model.specs.declared.compact.CompactOperand.TheVariants as operand
-use Rattle.beam_model.specs.Compact.{OperandFault, truncated, unsupported_operand, integer_too_large, ◌>>=◌, compact_tag, tag_number, eleven_bits_at, wide_at, value_at, natural, is_small, natural_at, compact_integer_at, number_at, atom_or_nil, register_of_tag, register_at, extended_of, single_of_tag, single_at, members_at, compact_list_at, as_operand, is_one, operand_of_tag, operand_at}
-use Rattle.beam_model.specs.CompactForm.{IsFourBits, IsElevenBits, IsWide, IsValue, IsField, IsTaggedNumber, IsRegister, IsLiteralOperand, IsTyped, IsSingle, AreMembers, IsListed, IsSpelling}
-use Rattle.beam_operand.proofs.Prefix.{bind_ok, ok_is}
+use Rattle.beam_model.specs.Compact.{truncated, integer_too_large, ◌>>=◌}
+use Rattle.beam_operand.proofs.Prefix.{ok_is}
 use Rattle.beam_operand.proofs.Reading.{guard_ok}
-use Rattle.beam_operand.proofs.Small.{chosen, is_small_is}
+use Rattle.beam_operand.proofs.Small.{is_small_is}
 
 -- something stands in front of the rest
 pub record Stands (bytes rest : List ℕ) (Is : List ℕ → Type 0) : Type 0 where

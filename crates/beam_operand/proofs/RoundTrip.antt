@@ -1,15 +1,17 @@
 -- An operand that was written is read again.
-use Rattle.std.proofs.Common.{◌≡◌, ℕ, zero, suc, ◌%◌, ◌^◌, ◌<◌, ℤ, pos, negsuc, Bool, true, false, cond, ltb, eqb, List, [], ◌∷◌, ◌++◌, length, Result, Ok, Err, refl, sym, ap, subst, ◌∙◌, append_assoc, arith}
-use Rattle.std.proofs.lemmas.Bool.{ltb-true, lt-ltb, ne_eqb}
+use Rattle.std.proofs.Common.{◌≡◌, ℕ, zero, suc, ◌%◌, ◌^◌, ◌<◌, ℤ, pos, negsuc, Bool, true, false, cond, ltb, eqb, List, [], ◌∷◌, ◌++◌, length, Result, Ok, Err, refl, sym, ap, subst, ◌∙◌, append_assoc, arith, ltb-true, lt-ltb, ne_eqb}
+use Rattle.beam_lemmas.proofs.Steps.{bind_ok, guard_true}
 use Rattle.beam_model.specs.declared.compact.CompactTag.{CompactTag}
-use Rattle.beam_model.specs.declared.compact.CompactTag.TheVariants as tag
 use Rattle.beam_model.specs.declared.compact.Compact.{Compact}
-use Rattle.beam_model.specs.declared.compact.Compact.TheVariants.{Number, Integer, Nil, Atom, X, Y, Label, Literal}
+use Rattle.beam_model.specs.declared.compact.Compact.TheVariants.{Number, Integer, Atom, X, Y, Label, Literal, Nil}
 use Rattle.beam_model.specs.declared.compact.CompactOperand.{CompactOperand}
+use Rattle.beam_model.specs.Prelude.{OperandFault, unsupported_operand, compact_tag, tag_number, value_at, is_small, natural_at, compact_integer_at, number_at, atom_or_nil, register_of_tag, extended_of, single_of_tag, single_at, members_at, compact_list_at, as_operand, is_one, operand_of_tag, operand_at, magnitude, field, single_spelling, members_spelling, spelling, HasNumbers, HaveNumbers, HasOperandNumbers}
+use Rattle.beam_model.specs.declared.compact.CompactTag.TheVariants as tag
 use Rattle.beam_model.specs.declared.compact.CompactOperand.TheVariants as operand
-use Rattle.beam_model.specs.Compact.{OperandFault, unsupported_operand, integer_too_large, ◌>>=◌, compact_tag, tag_number, value_at, is_small, natural_at, compact_integer_at, number_at, atom_or_nil, register_of_tag, extended_of, single_of_tag, single_at, members_at, compact_list_at, as_operand, is_one, operand_of_tag, operand_at, magnitude, field, single_spelling, members_spelling, spelling, HasNumbers, HaveNumbers, HasOperandNumbers}
-use Rattle.beam_operand.proofs.Prefix.{bind_ok, ok_is}
+use Rattle.beam_model.specs.Compact.{integer_too_large, ◌>>=◌}
+use Rattle.beam_operand.proofs.Prefix.{ok_is}
 use Rattle.beam_operand.proofs.Fields.{field_is}
+use Rattle.beam_operand.proofs.Reading.{guard_ok}
 
 abbrev done : List ℕ → Result (List ℕ) OperandFault
 done text = Ok text
@@ -102,10 +104,6 @@ guarded : {A : Type 0} (b : Bool) (f : OperandFault) (x y : A) → cond b (Ok x)
 guarded true f x y e = (refl, cc)
 guarded false f x y e = absurd cc
 
-refused : {A : Type 0} (b : Bool) (f : OperandFault) (x y : A) → cond b (Err f) (Ok x) ≡ Ok y → (b ≡ false) × (x ≡ y)
-refused true f x y e = absurd cc
-refused false f x y e = (refl, cc)
-
 as_text : (t text : List ℕ) (x : Compact) → done t ≡ Ok text → IsSingle t x → IsSingle text x
 as_text t text x e h = subst (λ (s : List ℕ). IsSingle s x) (ok_is {F = OperandFault} t text e) h
 
@@ -121,7 +119,7 @@ single_again (Integer z) text h e =
     subst (λ (s : List ℕ). IsSingle s (Integer z)) g.1 (from_field tag.Integer z (Integer z) (small_fits z g.0) (omega arith) (integer_read z g.0))
 single_again Nil text h e = as_text _ text Nil e (from_field tag.Atom (pos 0) Nil (omega arith) (omega arith) (atom_read 0 (omega arith)))
 single_again (Atom n) text h e =
-    let g = refused (eqb n 0) unsupported_operand (field 2 (pos n)) text e in
+    let g = guard_ok (eqb n 0) unsupported_operand (field 2 (pos n)) text e in
     subst (λ (s : List ℕ). IsSingle s (Atom n)) g.1 (from_field tag.Atom (pos n) (Atom n) (omega arith) (omega arith)
     (λ first bytes more v. atom_read n h first bytes more v ∙ ap (λ (x : Compact). Ok (x, more)) (atom_not_nil n g.0)))
 single_again (X n) text h e = as_text _ text (X n) e (from_field tag.X (pos n) (X n) (omega arith) (omega arith) (x_read n h))
@@ -175,14 +173,10 @@ record ListParts (xs : List Compact) (text : List ℕ) : Type 0 where
   spelled : members_spelling xs ≡ Ok members
   parts : text ≡ (field 7 (pos 1) ++ field 0 (pos (length xs))) ++ members
 
-chosen_ok : {A : Type 0} (b : Bool) (r : Result A OperandFault) (f : OperandFault) (y : A) → cond b r (Err f) ≡ Ok y → (b ≡ true) × (r ≡ Ok y)
-chosen_ok true r f y e = (refl, e)
-chosen_ok false r f y e = absurd cc
-
 list_parts : (xs : List Compact) (text : List ℕ) → spelling (operand.List xs) ≡ Ok text → ListParts xs text
 unfolding spelling
 list_parts xs text e =
-    let g = chosen_ok (ltb (length xs) (2 ^ 32)) (members_spelling xs >>= λ members. Ok ((field 7 (pos 1) ++ field 0 (pos (length xs))) ++ members)) integer_too_large text e in
+    let g = guard_true (ltb (length xs) (2 ^ 32)) integer_too_large (members_spelling xs >>= λ members. Ok ((field 7 (pos 1) ++ field 0 (pos (length xs))) ++ members)) text e in
     let b = bind_ok (members_spelling xs) (λ members. Ok ((field 7 (pos 1) ++ field 0 (pos (length xs))) ++ members)) text g.1 in
     record {
       short = ltb-true _ _ g.0;

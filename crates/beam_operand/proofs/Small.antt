@@ -1,25 +1,22 @@
 -- Each integer that is read is in the range of terms.
-use Rattle.std.proofs.Common.{◌≡◌, ℕ, zero, suc, ◌^◌, ◌<◌, ℤ, pos, negsuc, Bool, true, false, cond, eqb, List, [], ◌∷◌, Result, Ok, Err, refl, subst, arith, ◌⊎◌, inl, inr}
-use Rattle.std.proofs.lemmas.Bool.{ltb-true}
+use Rattle.std.proofs.Common.{◌≡◌, ℕ, zero, suc, ◌^◌, ◌<◌, ℤ, pos, negsuc, true, cond, eqb, List, [], ◌∷◌, Result, Ok, Err, refl, subst, arith, inl, inr, ltb-true, IfOk}
 use Rattle.std.proofs.lemmas.Int.{ints}
 use Rattle.std.proofs.lemmas.List.Elements.{All-from_recursion}
 use Rattle.std.specs.List.{AllByRecursion}
-use Rattle.beam_term.specs.TermValue.{IsSmall}
+use Rattle.beam_lemmas.proofs.Tests.{chosen}
+use Rattle.beam_lemmas.proofs.Steps.{bind_ok}
 use Rattle.beam_model.specs.declared.compact.CompactTag.{CompactTag}
-use Rattle.beam_model.specs.declared.compact.CompactTag.TheVariants as tag
 use Rattle.beam_model.specs.declared.compact.Compact.{Compact}
 use Rattle.beam_model.specs.declared.compact.Compact.TheVariants.{Number, Integer, X, Y, Label, Literal}
 use Rattle.beam_model.specs.declared.compact.CompactOperand.{CompactOperand}
+use Rattle.beam_model.specs.Prelude.{OperandFault, unsupported_operand, compact_tag, value_at, is_small, natural_at, compact_integer_at, number_at, atom_or_nil, register_of_tag, register_at, extended_of, single_of_tag, single_at, members_at, compact_list_at, as_operand, is_one, operand_of_tag, operand_at, HasSmall, HasSmallIntegers}
+use Rattle.beam_term.specs.Prelude.{IsSmall}
+use Rattle.beam_model.specs.declared.compact.CompactTag.TheVariants as tag
 use Rattle.beam_model.specs.declared.compact.CompactOperand.TheVariants as operand
-use Rattle.beam_model.specs.Compact.{OperandFault, unsupported_operand, integer_too_large, ◌>>=◌, compact_tag, value_at, is_small, natural_at, compact_integer_at, number_at, atom_or_nil, register_of_tag, register_at, extended_of, single_of_tag, single_at, members_at, compact_list_at, as_operand, is_one, operand_of_tag, operand_at, HasSmall, HasSmallIntegers}
-use Rattle.std.specs.Prelude.{IfOk}
+use Rattle.beam_model.specs.Compact.{integer_too_large, ◌>>=◌}
 use Rattle.beam_operand.specs.declared.error.OperandError.{OperandError}
 use Rattle.beam_operand.specs.Faults.{Gives}
-use Rattle.beam_operand.proofs.Prefix.{bind_ok, ok_is}
-
-pub chosen : {A : Type 0} (b : Bool) (x y z : A) → cond b x y ≡ z → ((b ≡ true) × (x ≡ z)) ⊎ ((b ≡ false) × (y ≡ z))
-chosen true x y z e = inl (refl, e)
-chosen false x y z e = inr (refl, e)
+use Rattle.beam_operand.proofs.Prefix.{ok_is}
 
 abbrev Small : Compact × List ℕ → Type 0
 Small q = HasSmall q.0

@@ -1,13 +1,11 @@
 -- Bytes spell an operand by the format's definition exactly where reading them from the left gives that operand.
-use Rattle.std.proofs.Common.{◌≡◌, ◌≢◌, ℕ, ◌^◌, ◌<◌, ◌≤◌, ℤ, pos, List, [], ◌∷◌, ◌++◌, length, inl, inr, Result, Ok, Err, refl, sym, ap, subst, ◌∙◌, arith}
+use Rattle.std.proofs.Common.{◌≡◌, ◌≢◌, ℕ, ◌^◌, ◌<◌, ◌≤◌, ℤ, pos, List, [], ◌∷◌, ◌++◌, length, inl, inr, Result, Ok, Err, refl, sym, ap, subst, ◌∙◌, arith, append-nil, slice_index, MatchResult}
 use Rattle.std.proofs.lemmas.Int.{ints}
-use Rattle.std.proofs.lemmas.List.{append-nil}
-use Rattle.std.specs.Prelude.{slice_index, MatchResult}
 use Rattle.beam_model.specs.declared.compact.Compact.TheVariants.{Integer, Literal, X}
 use Rattle.beam_model.specs.declared.compact.CompactOperand.{CompactOperand}
+use Rattle.beam_model.specs.Prelude.{OperandFault, operand_at, SpellsOperand, HasOperandNumbers, spelling, IsSpelling}
 use Rattle.beam_model.specs.declared.compact.CompactOperand.TheVariants as operand
-use Rattle.beam_model.specs.Compact.{OperandFault, truncated, operand_at, SpellsOperand, HasOperandNumbers, spelling}
-use Rattle.beam_model.specs.CompactForm.{IsSpelling}
+use Rattle.beam_model.specs.Compact.{truncated}
 use Rattle.beam_operand.proofs.RoundTrip.{operand_again}
 use Rattle.beam_operand.proofs.Fronts.{no_other, cut}
 use Rattle.beam_operand.proofs.Shortest.{shortest}

@@ -1,8 +1,9 @@
 -- Writing members one after the other, as a loop does.
-use Rattle.std.proofs.Common.{◌≡◌, ℕ, ◌+◌, ◌<◌, ◌≤◌, List, [], ◌∷◌, ◌++◌, length, get_or, drop, Result, Ok, Err, refl, sym, ap, subst, ◌∙◌, append_assoc, add-one, drop-cons}
-use Rattle.std.proofs.lemmas.List.{append-nil, drop_all}
+use Rattle.std.proofs.Common.{◌≡◌, ℕ, ◌+◌, ◌<◌, ◌≤◌, List, [], ◌∷◌, ◌++◌, length, get_or, drop, Result, Ok, Err, refl, sym, ap, subst, ◌∙◌, append_assoc, add-one, drop-cons, append-nil}
+use Rattle.std.proofs.lemmas.List.{drop_all}
 use Rattle.beam_model.specs.declared.compact.Compact.{Compact}
-use Rattle.beam_model.specs.Compact.{OperandFault, ◌>>=◌, single_spelling, members_spelling}
+use Rattle.beam_model.specs.Prelude.{OperandFault, single_spelling, members_spelling}
+use Rattle.beam_model.specs.Compact.{◌>>=◌}
 use Rattle.beam_operand.specs.declared.error.OperandError.{OperandError}
 use Rattle.beam_operand.specs.declared.error.OperandError.TheVariants.{Truncated, UnsupportedOperand, IntegerTooLarge, BadSign, NoMemory}
 use Rattle.beam_operand.specs.Faults.{Fails, Appends, Begins}

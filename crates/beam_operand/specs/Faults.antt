@@ -1,6 +1,7 @@
 -- The errors of this crate, and the faults of the definitions.
 use Rattle.std.specs.Prelude.{◌≡◌, ℕ, List, ◌++◌, Result, Ok, Err}
-use Rattle.beam_model.specs.Compact.{OperandFault, truncated, unsupported_operand, integer_too_large, bad_sign}
+use Rattle.beam_model.specs.Prelude.{OperandFault, unsupported_operand, bad_sign}
+use Rattle.beam_model.specs.Compact.{truncated, integer_too_large}
 use Rattle.beam_operand.specs.declared.error.OperandError.{OperandError}
 use Rattle.beam_operand.specs.declared.error.OperandError.TheVariants.{Truncated, UnsupportedOperand, IntegerTooLarge, BadSign, NoMemory}
 

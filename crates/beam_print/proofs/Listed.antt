@@ -2,8 +2,8 @@
 use Rattle.std.proofs.Common.{◌≡◌, ◌∙◌, ap, sym, refl, ℕ, List, [], ◌∷◌, ◌++◌, append_assoc, append-nil}
 use Rattle.beam_model.specs.declared.instruction.Argument.{Argument}
 use Rattle.beam_model.specs.declared.instruction.Operand.{Operand}
+use Rattle.beam_model.specs.Prelude.{arguments_text, operand_text, operands_text, plain_text}
 use Rattle.beam_model.specs.declared.instruction.Operand.TheVariants as operand
-use Rattle.beam_model.specs.ListingText.{arguments_text, operand_text, operands_text, plain_text}
 
 -- the last operand stands after a comma
 operands_of_last : (os : List Operand) (d : Operand) → operands_text (44 ∷ []) (os ++ d ∷ []) ≡ operands_text (44 ∷ []) os ++ (44 ∷ operand_text d)

@@ -1,7 +1,7 @@
 -- Texts of operands, with a last one.
 use Rattle.std.proofs.Common.{◌≡◌, ◌∙◌, sym, ap, refl, ℕ, List, [], ◌∷◌, ◌++◌, append_assoc, append-nil, Result, Ok, Err, OnOk}
 use Rattle.beam_model.specs.declared.instruction.Operand.{Operand}
-use Rattle.beam_model.specs.ListingText.{call_text, operand_text, operands_text}
+use Rattle.beam_model.specs.Prelude.{call_text, operand_text, operands_text}
 
 pub call_of_last : (before : List ℕ) (os : List Operand) (d : Operand) → call_text before (os ++ d ∷ []) ≡ operands_text before os ++ 93 ∷ 44 ∷ [] ++ operand_text d
 call_of_last before [] d = refl

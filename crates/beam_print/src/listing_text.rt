@@ -1,9 +1,7 @@
 //! The texts of listings.
 
 ghost use Rattle.std.specs.Prelude.{◌≡◌, ◌++◌, [], option_map, OnErr, OnOk};
-ghost use Rattle.std.specs.Option.{option_copied};
 ghost use Rattle.beam_model.specs.ListingText.{before_text, after_leading_lines, front_label_or_zero, export_text, exports_line, exports_text, function_line, function_line_at, informed_text, instruction_text, instructions_text, labels_lines, listing_text, module_line, stop};
-ghost use Rattle.beam_model.specs.Loadable.{atom_in, number_in};
 ghost use Rattle.beam_print.specs.Begun.{IsBegun, IsWrittenUpTo};
 
 use crate::blocks::write_block;
@@ -12,31 +10,14 @@ use crate::operand_text::{print_number, print_tagged};
 use crate::print_error::PrintError;
 use beam_erltext::{TextError, print_atom};
 use beam_model::function::Export;
-use beam_model::instruction::{Argument, Instruction, Operand};
+use beam_model::instruction::{Instruction, Operand};
 use beam_model::listing::Listing;
 use beam_model::opcode::Opcode;
+use beam_model::operand_value::{atom_in, number_in};
 use beam_term::Atom;
 use std::io::Write;
 
 // ---- functions
-
-fn atom_in(operand: &Operand) -> Option<&Atom>
-    ensures { option_copied result ≡ atom_in operand.now }
-{
-    match operand {
-        Operand::One(Argument::Term(term)) => term.as_atom(),
-        _ => None,
-    }
-}
-
-fn number_in(operand: &Operand) -> Option<u32>
-    ensures { result ≡ number_in operand.now }
-{
-    match operand {
-        Operand::One(Argument::Number(number)) => Some(*number),
-        _ => None,
-    }
-}
 
 fn after_leading_lines(instructions: &[Instruction]) -> &[Instruction]
     ensures { result.now ≡ after_leading_lines instructions.now }

@@ -3,15 +3,14 @@ use Rattle.std.proofs.Common.{◌≡◌, ℕ, Bool, true, false, not, cond, nat_
 use Rattle.std.proofs.lemmas.Bool.Decides.{nat_tests}
 use Rattle.std.specs.List.{list_any}
 use Rattle.indexmap.specs.IndexSet.{insert_key}
-use Rattle.beam_term.specs.TermValue.{TermValue}
+use Rattle.beam_model.specs.Prelude.{around}
 use Rattle.beam_machine.specs.declared.process.Signal.{Signal}
 use Rattle.beam_machine.specs.declared.process.Signal.TheVariants.{Message, Exit, Down}
 use Rattle.beam_machine.specs.declared.process.Monitor.{Monitor}
-use Rattle.beam_model.specs.Exception.{around}
-use Rattle.beam_machine.specs.Process.{monitor_of, without_monitor}
-use Rattle.beam_machine.specs.Next.{down_term}
+use Rattle.beam_machine.specs.Prelude.{monitor_of, without_monitor, down_term}
+use Rattle.beam_term.specs.Prelude.{TermValue}
 use Rattle.beam_mailbox.specs.Messages.{messages_of}
-use Rattle.beam_proc.specs.Deliveries.{but_of, added, message_by, left_by, arriving}
+use Rattle.beam_proc.specs.Prelude.{but_of, added, message_by, left_by, arriving}
 use Rattle.beam_proc.proofs.Deliveries.{found_is}
 
 -- ---- a number more

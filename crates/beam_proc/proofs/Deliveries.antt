@@ -1,20 +1,17 @@
 -- Signals that arrive one after another.
-use Rattle.std.proofs.Common.{◌≡◌, ℕ, Bool, true, false, not, cond, ◌==◌, ◌&&◌, if◌then◌else◌, List, [], ◌∷◌, ◌++◌, fold, Option, Some, None, option_map, codes, refl, ap, ◌∙◌, sym, append_assoc, arith}
-use Rattle.std.proofs.lemmas.Bool.{true≢false}
+use Rattle.std.proofs.Common.{◌≡◌, ℕ, Bool, true, false, not, cond, ◌==◌, ◌&&◌, if◌then◌else◌, List, [], ◌∷◌, ◌++◌, fold, Option, Some, None, option_map, codes, refl, ap, ◌∙◌, sym, append_assoc, arith, true≢false}
 use Rattle.std.proofs.lemmas.Bool.Decides.{nat_tests}
 use Rattle.std.proofs.lemmas.Option.{none-some, same_Some}
 use Rattle.std.specs.List.{list_any}
-use Rattle.beam_term.specs.TermValue.{TermValue, int_term, atom_term, reference_term, pid_term, tuple_term, nil_term, pair_term}
+use Rattle.beam_model.specs.Prelude.{same_text, around}
 use Rattle.beam_machine.specs.declared.process.Signal.{Signal}
 use Rattle.beam_machine.specs.declared.process.Signal.TheVariants.{Message, Exit, Down}
 use Rattle.beam_machine.specs.declared.process.Monitor.{Monitor}
 use Rattle.beam_machine.specs.declared.process.Status.TheVariants.{Running}
-use Rattle.beam_model.specs.SameText.{same_text}
-use Rattle.beam_model.specs.Exception.{around}
-use Rattle.beam_machine.specs.Process.{Process, ended, is_ended, killed, monitor_of, without_monitor}
-use Rattle.beam_machine.specs.Next.{delivered, received, notified, signalled, down_term}
+use Rattle.beam_machine.specs.Prelude.{Process, ended, is_ended, killed, monitor_of, without_monitor, delivered, received, notified, signalled, down_term}
+use Rattle.beam_term.specs.Prelude.{TermValue, int_term, atom_term, reference_term, pid_term, tuple_term, nil_term, pair_term}
 use Rattle.beam_mailbox.specs.Messages.{messages_of}
-use Rattle.beam_proc.specs.Deliveries.{ends_by, this_reason, ending, is_down, left_by, added, arriving, woken, with_delivered, received_all}
+use Rattle.beam_proc.specs.Prelude.{ends_by, this_reason, ending, is_down, left_by, added, arriving, woken, with_delivered, received_all}
 
 pub append_none : (ts : List TermValue) → ts ++ [] ≡ ts
 append_none [] = refl

@@ -1,17 +1,14 @@
 -- References of this node are told apart by their numbers.
-use Rattle.std.proofs.Common.{◌≡◌, ℕ, Bool, true, false, not, ◌==◌, ◌&&◌, if◌then◌else◌, List, [], ◌∷◌, filter, Option, Some, None, codes, refl, ap, ◌∙◌, sym, arith}
-use Rattle.std.proofs.lemmas.Bool.{true≢false}
+use Rattle.std.proofs.Common.{◌≡◌, ℕ, Bool, true, false, not, ◌==◌, ◌&&◌, if◌then◌else◌, List, [], ◌∷◌, filter, Option, Some, None, codes, refl, ap, ◌∙◌, sym, arith, true≢false}
 use Rattle.std.proofs.lemmas.Bool.Decides.{nat_tests}
 use Rattle.std.proofs.lemmas.Option.{none-some, same_Some}
 use Rattle.std.proofs.lemmas.Slice.Eq.{bytes_eq-Decides}
-use Rattle.beam_term.specs.TermValue.{TermValue, int_term, atom_term, reference_term, pid_term, tuple_term, nil_term, pair_term}
-use Rattle.beam_term.specs.OrderLaws.{term_eq_decides}
-use Rattle.beam_model.specs.Native.{is_equal}
-use Rattle.beam_model.specs.SameText.{same_text}
+use Rattle.beam_lemmas.proofs.Tests.{itself}
 use Rattle.beam_machine.specs.declared.process.Monitor.{Monitor}
-use Rattle.beam_machine.specs.Process.{Process, own_reference}
-use Rattle.beam_machine.specs.Row.{demonitored}
-use Rattle.beam_proc.specs.References.{number_of_words, reference_number, left_without}
+use Rattle.beam_machine.specs.Prelude.{Process, own_reference, demonitored}
+use Rattle.beam_model.specs.Prelude.{is_equal, same_text}
+use Rattle.beam_term.specs.Prelude.{TermValue, int_term, atom_term, reference_term, pid_term, tuple_term, nil_term, pair_term, term_eq_decides}
+use Rattle.beam_proc.specs.Prelude.{number_of_words, reference_number, left_without}
 
 -- ---- the reference of a number
 
@@ -53,9 +50,6 @@ abbrev is_number : ℕ → Option ℕ → Bool
 is_number n (Some k) = n == k
 is_number n None = false
 
-same_number : (n : ℕ) → (n == n) ≡ true
-same_number n = grind (arith, nat_tests)
-
 apart : (n k : ℕ) (t : TermValue) → t ≡ own_reference k → is_equal (own_reference n) t ≡ false → false ≡ (n == k)
 apart n k t own denied = go (n == k) refl
   where
@@ -74,7 +68,7 @@ equal_is_number n t = go (is_equal (own_reference n) t) refl
   where
     go : (b : Bool) → is_equal (own_reference n) t ≡ b → b ≡ is_number n (reference_number t)
     go false denied = other n t (reference_number t) refl denied
-    go true held = sym (same_number n) ∙ ap (λ s. is_number n (reference_number s)) ((term_eq_decides (own_reference n) t).0 held)
+    go true held = sym (itself n) ∙ ap (λ s. is_number n (reference_number s)) ((term_eq_decides (own_reference n) t).0 held)
 
 -- ---- monitors
 

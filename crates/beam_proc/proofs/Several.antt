@@ -1,8 +1,7 @@
 -- Whether a process lingers in one of several instances, part by part.
 use Rattle.std.proofs.Common.{◌≡◌, ℕ, ◌||◌, List, ap, ◌∙◌}
 use Rattle.std.specs.List.{list_any}
-use Rattle.beam_machine.specs.Process.{Process}
-use Rattle.beam_machine.specs.Change.{goes_in, is_deadline_in, is_frame_in, lingers}
+use Rattle.beam_machine.specs.Prelude.{Process, goes_in, is_deadline_in, is_frame_in, lingers}
 use Rattle.beam_stack.proofs.Anys.{either}
 
 pub by_parts : (numbers : List ℕ) (p : Process) → list_any (λ n. lingers n p) numbers

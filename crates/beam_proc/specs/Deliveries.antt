@@ -1,16 +1,14 @@
 -- A process after the signals in transit to it.
 use Rattle.std.specs.Prelude.{ℕ, Bool, true, false, not, nat_eq, ◌==◌, ◌&&◌, if◌then◌else◌, List, [], ◌∷◌, fold, filter, Option, Some, None, option_map, codes}
 use Rattle.std.specs.List.{list_any}
-use Rattle.beam_term.specs.TermValue.{TermValue, atom_term, nil_term}
+use Rattle.beam_model.specs.Prelude.{same_text, around}
 use Rattle.beam_machine.specs.declared.process.Signal.{Signal}
 use Rattle.beam_machine.specs.declared.process.Signal.TheVariants.{Message, Exit, Down}
 use Rattle.beam_machine.specs.declared.process.Monitor.{Monitor}
 use Rattle.beam_machine.specs.declared.process.Status.{Status}
 use Rattle.beam_machine.specs.declared.process.Status.TheVariants.{Running}
-use Rattle.beam_model.specs.SameText.{same_text}
-use Rattle.beam_model.specs.Exception.{around}
-use Rattle.beam_machine.specs.Process.{Process, ended, killed, monitor_of, without_monitor}
-use Rattle.beam_machine.specs.Next.{down_term}
+use Rattle.beam_machine.specs.Prelude.{Process, ended, killed, monitor_of, without_monitor, down_term}
+use Rattle.beam_term.specs.Prelude.{TermValue, atom_term, nil_term}
 use Rattle.beam_mailbox.specs.Messages.{with_messages}
 
 -- the reason of the end that a process makes of an exit signal, if it ends

@@ -1,9 +1,7 @@
 -- The DOWNs that a process gets of the end of another.
 use Rattle.std.specs.Prelude.{ℕ, List, map}
-use Rattle.beam_term.specs.TermValue.{TermValue}
-use Rattle.beam_machine.specs.Private.{Sent}
-use Rattle.beam_machine.specs.Process.{Process}
-use Rattle.beam_machine.specs.State.{downs}
+use Rattle.beam_machine.specs.Prelude.{Sent, Process, downs}
+use Rattle.beam_term.specs.Prelude.{TermValue}
 
 -- a DOWN for each of its monitors of the process of that number, which ends with that reason
 abbrev pub downs_to : ℕ → TermValue → Process → List Sent

@@ -1,11 +1,11 @@
 -- An entry of the process table.
 use Rattle.std.specs.Prelude.{ℕ, [], Option, Some, None}
-use Rattle.beam_term.specs.TermValue.{TermValue}
 use Rattle.beam_machine.specs.declared.process.Goes.TheVariants.{Nowhere}
 use Rattle.beam_machine.specs.declared.process.Status.{Status}
+use Rattle.beam_machine.specs.Prelude.{Process}
+use Rattle.beam_term.specs.Prelude.{TermValue}
 use Rattle.beam_machine.specs.declared.process.Status.TheVariants.{Ended}
-use Rattle.beam_machine.specs.Process.{Process}
-use Rattle.beam_model.specs.Mailbox.{empty_mailbox}
+use Rattle.beam_model.specs.Prelude.{empty_mailbox}
 use Rattle.beam_proc.specs.declared.entry.EntryState.{EntryState}
 use Rattle.beam_proc.specs.declared.entry.EntryState.TheVariants as state
 

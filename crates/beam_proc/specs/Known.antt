@@ -1,7 +1,7 @@
 -- The atoms that each process needs.
 use Rattle.std.specs.Prelude.{◌≡◌, codes, true, false}
-use Rattle.beam_model.specs.Native.{truth}
-use Rattle.beam_machine.specs.Process.{normal, killed}
+use Rattle.beam_machine.specs.Prelude.{normal, killed}
+use Rattle.beam_model.specs.Prelude.{truth}
 use Rattle.beam_proc.specs.declared.known.Atoms.{Atoms}
 
 abbrev pub AreKnown : Atoms → Type 0

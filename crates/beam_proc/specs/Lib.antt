@@ -9,3 +9,4 @@ pub mod Continuation
 pub mod References
 pub mod Downs
 pub mod Undoing
+pub mod Prelude

@@ -1,9 +1,9 @@
 -- References of this node by their numbers.
 use Rattle.std.specs.Prelude.{ℕ, ◌==◌, ◌&&◌, if◌then◌else◌, List, [], ◌∷◌, Option, Some, None, codes}
-use Rattle.beam_term.specs.TermValue.{TermValue, reference_term}
-use Rattle.beam_model.specs.SameText.{same_text}
 use Rattle.beam_machine.specs.declared.process.Monitor.{Monitor}
-use Rattle.beam_machine.specs.Process.{without_monitor}
+use Rattle.beam_machine.specs.Prelude.{without_monitor}
+use Rattle.beam_model.specs.Prelude.{same_text}
+use Rattle.beam_term.specs.Prelude.{TermValue, reference_term}
 
 -- the number that the words of a reference spell
 abbrev pub number_of_words : List ℕ → Option ℕ

@@ -1,13 +1,10 @@
 -- Run queues get their stealers, one after another.
-use Rattle.std.proofs.Common.{◌≡◌, ◌≢◌, ℕ, zero, suc, ◌+◌, ◌-◌, ◌<◌, ◌≤◌, ◌⊎◌, inl, inr, ⊎_elim, ◌==◌, if◌then◌else◌, Bool, true, false, List, [], ◌∷◌, ◌++◌, length, map, set, get_or, refl, sym, ap, ◌∙◌, subst, append_assoc, append-nil, arith}
+use Rattle.std.proofs.Common.{◌≡◌, ◌≢◌, ℕ, zero, suc, ◌+◌, ◌-◌, ◌<◌, ◌≤◌, ◌⊎◌, inl, inr, ⊎_elim, ◌==◌, if◌then◌else◌, Bool, true, false, List, [], ◌∷◌, ◌++◌, length, map, set, get_or, refl, sym, ap, ◌∙◌, subst, append_assoc, append-nil, arith, get_or-set_same, get_or-set_other, length-set}
 use Rattle.std.specs.List.{range_with_len}
 use Rattle.std.proofs.lemmas.Bool.{cases_eq, cases_lt}
-use Rattle.std.proofs.lemmas.List.{get_or-set_same, get_or-set_other, get_or_default, length-set, length-map, map-append, get_or-map}
+use Rattle.std.proofs.lemmas.List.{get_or_default, length-map, map-append, get_or-map}
 use Rattle.std.proofs.lemmas.List.FromFn.{length-range_with_len, get_or-range_with_len}
-use Rattle.beam_queue.specs.Closing.{lent, KeepsCounts}
-use Rattle.beam_queue.specs.Counting.{times, one_if}
-use Rattle.beam_queue.specs.RunQueues.{Stealer, RunQueue, new_stealer, lends, enqueued_by, taken_by, victims, stealers_of, lent_of}
-use Rattle.beam_queue.specs.Making.{number_of, LentAtMost, AddsStealersOf, AddsStealersInRange, AddsAllStealers}
+use Rattle.beam_queue.specs.Prelude.{lent, KeepsCounts, times, one_if, Stealer, RunQueue, new_stealer, lends, enqueued_by, taken_by, victims, stealers_of, lent_of, number_of, LentAtMost, AddsStealersOf, AddsStealersInRange, AddsAllStealers}
 use Rattle.beam_queue.proofs.ReturningStealers.{keeps_both}
 use Rattle.beam_queue.proofs.Sums.{total_set, total_snoc, map_set}
 

@@ -1,14 +1,10 @@
 -- The first run queues have got their stealers.
-use Rattle.std.proofs.Common.{◌≡◌, ◌≢◌, ℕ, zero, suc, ◌+◌, ◌<◌, ◌≤◌, min, ⊎_elim, if◌then◌else◌, Bool, true, false, List, [], ◌∷◌, ◌++◌, length, map, get_or, refl, sym, ap, ◌∙◌, subst, arith}
-use Rattle.std.specs.Prelude.{nat_lt, nat_eq}
+use Rattle.std.proofs.Common.{◌≡◌, ◌≢◌, ℕ, zero, suc, ◌+◌, ◌<◌, ◌≤◌, min, ⊎_elim, if◌then◌else◌, Bool, true, false, List, [], ◌∷◌, ◌++◌, length, map, get_or, refl, sym, ap, ◌∙◌, subst, arith, nat_lt, nat_eq, lt-ltb, le-ltb}
 use Rattle.std.specs.List.{range_with_len}
-use Rattle.std.proofs.lemmas.Bool.{cases_eq, cases_lt, lt-ltb, le-ltb}
+use Rattle.std.proofs.lemmas.Bool.{cases_eq, cases_lt}
 use Rattle.std.proofs.lemmas.List.{length-map}
 use Rattle.std.proofs.lemmas.List.FromFn.{length-range_with_len, get_or-map-range_with_len}
-use Rattle.beam_queue.specs.Closing.{lent}
-use Rattle.beam_queue.specs.Counting.{total}
-use Rattle.beam_queue.specs.RunQueues.{RunQueue, new_run_queue, others, enqueued_by, taken_by, victims, stealers_of, lent_of, HaveAllStealers}
-use Rattle.beam_queue.specs.Making.{number_of, LentAtMost, AddsAllStealers}
+use Rattle.beam_queue.specs.Prelude.{lent, total, RunQueue, new_run_queue, others, enqueued_by, taken_by, victims, stealers_of, lent_of, HaveAllStealers, number_of, LentAtMost, AddsAllStealers}
 
 abbrev pub victims_at : ℕ → ℕ → ℕ → List ℕ
 victims_at n at i = if nat_lt i at then others n i else []

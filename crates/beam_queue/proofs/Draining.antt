@@ -1,8 +1,6 @@
 -- Stealers go back to their queues, one after another.
 use Rattle.std.proofs.Common.{◌≡◌, ℕ, ◌+◌, ◌<◌, ◌==◌, if◌then◌else◌, List, [], ◌∷◌, ◌++◌, length, map, set, slice_index_or, refl, sym, ap, subst, arith}
-use Rattle.beam_queue.specs.Closing.{stealer_count, lent, HaveNoStealers, RemovesStealer}
-use Rattle.beam_queue.specs.Counting.{total, times, one_if}
-use Rattle.beam_queue.specs.RunQueues.{OwnQueue, Stealer, RunQueue, enqueued_by, taken_by, victims, stealers_of, lent_of, stolen_by}
+use Rattle.beam_queue.specs.Prelude.{stealer_count, lent, HaveNoStealers, RemovesStealer, total, times, one_if, OwnQueue, Stealer, RunQueue, enqueued_by, taken_by, victims, stealers_of, lent_of, stolen_by}
 use Rattle.beam_queue.proofs.Sums.{total_snoc, total_set}
 
 -- the last run queue has no stealers and has lent none

@@ -5,8 +5,7 @@ use lib.ListN.{get_elem?}
 use Rattle.crossbeam_deque.specs.Tasks.{Pushes, Takes, Finds, Forks, Merges, Learns}
 use Rattle.crossbeam_deque.proofs.Lists.{at_set, at_snoc}
 use Rattle.beam_queue.specs.declared.contribution.Contribution.{Contribution}
-use Rattle.beam_queue.specs.Rule.{contribution, IdleIsEmpty, Balanced}
-use Rattle.beam_queue.specs.Counting.{total}
+use Rattle.beam_queue.specs.Prelude.{contribution, IdleIsEmpty, Balanced, total}
 use Rattle.beam_queue.proofs.Sums.{total-append, total_snoc}
 
 -- the total after a change of one pass

@@ -1,9 +1,7 @@
 -- If each stealer goes back to its queue, as many came of each queue as it had lent.
-use Rattle.std.proofs.Common.{◌≡◌, ℕ, ◌+◌, ◌-◌, ◌<◌, ◌≤◌, ◌==◌, Bool, true, false, if◌then◌else◌, List, [], ◌∷◌, set, get_or, refl, ap, subst, length, arith}
+use Rattle.std.proofs.Common.{◌≡◌, ℕ, ◌+◌, ◌-◌, ◌<◌, ◌≤◌, ◌==◌, Bool, true, false, if◌then◌else◌, List, [], ◌∷◌, set, get_or, refl, ap, subst, length, arith, eq-eqb}
 use Rattle.std.proofs.lemmas.Bool.Decides.{nat_tests}
-use Rattle.beam_queue.specs.Closing.{stealer_count, lent, RemovesStealer, KeepsCounts}
-use Rattle.beam_queue.specs.Counting.{total, times, one_if}
-use Rattle.beam_queue.specs.RunQueues.{Stealer, RunQueue, takes_back, enqueued_by, taken_by, victims, stealers_of, lent_of, HaveAllStealers}
+use Rattle.beam_queue.specs.Prelude.{stealer_count, lent, RemovesStealer, KeepsCounts, total, times, one_if, Stealer, RunQueue, takes_back, enqueued_by, taken_by, victims, stealers_of, lent_of, HaveAllStealers}
 use Rattle.beam_queue.proofs.Sums.{total-append, total_set, total_le}
 
 one_fewer : (b : Bool) (n : ℕ) → 0 < n → (if b then n - 1 else 0) + (if b then 1 else 0) ≡ (if b then n else 0)
@@ -17,9 +15,6 @@ own_lent false n some = absurd (omega (arith, some))
 few : (b : Bool) (n : ℕ) → (if b then n else 0) ≤ n
 few true n = omega arith
 few false n = omega arith
-
-itself : (n : ℕ) → (n == n) ≡ true
-itself n = grind arith
 
 -- a run queue for which `lent_of` isn't 0 has the queue of that number
 pub lends_own : (n : ℕ) (u : RunQueue) → 0 < lent_of n u → (u.queue.number ≡ n) × (0 < u.queue.lent)
@@ -69,7 +64,7 @@ none_of : (n : ℕ) (run_queues : List RunQueue) → total lent run_queues ≡ 0
 none_of n run_queues none = let l = total_le (lent_of n) lent run_queues (λ l. few (l.queue.number == n) l.queue.lent) in omega (arith, l, none)
 
 own_of : (l : RunQueue) → lent_of l.queue.number l ≡ l.queue.lent
-own_of l = ap (λ (b : Bool). if b then l.queue.lent else 0) (itself l.queue.number)
+own_of l = ap (λ (b : Bool). if b then l.queue.lent else 0) (eq-eqb l.queue.number l.queue.number refl)
 
 none_at_all : (run_queues : List RunQueue) → ((n : ℕ) → total (lent_of n) run_queues ≡ 0) → total lent run_queues ≡ 0
 none_at_all [] none = refl
@@ -90,5 +85,5 @@ none_lent_more old now kept held' back =
 pub not_all_stealers : (old now mid : List RunQueue) (t : Stealer) → KeepsCounts old now → RemovesStealer t now mid → total (lent_of t.of) mid ≡ 0 → HaveAllStealers old → ⊥
 not_all_stealers old now mid t kept gave none back =
     let k = kept.2 t.of in let v = gave.3 t.of in let l = gave.4 t.of in let b = back t.of in
-    let one : one_if t.of t.of ≡ 1 = ap (λ (b : Bool). if b then 1 else 0) (itself t.of) in
+    let one : one_if t.of t.of ≡ 1 = ap (λ (b : Bool). if b then 1 else 0) (eq-eqb t.of t.of refl) in
     omega (arith, k, v, l, b, one, none)

@@ -1,7 +1,6 @@
 -- One of several stealers takes a pid.
 use Rattle.std.proofs.Common.{◌≡◌, ℕ, ◌<◌, List, [], ◌∷◌, length, set, get_or, slice_index_or, refl, ap, sym, ◌∙◌, subst, arith}
-use Rattle.beam_queue.specs.Counting.{times, one_if}
-use Rattle.beam_queue.specs.RunQueues.{Stealer, stealer_takes, OneStole}
+use Rattle.beam_queue.specs.Prelude.{times, one_if, Stealer, stealer_takes, OneStole}
 use Rattle.beam_queue.proofs.Sums.{total_set, total-append, map_set}
 
 pub one_stole : (pid : ℕ) (ts : List Stealer) (i : ℕ) (d : Stealer) → i < length ts → OneStole pid ts (set ts i (stealer_takes pid (get_or ts i d)))

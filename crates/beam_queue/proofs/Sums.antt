@@ -1,6 +1,6 @@
 -- Sums over lists that grow, shrink or change at an index.
 use Rattle.std.proofs.Common.{◌≡◌, ℕ, zero, suc, ◌+◌, ◌<◌, ◌≤◌, List, [], ◌∷◌, ◌++◌, length, map, take, set, get_or, refl, ap, ◌∙◌, arith}
-use Rattle.beam_queue.specs.Counting.{total}
+use Rattle.beam_queue.specs.Prelude.{total}
 
 pub total-append : {X : Type 0} (f : X → ℕ) (xs ys : List X) → total f (xs ++ ys) ≡ total f xs + total f ys
 total-append f [] ys = omega arith

@@ -3,3 +3,4 @@ pub mod Counting
 pub mod RunQueues
 pub mod Making
 pub mod Rule
+pub mod Prelude

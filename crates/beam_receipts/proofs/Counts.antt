@@ -1,13 +1,12 @@
 -- How many entries the seats have together.
-use Rattle.std.proofs.Common.{◌≡◌, ◌≢◌, ℕ, zero, suc, ◌+◌, ◌<◌, ◌≤◌, List, [], ◌∷◌, length, Bool, true, false, cond, eqb, eq-eqb, ne_eqb, refl, sym, ap, ◌∙◌, arith}
-use Rattle.std.specs.Prelude.{count_by, Option, Some, None, IfSome, is_some}
+use Rattle.std.proofs.Common.{◌≡◌, ◌≢◌, ℕ, zero, suc, ◌+◌, ◌<◌, ◌≤◌, List, [], ◌∷◌, length, Bool, true, false, cond, eqb, eq-eqb, ne_eqb, refl, sym, ap, ◌∙◌, arith, count_by, Option, Some, None, IfSome, is_some}
 use Rattle.std.proofs.lemmas.List.Sums.{sum_by-cons}
 use mathlib.Core.Logic.{dite}
 use native.Mathlib.Decide.{ℕ_discrete}
-use Rattle.beam_machine.specs.Journal.{Entry}
+use Rattle.beam_machine.specs.Prelude.{Entry}
 use Rattle.beam_receipts.specs.Receipts.{is_number, is_of, of_seat, sum_below, AreOfGiven}
 
-zeros : (n : ℕ) → sum_below (λ _. 0) n ≡ 0
+pub zeros : (n : ℕ) → sum_below (λ _. 0) n ≡ 0
 zeros zero = refl
 zeros (suc n) = ap (λ x. x + 0) (zeros n)
 

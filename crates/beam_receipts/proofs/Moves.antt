@@ -1,13 +1,11 @@
 -- Each step of a pass keeps the rule.
-use Rattle.std.proofs.Common.{◌≡◌, ◌≢◌, ◌⊎◌, inl, inr, ℕ, zero, suc, ◌+◌, ◌<◌, List, [], ◌∷◌, ◌++◌, length, set, true, false, cond, eqb, eq-eqb, ne_eqb, refl, sym, ap, ◌∙◌, subst, ⊎_elim, arith}
-use Rattle.std.specs.Prelude.{slice_get, slice_index_or, Option, Some, None, option_map, IfSome}
+use Rattle.std.proofs.Common.{◌≡◌, ◌≢◌, ◌⊎◌, inl, inr, ℕ, zero, suc, ◌+◌, ◌<◌, List, [], ◌∷◌, ◌++◌, length, set, true, false, cond, eqb, eq-eqb, ne_eqb, refl, sym, ap, ◌∙◌, subst, ⊎_elim, arith, slice_get, slice_index_or, Option, Some, None, option_map, IfSome, append-nil}
 use Rattle.std.proofs.lemmas.List.Elements.{filter-append, All-nil, All-head, All-tail, All-append}
-use Rattle.std.proofs.lemmas.List.{append-nil}
 use mathlib.Core.Option.{some, some-injective, some-ne-none}
 use lib.ListN.{get_elem?}
 use Rattle.atomic_table.proofs.Lists.{at_set, set_again, set_else}
-use Rattle.beam_machine.specs.Journal.{Entry}
-use Rattle.beam_laws.specs.Origin.{Origin}
+use Rattle.beam_machine.specs.Prelude.{Entry}
+use Rattle.beam_laws.specs.Prelude.{Origin}
 use Rattle.beam_receipts.specs.Receipts.{History, empty_history, SeatHistory, Checkout, is_number, is_of, of_seat, AreOfGiven}
 use Rattle.beam_receipts.specs.Rule.{Claim, keeper_claim, seat_claim, ticket_claim, no_claim, IsSeatHistory, IsCheckout, Fits, ClaimsAgree, with_seat, with_entry, with_origin, new_seat_claim, new_ticket_claim, with_seat_entry, taken_in, alone, given_back, alone_with, given_back_with, Compares}
 
@@ -24,12 +22,12 @@ length_set [] i a = refl
 length_set (x ∷ xs) zero a = refl
 length_set (x ∷ xs) (suc i) a = ap suc (length_set xs i a)
 
-slice_get_front : {A : Type 0} (xs ys : List A) (k : ℕ) (p : A) → slice_get xs k ≡ Some p → slice_get (xs ++ ys) k ≡ Some p
+pub slice_get_front : {A : Type 0} (xs ys : List A) (k : ℕ) (p : A) → slice_get xs k ≡ Some p → slice_get (xs ++ ys) k ≡ Some p
 slice_get_front [] ys k p e = absurd (cc)
 slice_get_front (x ∷ xs) ys zero p e = e
 slice_get_front (x ∷ xs) ys (suc k) p e = slice_get_front xs ys k p e
 
-slice_get_end : {A : Type 0} (xs : List A) (p : A) → slice_get (xs ++ p ∷ []) (length xs) ≡ Some p
+pub slice_get_end : {A : Type 0} (xs : List A) (p : A) → slice_get (xs ++ p ∷ []) (length xs) ≡ Some p
 slice_get_end [] p = refl
 slice_get_end (x ∷ xs) p = slice_get_end xs p
 

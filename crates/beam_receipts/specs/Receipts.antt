@@ -2,11 +2,10 @@
 use Rattle.std.specs.Prelude.{ℕ, zero, suc, ◌+◌, ◌<◌, ◌==◌, Bool, false, List, [], filter, All, Option, Some, None, IfSome}
 use Rattle.atomic_table.specs.Seated.{TableId}
 use Rattle.beam_machine.specs.declared.debug.DebugEvent.TheVariants.{Resume}
-use Rattle.beam_machine.specs.declared.debug.DebugReply.TheVariants.{Node}
 use Rattle.beam_machine.specs.declared.event.Reply.TheVariants.{Done}
-use Rattle.beam_machine.specs.Journal.{Entry}
-use Rattle.beam_machine.specs.Process.{started}
-use Rattle.beam_laws.specs.Origin.{Origin}
+use Rattle.beam_machine.specs.Prelude.{Entry, started}
+use Rattle.beam_machine.specs.declared.debug.DebugReply.TheVariants.{Node}
+use Rattle.beam_laws.specs.Prelude.{Origin}
 
 -- all entries of the journal, how many seats were given, and all checkouts
 pub record History : Type 0 where

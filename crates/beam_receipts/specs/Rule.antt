@@ -2,8 +2,8 @@
 use Rattle.std.specs.Prelude.{◌≡◌, ℕ, ◌+◌, ◌<◌, List, [], ◌∷◌, ◌++◌, length, slice_get, unwrap_or, Option, Some, None, option_map, IfSome}
 use mathlib.Core.Option.{some}
 use lib.ListN.{get_elem?}
-use Rattle.beam_machine.specs.Journal.{Entry}
-use Rattle.beam_laws.specs.Origin.{Origin}
+use Rattle.beam_machine.specs.Prelude.{Entry}
+use Rattle.beam_laws.specs.Prelude.{Origin}
 use Rattle.beam_receipts.specs.Receipts.{History, empty_history, SeatHistory, Checkout, no_checkout, of_seat, AreOfGiven}
 
 -- the claim of a pass: the keeper's has the whole history, a seat's the history of that seat, a ticket's its checkout

@@ -1,8 +1,7 @@
 -- Bytes that a device gives or takes, piece by piece.
-use Rattle.std.proofs.Common.{◌≡◌, ℕ, ◌+◌, ◌∙◌, ◌-◌, List, [], ◌∷◌, ◌++◌, Option, Some, None, refl, ap, subst, sym, length, take, drop, append_assoc, append-nil, arith}
-use Rattle.std.proofs.lemmas.List.{take-append-drop, length-drop}
-use Rattle.std.proofs.Math.Seq.{take-add, take-append_seam, take-length}
-use Rattle.beam_remote.specs.DeviceHistory.{appended}
+use Rattle.std.proofs.Common.{◌≡◌, ℕ, ◌+◌, ◌∙◌, ◌-◌, List, [], ◌∷◌, ◌++◌, Option, Some, None, refl, ap, subst, sym, length, take, drop, append_assoc, append-nil, arith, take-append-drop, length-drop}
+use Rattle.std.proofs.Math.Seq.{take-append_seam, take-length, take-add}
+use Rattle.beam_remote.specs.Prelude.{appended}
 
 -- as many elements as are left after the first n are all that are left
 all_left : (xs : List ℕ) (n : ℕ) → take (length xs - n) (drop n xs) ≡ drop n xs

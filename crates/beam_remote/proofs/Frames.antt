@@ -1,19 +1,13 @@
 -- Frames at the front of bytes, where more bytes come.
-use Rattle.std.proofs.Common.{◌≡◌, ◌<◌, ◌≤◌, ◌∙◌, ◌⊎◌, inl, inr, ℕ, zero, suc, Bool, true, false, cond, List, [], ◌∷◌, ◌++◌, Option, Some, None, refl, ap, sym, length, take, drop, arith, length-append}
-use Rattle.std.proofs.lemmas.Bool.{cond-true, cond-false, lt-ltb, le-ltb, ltb-true, ltb-false}
-use Rattle.std.proofs.lemmas.List.{take-append-drop, take-append-le, drop-append-le, length-drop, length-take-le}
-use Rattle.std.specs.Prelude.{nat_lt, option_and_then}
+use Rattle.std.proofs.Common.{◌≡◌, ◌<◌, ◌≤◌, ◌∙◌, inl, inr, ℕ, false, List, [], ◌∷◌, ◌++◌, Option, Some, None, refl, ap, sym, length, take, drop, arith, length-append, lt-ltb, le-ltb, ltb-true, ltb-false, take-append-drop, length-take-le, nat_lt, option_and_then}
+use Rattle.std.proofs.lemmas.Bool.{cond-true, cond-false}
+use Rattle.std.proofs.lemmas.List.{take-append-le, drop-append-le}
+use Rattle.beam_lemmas.proofs.Tests.{chosen}
 use Rattle.byteorder.specs.Endian.{big_number}
 use Rattle.beam_machine.specs.declared.command.CommandKind.{CommandKind}
-use Rattle.beam_machine.specs.declared.command.FrameFault.{FrameFault}
+use Rattle.beam_machine.specs.Prelude.{Command, SpellsCommand, FirstFrame, no_frame, one_frame, command_or_fault, of_kind, command_in, kind_of, frame_content, after_length, frame_in, longest_frame}
 use Rattle.beam_frame.proofs.Spelling.{read_is_spelled}
-use Rattle.beam_machine.specs.Frames.{Command, SpellsCommand, FirstFrame, no_frame, one_frame, bad_frame, command_or_fault, of_kind, command_in, kind_of, frame_content, after_length, frame_in, longest_frame, Stream, empty_stream, stream_end, at_fault, between_frames, with_command, stream_by, stream_within, stream_of}
-use Rattle.beam_remote.specs.Serving.{IsFrame}
-
--- the two outcomes of a test
-cond_cases : {X : Type 0} (t : Bool) (x y z : X) → cond t x y ≡ z → ((t ≡ true) × (x ≡ z)) ⊎ ((t ≡ false) × (y ≡ z))
-cond_cases true x y z e = inl (refl, e)
-cond_cases false x y z e = inr (refl, e)
+use Rattle.beam_remote.specs.Prelude.{IsFrame}
 
 -- ---- a frame
 
@@ -65,9 +59,9 @@ pub record IsWhole (n : ℕ) (rest : List ℕ) (found : FirstFrame) : Type 0 whe
 whole_if : (n : ℕ) (rest : List ℕ) (c : Command) (r : List ℕ) → after_length n rest ≡ one_frame c r → IsWhole n rest (one_frame c r)
 unfolding after_length
 whole_if n rest c r e =
-    elim (cond_cases (nat_lt longest_frame n) _ _ _ e) [
+    elim (chosen (nat_lt longest_frame n) _ _ _ e) [
       | inl p ↦ absurd (let q = p.1 in cc)
-      | inr p ↦ elim (cond_cases (nat_lt (length rest) n) _ _ _ p.1) [
+      | inr p ↦ elim (chosen (nat_lt (length rest) n) _ _ _ p.1) [
         | inl q ↦ absurd (let w = q.1 in cc)
         | inr q ↦ record { short = p.0; whole = q.0; is = q.1 }
       ]
@@ -89,18 +83,12 @@ after_more n rest more c r e =
     ∙ ap (λ (t : List ℕ). frame_content (take n rest) t) (drop-append-le n rest more fits)
     ∙ other ∙ ap (λ (t : List ℕ). one_frame c (t ++ more)) (sym is_rest)
 
-after_shorter : (n : ℕ) (rest : List ℕ) (c : Command) (r : List ℕ) → after_length n rest ≡ one_frame c r → length r ≤ length rest
-after_shorter n rest c r e =
-    let w = whole_if n rest c r e in
-    let is_rest : r ≡ drop n rest = framed_rest (take n rest) (drop n rest) c r w.is in
-    omega (arith, ap length is_rest, length-drop n rest)
-
 after_none : (n : ℕ) (rest : List ℕ) → after_length n rest ≡ no_frame → length rest < longest_frame
 unfolding after_length
 after_none n rest e =
-    elim (cond_cases (nat_lt longest_frame n) _ _ _ e) [
+    elim (chosen (nat_lt longest_frame n) _ _ _ e) [
       | inl p ↦ absurd (let q = p.1 in cc)
-      | inr p ↦ elim (cond_cases (nat_lt (length rest) n) _ _ _ p.1) [
+      | inr p ↦ elim (chosen (nat_lt (length rest) n) _ _ _ p.1) [
         | inl q ↦ omega (arith, ltb-true (length rest) n q.0, ltb-false longest_frame n p.0)
         | inr q ↦ absurd (framed_some (take n rest) (drop n rest) q.1)
       ]
@@ -125,16 +113,6 @@ more_after (w ∷ x ∷ y ∷ []) more c r e = absurd (let n = short_none (w ∷
 more_after (w ∷ x ∷ y ∷ z ∷ rest) more c r e =
     let n : ℕ = big_number 4 (w ∷ x ∷ y ∷ z ∷ []) in
     after_four w x y z (rest ++ more) ∙ after_more n rest more c r (sym (after_four w x y z rest) ∙ e)
-
-pub rest_is_shorter : (bytes : List ℕ) (c : Command) (r : List ℕ) → frame_in bytes ≡ one_frame c r → length r < length bytes
-rest_is_shorter [] c r e = absurd (let n = short_none [] (omega arith) in cc)
-rest_is_shorter (w ∷ []) c r e = absurd (let n = short_none (w ∷ []) (omega arith) in cc)
-rest_is_shorter (w ∷ x ∷ []) c r e = absurd (let n = short_none (w ∷ x ∷ []) (omega arith) in cc)
-rest_is_shorter (w ∷ x ∷ y ∷ []) c r e = absurd (let n = short_none (w ∷ x ∷ y ∷ []) (omega arith) in cc)
-rest_is_shorter (w ∷ x ∷ y ∷ z ∷ rest) c r e =
-    let n : ℕ = big_number 4 (w ∷ x ∷ y ∷ z ∷ []) in
-    let below : length r ≤ length rest = after_shorter n rest c r (sym (after_four w x y z rest) ∙ e) in
-    omega arith
 
 -- bytes without a whole frame at their front are few
 pub none_is_short : (bytes : List ℕ) → frame_in bytes ≡ no_frame → length bytes < 8388612
@@ -191,52 +169,3 @@ frame_found (w ∷ x ∷ y ∷ z ∷ rest) c r e =
         spells = spells.3;
       },
     )
-
--- ---- streams
-
-none_within : (n : ℕ) → stream_within n [] ≡ empty_stream between_frames
-unfolding stream_within
-none_within zero = refl
-none_within (suc n) = ap (stream_by (stream_within n) []) (short_none [] (omega arith))
-
--- how a stream goes on matters only for the bytes after a command
-goes_same : (f g : List ℕ → Stream) (bytes : List ℕ) (found : FirstFrame) → ((c : Command) (r : List ℕ) → found ≡ one_frame c r → f r ≡ g r) → stream_by f bytes found ≡ stream_by g bytes found
-goes_same f g bytes no_frame same = refl
-goes_same f g bytes (one_frame c r) same = ap (with_command c) (same c r refl)
-goes_same f g bytes (bad_frame x) same = refl
-
-none_left : (bytes : List ℕ) → length bytes ≤ 0 → bytes ≡ []
-none_left [] e = refl
-none_left (x ∷ bytes) e = absurd (omega (arith, e))
-
-within_enough : (n m : ℕ) (bytes : List ℕ) → length bytes ≤ n → length bytes ≤ m → stream_within n bytes ≡ stream_within m bytes
-unfolding stream_within
-within_enough zero m bytes fits_n fits_m =
-    let is = none_left bytes fits_n in
-    ap (stream_within zero) is ∙ none_within zero ∙ sym (none_within m) ∙ ap (stream_within m) (sym is)
-within_enough (suc n) zero bytes fits_n fits_m =
-    let is = none_left bytes fits_m in
-    ap (stream_within (suc n)) is ∙ none_within (suc n) ∙ sym (none_within zero) ∙ ap (stream_within zero) (sym is)
-within_enough (suc n) (suc m) bytes fits_n fits_m =
-    goes_same (stream_within n) (stream_within m) bytes (frame_in bytes) (λ c r e.
-    let shorter = rest_is_shorter bytes c r e in
-    within_enough n m r (omega arith) (omega arith))
-
--- the stream of bytes is their first command, and then the stream of the bytes after its frame
-pub stream_after : (bytes : List ℕ) (c : Command) (r : List ℕ) → frame_in bytes ≡ one_frame c r → stream_of bytes ≡ with_command c (stream_of r)
-unfolding stream_within
-stream_after [] c r e = absurd (let n = short_none [] (omega arith) in cc)
-stream_after (x ∷ bytes) c r e =
-    let shorter = rest_is_shorter (x ∷ bytes) c r e in
-    ap (stream_by (stream_within (length bytes)) (x ∷ bytes)) e
-    ∙ ap (with_command c) (within_enough (length bytes) (length r) r (omega arith) (omega arith))
-
-pub stream_fault : (bytes : List ℕ) (f : FrameFault) → frame_in bytes ≡ bad_frame f → stream_of bytes ≡ empty_stream (at_fault f)
-unfolding stream_within
-stream_fault [] f e = absurd (let n = short_none [] (omega arith) in cc)
-stream_fault (x ∷ bytes) f e = ap (stream_by (stream_within (length bytes)) (x ∷ bytes)) e
-
-pub stream_none : (bytes : List ℕ) → frame_in bytes ≡ no_frame → stream_of bytes ≡ empty_stream (stream_end bytes)
-unfolding stream_within
-stream_none [] e = refl
-stream_none (x ∷ bytes) e = ap (stream_by (stream_within (length bytes)) (x ∷ bytes)) e

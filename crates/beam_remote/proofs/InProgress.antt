@@ -2,19 +2,18 @@
 use Rattle.std.proofs.Common.{◌≡◌, ◌<◌, ◌+◌, ◌∙◌, inl, inr, ℕ, suc, List, [], ◌∷◌, ◌++◌, Option, refl, ap, sym, subst, length, take, append_assoc, append-nil, arith, length-append}
 use Rattle.std.proofs.Math.Path.{subst₂}
 use Rattle.std.proofs.Math.Seq.{take-append_seam}
+use Rattle.beam_model.specs.Prelude.{Listing}
 use Rattle.beam_machine.specs.declared.command.FrameFault.{FrameFault}
 use Rattle.beam_machine.specs.declared.command.FrameFault.TheVariants.{TooLong}
 use Rattle.beam_machine.specs.declared.command.Response.{Response}
 use Rattle.beam_machine.specs.declared.debug.DebugEvent.{DebugEvent}
-use Rattle.beam_machine.specs.Frames.{Command, frame_in, no_frame, one_frame, bad_frame, Stream, empty_stream, stream_end, at_fault, stream_of, reply_body, longest_frame}
-use Rattle.beam_model.specs.Listing.{Listing}
+use Rattle.beam_machine.specs.Prelude.{Command, frame_in, no_frame, one_frame, bad_frame, Stream, empty_stream, stream_end, at_fault, stream_of, reply_body, longest_frame}
+use Rattle.beam_frame.proofs.Streams.{stream_one, stream_fault, stream_none}
 use Rattle.beam_remote.specs.declared.error.SessionFailure.{SessionFailure}
 use Rattle.beam_remote.specs.declared.error.SessionFailure.TheVariants.{ReadFailed, WriteFailed, CutFrame, BadFrame, NoMemory}
-use Rattle.beam_remote.specs.Found.{IsNeeded, StopsReading, StopsTelling, TellsFault}
-use Rattle.beam_remote.specs.Serving.{AllAnswered, Answered, AreFrames, Serves, IsServed, IsStopped, StopsFor, EndsAt, reply_frame, reply_frames}
-use Rattle.beam_remote.specs.DeviceHistory.{EachRead, Moment, appended}
+use Rattle.beam_remote.specs.Prelude.{IsNeeded, StopsReading, StopsTelling, TellsFault, AllAnswered, Answered, AreFrames, Serves, IsServed, IsStopped, StopsFor, EndsAt, reply_frame, reply_frames, EachRead, Moment, appended}
 use Rattle.beam_remote.proofs.Bytes.{joined, more_none}
-use Rattle.beam_remote.proofs.Frames.{frame_found, more_after, stream_after, stream_fault, stream_none}
+use Rattle.beam_remote.proofs.Frames.{frame_found, more_after}
 use Rattle.beam_remote.proofs.Moments.{more_since, none_since, same_since}
 
 -- ---- the commands that were taken
@@ -36,11 +35,11 @@ reads_one bytes (d ∷ cs) rest c after (next, here, others) first = (next, here
 commands_are : (bytes : List ℕ) (cs : List Command) (rest : List ℕ) → Reads bytes cs rest → (stream_of bytes).commands ≡ cs ++ (stream_of rest).commands
 commands_are bytes [] rest is = ap (λ (b : List ℕ). (stream_of b).commands) (sym is)
 commands_are bytes (c ∷ cs) rest (next, first, others) =
-    ap (λ (s : Stream). s.commands) (stream_after bytes c next first) ∙ ap (λ (l : List Command). c ∷ l) (commands_are next cs rest others)
+    ap (λ (s : Stream). s.commands) (stream_one bytes c next first) ∙ ap (λ (l : List Command). c ∷ l) (commands_are next cs rest others)
 
 end_is : (bytes : List ℕ) (cs : List Command) (rest : List ℕ) → Reads bytes cs rest → (stream_of bytes).end ≡ (stream_of rest).end
 end_is bytes [] rest is = ap (λ (b : List ℕ). (stream_of b).end) (sym is)
-end_is bytes (c ∷ cs) rest (next, first, others) = ap (λ (s : Stream). s.end) (stream_after bytes c next first) ∙ end_is next cs rest others
+end_is bytes (c ∷ cs) rest (next, first, others) = ap (λ (s : Stream). s.end) (stream_one bytes c next first) ∙ end_is next cs rest others
 
 frames_are : (bytes : List ℕ) (cs : List Command) (rest : List ℕ) → Reads bytes cs rest → AreFrames bytes cs rest
 frames_are bytes [] rest is = sym is

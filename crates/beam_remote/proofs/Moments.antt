@@ -3,11 +3,9 @@ use Rattle.std.proofs.Common.{◌≡◌, ◌≤◌, ◌∙◌, ℕ, List, [], �
 use Rattle.std.proofs.Math.Seq.{take-length}
 use Rattle.std.proofs.lemmas.List.{map-append, take-append-le}
 use Rattle.std.proofs.lemmas.List.Elements.{All-nil, All-append, All-cons, All-weaker}
-use Rattle.beam_machine.specs.Frames.{frame_in, no_frame}
+use Rattle.beam_machine.specs.Prelude.{frame_in, no_frame}
 use Rattle.beam_remote.specs.declared.memory.Counts.{Counts}
-use Rattle.beam_remote.specs.Found.{IsNeeded}
-use Rattle.beam_remote.specs.Tape.{AreTaken, Tape, moment_of, moments_of, with_read}
-use Rattle.beam_remote.specs.DeviceHistory.{EachRead, Moment, appended, one_read}
+use Rattle.beam_remote.specs.Prelude.{IsNeeded, AreTaken, Tape, moment_of, moments_of, with_read, EachRead, Moment, appended, one_read}
 use Rattle.beam_remote.proofs.Bytes.{joined, more_none}
 
 module _ (P : Moment → Type 0) where

@@ -5,8 +5,8 @@ use Rattle.std.proofs.Math.Seq.{split_at}
 use Rattle.beam_machine.specs.declared.command.Response.{Response}
 use Rattle.beam_machine.specs.declared.command.Response.TheVariants as response
 use Rattle.beam_machine.specs.declared.event.Refused.TheVariants as refused
-use Rattle.beam_model.specs.Listing.{Listing}
-use Rattle.beam_remote.specs.Serving.{IsPrepared, ArePrepared, IsUnprepared, AreUnprepared}
+use Rattle.beam_model.specs.Prelude.{Listing}
+use Rattle.beam_remote.specs.Prelude.{IsPrepared, ArePrepared, IsUnprepared, AreUnprepared}
 
 one_more : (files : List (List ℕ)) (ls : List Listing) (file : List ℕ) (l : Listing) → ArePrepared files ls → IsPrepared file l → ArePrepared (files ++ file ∷ []) (ls ++ l ∷ [])
 one_more [] [] file l all one = (one, tt)

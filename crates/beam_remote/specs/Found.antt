@@ -5,7 +5,7 @@ use Rattle.beam_frame.specs.declared.error.FrameError.TheVariants as frame
 use Rattle.beam_machine.specs.declared.command.FrameFault.{FrameFault}
 use Rattle.beam_machine.specs.declared.command.FrameFault.TheVariants.{TooLong, BadKind, BadCommand}
 use Rattle.beam_machine.specs.declared.command.Response.{Response}
-use Rattle.beam_machine.specs.Frames.{Command, frame_in, no_frame, one_frame, bad_frame, stream_end, inside_frame, number_of_fault, fault_frame, reply_body, longest_frame}
+use Rattle.beam_machine.specs.Prelude.{Command, frame_in, no_frame, one_frame, bad_frame, stream_end, inside_frame, number_of_fault, fault_frame, reply_body, longest_frame}
 use Rattle.beam_remote.specs.declared.next_command_error.NextCommandError.{NextCommandError}
 use Rattle.beam_remote.specs.declared.next_command_error.NextCommandError.TheVariants as stop
 use Rattle.beam_remote.specs.declared.error.SessionFailure.{SessionFailure}

@@ -4,3 +4,4 @@ pub mod Numbers
 pub mod Serving
 pub mod Tape
 pub mod DeviceHistory
+pub mod Prelude

@@ -1,11 +1,11 @@
 -- A file that is read to its end and loaded. (This node's own.)
 use Rattle.std.specs.Prelude.{◌≡◌, ◌<◌, ℕ, List, length, Result, Ok, Err}
 use Rattle.beam_machine.specs.declared.command.Response.{Response}
-use Rattle.beam_machine.specs.declared.command.Response.TheVariants as response
 use Rattle.beam_machine.specs.declared.debug.DebugEvent.{DebugEvent}
-use Rattle.beam_machine.specs.declared.debug.DebugEvent.TheVariants.{Node}
 use Rattle.beam_machine.specs.declared.event.Event.TheVariants.{Load}
-use Rattle.beam_model.specs.Listing.{Listing}
+use Rattle.beam_machine.specs.declared.command.Response.TheVariants as response
+use Rattle.beam_machine.specs.declared.debug.DebugEvent.TheVariants.{Node}
+use Rattle.beam_model.specs.Prelude.{Listing}
 use Rattle.beam_remote.specs.declared.error.LoadError.{LoadError}
 use Rattle.beam_remote.specs.declared.error.LoadError.TheVariants.{ReadFailed, TooLong, Refused, Busy, JournalFull, BadFile, NoMemory}
 use Rattle.beam_remote.specs.Serving.{IsPrepared, IsBadFile}

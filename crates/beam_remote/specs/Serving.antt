@@ -6,16 +6,13 @@ use Rattle.beam_disasm.specs.declared.error.FileError.{FileError}
 use Rattle.beam_machine.specs.declared.command.FrameFault.{FrameFault}
 use Rattle.beam_machine.specs.declared.command.FrameFault.TheVariants.{TooLong}
 use Rattle.beam_machine.specs.declared.command.Response.{Response}
-use Rattle.beam_machine.specs.declared.command.Response.TheVariants as response
 use Rattle.beam_machine.specs.declared.debug.DebugEvent.{DebugEvent}
-use Rattle.beam_machine.specs.declared.debug.DebugEvent.TheVariants.{Node}
 use Rattle.beam_machine.specs.declared.event.Event.TheVariants.{Load, LoadStrict, AtomicLoad}
+use Rattle.beam_machine.specs.Prelude.{Command, IsNumber, SpellsCommand, Stream, between_frames, inside_frame, at_fault, stream_of, event_of, reply_body, frame_of, fault_frame, longest_frame, number_of_fault}
+use Rattle.beam_machine.specs.declared.command.Response.TheVariants as response
+use Rattle.beam_machine.specs.declared.debug.DebugEvent.TheVariants.{Node}
 use Rattle.beam_machine.specs.declared.event.Refused.TheVariants as refused
-use Rattle.beam_machine.specs.Frames.{Command, IsNumber, SpellsCommand, Stream, between_frames, inside_frame, at_fault, stream_of, event_of, reply_body, frame_of, fault_frame, longest_frame, number_of_fault}
-use Rattle.beam_model.specs.File.{listing_of_file}
-use Rattle.beam_model.specs.FileForm.{IsFile}
-use Rattle.beam_model.specs.Heads.{IsWellFormed}
-use Rattle.beam_model.specs.Listing.{Listing}
+use Rattle.beam_model.specs.Prelude.{listing_of_file, IsFile, IsWellFormed, Listing}
 use Rattle.beam_remote.specs.declared.error.Served.{Served}
 use Rattle.beam_remote.specs.declared.error.ServeError.{ServeError}
 use Rattle.beam_remote.specs.declared.error.SessionFailure.{SessionFailure}

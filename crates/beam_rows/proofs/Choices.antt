@@ -1,13 +1,11 @@
 -- Choices and new elements, one at a time.
 use Rattle.std.proofs.Common.{◌≡◌, ℕ, ◌==◌, length, Bool, true, false, if◌then◌else◌, List, [], ◌∷◌, ◌++◌, Option, Some, None, refl, ap, ◌∙◌}
-use Rattle.beam_term.specs.TermValue.{TermValue}
+use Rattle.beam_model.specs.Prelude.{is_equal, Place}
 use Rattle.beam_machine.specs.declared.action.Choice.{Choice}
 use Rattle.beam_machine.specs.declared.action.Update.{Update}
-use Rattle.beam_model.specs.Native.{is_equal}
-use Rattle.beam_machine.specs.Process.{Process, read}
+use Rattle.beam_machine.specs.Prelude.{Process, read, chosen, illegal, put_elements, stores_tuple, updates_record}
 use Rattle.beam_machine.specs.declared.action.Register.{Register}
-use Rattle.beam_model.specs.Place.{Place}
-use Rattle.beam_machine.specs.Row.{chosen, illegal, put_elements, stores_tuple, updates_record}
+use Rattle.beam_term.specs.Prelude.{TermValue}
 
 -- the target of some choices and a last one: the last choice's target, if that is chosen, becomes the target of no choice
 pub chosen_last : (p : Process) (t v : TermValue) (cs : List Choice) (c : Choice) (fail : Option ℕ) → read p c.value ≡ Some v → chosen p t (cs ++ c ∷ []) fail ≡ chosen p t cs (if is_equal t v then c.target else fail)

@@ -1,4 +1,5 @@
 pub mod Apart
+pub mod AskedLoud
 pub mod Asking
 pub mod Atoms
 pub mod Called

@@ -1,26 +1,24 @@
 -- A row takes a monitor away, whether before its answer or after it.
 use Rattle.std.proofs.Common.{◌≡◌, ◌≢◌, ℕ, zero, suc, ◌==◌, Bool, true, false, if◌then◌else◌, List, [], ◌∷◌, length, Option, Some, None, is_some, Ok, refl, ap, sym, subst, ◌∙◌}
-use Rattle.beam_term.specs.TermValue.{TermValue}
 use Rattle.beam_model.specs.declared.exception.Exception.{Exception}
-use Rattle.beam_model.specs.declared.exception.Exception.TheVariants as exception
 use Rattle.beam_model.specs.declared.exception.Fault.TheVariants.{IllegalOperand}
 use Rattle.beam_model.specs.declared.native.ProcessNative.{ProcessNative}
 use Rattle.beam_model.specs.declared.native.ProcessNative.TheVariants.{Demonitor}
-use Rattle.beam_model.specs.Native.{truth}
-use Rattle.beam_model.specs.Place.{Place}
+use Rattle.beam_model.specs.Prelude.{truth, Place}
+use Rattle.beam_term.specs.Prelude.{TermValue}
+use Rattle.beam_model.specs.declared.exception.Exception.TheVariants as exception
 use Rattle.beam_machine.specs.declared.callee.After.{After}
 use Rattle.beam_machine.specs.declared.callee.After.TheVariants.{NextRow, Return}
 use Rattle.beam_machine.specs.declared.event.Then.{Then}
-use Rattle.beam_machine.specs.declared.event.Then.TheVariants.{Ended}
 use Rattle.beam_machine.specs.declared.process.Frame.{Frame}
 use Rattle.beam_machine.specs.declared.process.Slot.{Slot}
+use Rattle.beam_machine.specs.Prelude.{Process, ended, dropped, without_slots, with_slots, put_x, Outcome, makes, tag_of, caught_at, unwound, illegal, returns_to, returns_from, answers, demonitored, flushed_if, changed_by, answers_true, arguments_of, after_dropping}
+use Rattle.beam_machine.specs.declared.event.Then.TheVariants.{Ended}
 use Rattle.beam_machine.specs.declared.process.Tag.{Tag}
-use Rattle.beam_machine.specs.Process.{Process, ended, dropped, without_slots, with_slots, put_x}
-use Rattle.beam_machine.specs.Row.{Outcome, makes, tag_of, caught_at, unwound, illegal, returns_to, returns_from, answers, demonitored, flushed_if, changed_by, answers_true, arguments_of, after_dropping}
-use Rattle.beam_proc.specs.Does.{Does, Makes}
+use Rattle.beam_proc.specs.Prelude.{Does, Makes}
 use Rattle.beam_rows.specs.declared.of_process.Demonitoring.{Demonitoring}
 use Rattle.beam_rows.proofs.Made.{made}
-use Rattle.beam_rows.specs.OfProcess.{without, leaves_without, called}
+use Rattle.beam_rows.specs.Prelude.{without, leaves_without, called}
 
 -- a process after demonitor
 abbrev less : Bool → TermValue → Process → Process

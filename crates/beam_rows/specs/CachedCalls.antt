@@ -1,9 +1,9 @@
 -- Cached calls of functions of other modules, and where they entered them.
 use Rattle.std.specs.Prelude.{◌≡◌, ℕ, List, Option, Some, IfSome}
 use Rattle.std.specs.List.{All}
+use Rattle.beam_model.specs.Prelude.{Place}
 use Rattle.beam_machine.specs.declared.callee.Callee.TheVariants.{Function}
-use Rattle.beam_machine.specs.Code.{Code, step_of, entry_of}
-use Rattle.beam_model.specs.Place.{Place}
+use Rattle.beam_machine.specs.Prelude.{Code, step_of, entry_of}
 use Rattle.beam_rows.specs.declared.call_cache.CachedCall.{CachedCall}
 use Rattle.beam_rows.specs.Quick.{called_in}
 

@@ -7,3 +7,4 @@ pub mod Quick
 pub mod Reads
 pub mod Spots
 pub mod RowErrors
+pub mod Prelude

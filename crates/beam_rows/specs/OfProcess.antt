@@ -1,11 +1,10 @@
 -- What demonitor makes of a process, by the reference and the option in its arguments, and what its row answers.
 use Rattle.std.specs.Prelude.{ℕ, Ok}
-use Rattle.beam_model.specs.declared.native.ProcessNative.{ProcessNative}
 use Rattle.beam_machine.specs.declared.callee.After.{After}
 use Rattle.beam_machine.specs.declared.event.Then.{Then}
-use Rattle.beam_machine.specs.Process.{Process}
-use Rattle.beam_machine.specs.Row.{Outcome, makes, demonitored, flushed_if, changed_by, answers_true, arguments_of}
-use Rattle.beam_proc.specs.Does.{Makes}
+use Rattle.beam_machine.specs.Prelude.{Process, Outcome, makes, demonitored, flushed_if, changed_by, answers_true, arguments_of}
+use Rattle.beam_model.specs.declared.native.ProcessNative.{ProcessNative}
+use Rattle.beam_proc.specs.Prelude.{Makes}
 use Rattle.beam_rows.specs.declared.of_process.Demonitoring.{Demonitoring}
 
 -- a process without its monitor of a reference, and, with `flush`, without its first message of that reference

@@ -66,7 +66,7 @@ fn perform(
 }
 
 /// Executes the row at a place. After the last instruction comes a row of a wrong shape.
-#[tactic(auto, using(crate::proofs::Loud::illegal_loud))]
+#[tactic(auto, using(beam_proc::proofs::Loud::illegal_loud))]
 fn row_at(
     code: &CodeTable,
     process: &mut Process,

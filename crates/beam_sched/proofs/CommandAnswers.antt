@@ -1,18 +1,14 @@
 -- The clauses of a node's command, of its answer and of its refusal, make it an answered command.
-use Rattle.std.proofs.Common.{◌≡◌, ◌≢◌, ◌<◌, ◌++◌, ◌∷◌, [], false, length, Some}
-use Rattle.std.specs.Prelude.{Result, Ok, Err, IfOk, IfErr, OnErr, OnOk}
+use Rattle.std.proofs.Common.{◌≡◌, ◌≢◌, ◌<◌, ◌++◌, ◌∷◌, [], false, length, Some, Result, Ok, Err, IfOk, IfErr, OnErr, OnOk}
+use Rattle.beam_model.specs.Prelude.{Listing}
 use Rattle.beam_machine.specs.declared.debug.DebugEvent.{DebugEvent}
-use Rattle.beam_machine.specs.Journal.{IsLawful, replay}
-use Rattle.beam_model.specs.Listing.{Listing}
+use Rattle.beam_machine.specs.Prelude.{IsLawful, replay}
 use Rattle.beam_debug.specs.declared.outcome.Outcome.{Outcome}
-use Rattle.beam_debug.specs.Answers.{reply_of}
-use Rattle.beam_debug.specs.Loud.{DebugLoudly}
+use Rattle.beam_debug.specs.Prelude.{reply_of, DebugLoudly}
 use Rattle.beam_journal.specs.Entering.{Accepts, entry_of}
 use Rattle.beam_receipts.specs.Receipts.{SeatHistory, of_seat}
 use Rattle.beam_shared.specs.declared.refusal.Refusal.{Refusal}
-use Rattle.beam_shared.specs.Node.{Node, accepted}
-use Rattle.beam_shared.specs.Refusals.{RefusesCommand, must_wait}
-use Rattle.beam_shared.specs.Seats.{AddUp, AreOfSeats}
+use Rattle.beam_shared.specs.Prelude.{Node, accepted, RefusesCommand, must_wait, AddUp, AreOfSeats}
 use Rattle.beam_sched.specs.CommandAnswers.{CommandAnswered, answer_of}
 
 pub command_answered : (n new : Node) (s t : SeatHistory) (event : DebugEvent Listing) (r : Result Outcome Refusal)

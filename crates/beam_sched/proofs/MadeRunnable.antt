@@ -1,7 +1,6 @@
 -- The receiver of a message that isn't sent to a pid may be any process: by the kinds of terms.
 use Rattle.std.proofs.Common.{◌≡◌, ◌≢◌, refl}
-use Rattle.beam_term.specs.Order.{rank_of}
-use Rattle.beam_term.specs.TermValue.{TermValue, Terms, int_term, atom_term, reference_term, pid_term, nil_term, pair_term, tuple_term}
+use Rattle.beam_term.specs.Prelude.{rank_of, TermValue, Terms, int_term, atom_term, reference_term, pid_term, nil_term, pair_term, tuple_term}
 use Rattle.beam_sched.specs.declared.made_runnable.MadeRunnable.TheVariants.{Any}
 use Rattle.beam_sched.specs.MadeRunnable.{receiver_of}
 

@@ -1,19 +1,15 @@
 -- The answer of a node that threads share to a command of a seat. (This node's own.)
 use Rattle.std.specs.Prelude.{◌≡◌, ◌≢◌, ◌<◌, ◌++◌, ◌∷◌, [], false, length, Some, Result, Ok, Err}
+use Rattle.beam_model.specs.Prelude.{Listing}
 use Rattle.beam_machine.specs.declared.debug.DebugEvent.{DebugEvent}
 use Rattle.beam_machine.specs.declared.debug.DebugReply.{DebugReply}
-use Rattle.beam_machine.specs.Journal.{IsLawful, replay}
-use Rattle.beam_machine.specs.View.{View}
-use Rattle.beam_model.specs.Listing.{Listing}
+use Rattle.beam_machine.specs.Prelude.{IsLawful, replay, View}
 use Rattle.beam_debug.specs.declared.outcome.Outcome.{Outcome}
-use Rattle.beam_debug.specs.Answers.{reply_of}
-use Rattle.beam_debug.specs.Loud.{DebugLoudly}
+use Rattle.beam_debug.specs.Prelude.{reply_of, DebugLoudly}
 use Rattle.beam_journal.specs.Entering.{Accepts, entry_of}
 use Rattle.beam_receipts.specs.Receipts.{SeatHistory, of_seat}
 use Rattle.beam_shared.specs.declared.refusal.Refusal.{Refusal}
-use Rattle.beam_shared.specs.Node.{Node, accepted}
-use Rattle.beam_shared.specs.Refusals.{RefusesCommand, must_wait}
-use Rattle.beam_shared.specs.Seats.{AddUp, AreOfSeats}
+use Rattle.beam_shared.specs.Prelude.{Node, accepted, RefusesCommand, must_wait, AddUp, AreOfSeats}
 
 -- an answer, as a reply of the definitions
 abbrev pub answer_of : Result Outcome Refusal → Result (DebugReply View) Refusal

@@ -1,7 +1,6 @@
 -- Moments at which the node is to be scanned. (This node's own.)
 use Rattle.std.specs.Prelude.{ℕ, min, Option, Some, None, option_map}
-use Rattle.beam_machine.specs.Process.{Process}
-use Rattle.beam_machine.specs.Ready.{due_of}
+use Rattle.beam_machine.specs.Prelude.{Process, due_of}
 
 -- the earlier of two moments
 abbrev pub earlier : Option ℕ → Option ℕ → Option ℕ

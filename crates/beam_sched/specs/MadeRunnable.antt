@@ -1,9 +1,9 @@
 -- Which processes an event may make runnable that weren't before: a table by event. (This node's own.)
 use Rattle.std.specs.Prelude.{ℕ}
-use Rattle.beam_term.specs.TermValue.{TermValue, Terms, int_term, atom_term, reference_term, pid_term, nil_term, pair_term, tuple_term}
 use Rattle.beam_machine.specs.declared.debug.DebugEvent.{DebugEvent}
-use Rattle.beam_machine.specs.declared.debug.DebugEvent.TheVariants as debugged
 use Rattle.beam_machine.specs.declared.event.Event.{Event}
+use Rattle.beam_term.specs.Prelude.{TermValue, Terms, int_term, atom_term, reference_term, pid_term, nil_term, pair_term, tuple_term}
+use Rattle.beam_machine.specs.declared.debug.DebugEvent.TheVariants as debugged
 use Rattle.beam_machine.specs.declared.event.Event.TheVariants as event
 use Rattle.beam_sched.specs.declared.made_runnable.MadeRunnable.{MadeRunnable}
 use Rattle.beam_sched.specs.declared.made_runnable.MadeRunnable.TheVariants.{One, Started, Any, Nobody}

@@ -1,7 +1,7 @@
 //! The data under the lock of a node that threads share.
-ghost use Rattle.std.specs.Prelude.{◌≡◌, ◌<◌, length, OnErr};
+ghost use Rattle.std.specs.Prelude.{◌≡◌, ◌<◌, length, OnErr, OnOk};
 ghost use Rattle.beam_sched.specs.QueueStates.{queue_state_of};
-ghost use Rattle.beam_sched.specs.declared.queue_states.QueueState.TheVariants.{Free};
+ghost use Rattle.beam_sched.specs.declared.queue_states.QueueState.TheVariants.{CheckedOut, Free};
 
 use crate::made_runnable::MadeRunnable;
 use crate::queue_states::{QueueState, QueueStates};
@@ -61,6 +61,7 @@ impl<B: NodeBrand> LockedNode<B> {
 
     /// Checks out a process, which is in no queue any longer.
     pub(crate) fn check_out(&mut self, pid: u32) -> Result<Checkout<B>, Refusal>
+        ensures checked_out { OnOk result (pid < length self.old.queue_states → queue_state_of self.new.queue_states pid ≡ CheckedOut) }
         ensures free { OnErr result (pid < length self.old.queue_states → queue_state_of self.new.queue_states pid ≡ Free) }
     {
         self.queue_states.put(pid, QueueState::Free);

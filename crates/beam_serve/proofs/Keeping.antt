@@ -1,22 +1,19 @@
 -- The entries that a seat keeps of the commands of a session.
-use Rattle.std.proofs.Common.{◌≡◌, ◌∙◌, inl, inr, ℕ, List, [], ◌∷◌, ◌++◌, refl, ap, sym, subst, append_assoc, append-nil}
-use Rattle.std.specs.Prelude.{Some, Result, Ok, Err, take}
+use Rattle.std.proofs.Common.{◌≡◌, ◌∙◌, inl, inr, ℕ, List, [], ◌∷◌, ◌++◌, refl, ap, sym, subst, append_assoc, append-nil, Some, Result, Ok, Err, take}
 use Rattle.beam_machine.specs.declared.command.Response.{Response}
-use Rattle.beam_machine.specs.declared.command.Response.TheVariants as response
 use Rattle.beam_machine.specs.declared.debug.DebugEvent.{DebugEvent}
-use Rattle.beam_machine.specs.declared.debug.DebugEvent.TheVariants.{Node}
 use Rattle.beam_machine.specs.declared.debug.DebugReply.{DebugReply}
 use Rattle.beam_machine.specs.declared.event.Event.TheVariants.{Load}
+use Rattle.beam_machine.specs.Prelude.{Entry, View, Command, response_of, stream_of}
+use Rattle.beam_machine.specs.declared.command.Response.TheVariants as response
+use Rattle.beam_machine.specs.declared.debug.DebugEvent.TheVariants.{Node}
 use Rattle.beam_machine.specs.declared.event.Refused.TheVariants as refused
-use Rattle.beam_machine.specs.Journal.{Entry}
-use Rattle.beam_machine.specs.View.{View}
-use Rattle.beam_model.specs.Listing.{Listing}
+use Rattle.beam_model.specs.Prelude.{Listing}
 use Rattle.beam_journal.specs.Entering.{entry_of}
 use Rattle.beam_receipts.specs.Receipts.{SeatHistory}
-use Rattle.beam_machine.specs.Frames.{Command, response_of, stream_of}
 use Rattle.beam_remote.specs.declared.error.Served.{Served}
 use Rattle.beam_remote.specs.declared.error.ServeError.{ServeError}
-use Rattle.beam_remote.specs.Serving.{Answered, IsServed, IsStopped, IsUnloaded, Serves}
+use Rattle.beam_remote.specs.Prelude.{Answered, IsServed, IsStopped, IsUnloaded, Serves}
 use Rattle.beam_shared.specs.declared.refusal.Refusal.{Refusal}
 use Rattle.beam_shared.specs.declared.refusal.Refusal.TheVariants as refusal
 use Rattle.beam_sched.specs.CommandAnswers.{CommandAnswered, with_kept}

@@ -1,6 +1,6 @@
 -- Faults that are of any port.
 use Rattle.std.proofs.Common.{ℕ, List}
-use Rattle.beam_tools.specs.Job.{IsOfPort, StartingSays}
+use Rattle.beam_tools.specs.Prelude.{IsOfPort, StartingSays}
 use Rattle.beam_tools.specs.declared.job.JobFault.{JobFault}
 use Rattle.beam_tools.specs.declared.job.JobFault.TheVariants as fault
 

@@ -1,12 +1,11 @@
 -- What a desk with a seat of a shared node answers. (This node's own.)
 use Rattle.std.specs.Prelude.{◌≡◌, Result, Ok, Err}
 use Rattle.beam_machine.specs.declared.command.Response.{Response}
-use Rattle.beam_machine.specs.declared.command.Response.TheVariants as response
 use Rattle.beam_machine.specs.declared.debug.DebugEvent.{DebugEvent}
 use Rattle.beam_machine.specs.declared.debug.DebugReply.{DebugReply}
-use Rattle.beam_machine.specs.Frames.{response_of}
-use Rattle.beam_machine.specs.View.{View}
-use Rattle.beam_model.specs.Listing.{Listing}
+use Rattle.beam_machine.specs.Prelude.{response_of, View}
+use Rattle.beam_machine.specs.declared.command.Response.TheVariants as response
+use Rattle.beam_model.specs.Prelude.{Listing}
 use Rattle.beam_receipts.specs.Receipts.{SeatHistory}
 use Rattle.beam_shared.specs.declared.refusal.Refusal.{Refusal}
 use Rattle.beam_shared.specs.declared.refusal.Refusal.TheVariants.{Node as OfNode, Busy, JournalFull}

@@ -1,11 +1,10 @@
 -- The entries that a seat keeps of a session. (This node's own.)
 use Rattle.std.specs.Prelude.{◌≡◌, ◌++◌, ◌∷◌, [], ◌⊎◌, ⊤, ℕ, List, Ok}
 use Rattle.beam_machine.specs.declared.command.Response.{Response}
+use Rattle.beam_machine.specs.Prelude.{response_of, Entry}
 use Rattle.beam_machine.specs.declared.command.Response.TheVariants as response
-use Rattle.beam_machine.specs.Frames.{response_of}
-use Rattle.beam_machine.specs.Journal.{Entry}
 use Rattle.beam_receipts.specs.Receipts.{SeatHistory}
-use Rattle.beam_remote.specs.Serving.{reply_frames}
+use Rattle.beam_remote.specs.Prelude.{reply_frames}
 
 -- a response to a command that isn't accepted
 abbrev pub IsRefusal : Response → Type 0

@@ -1,59 +1,52 @@
 -- Each action of a row that finds what it names leaves a process that is shaped, where the row goes on to places that fit.
-use Rattle.std.proofs.Common.{◌≡◌, ℕ, ◌+◌, ◌==◌, ◌&&◌, nat_lt, Bool, true, false, cond, not, List, [], ◌∷◌, ◌++◌, length, refl, sym, ap, subst, ◌∙◌, true≢false, append-nil}
+use Rattle.std.proofs.Common.{◌≡◌, ℕ, ◌+◌, ◌==◌, ◌&&◌, nat_lt, Bool, true, false, cond, not, List, [], ◌∷◌, ◌++◌, length, refl, sym, ap, subst, ◌∙◌, true≢false, append-nil, length-set, Option, Some, None, Result, Ok, Err, is_ok, is_some, IsTrue, map, nat_le, slice_set, option_map, replicate, drop, codes}
 use Rattle.std.proofs.Math.ListN.{set}
 use Rattle.std.proofs.lemmas.Bool.{and_parts}
-use Rattle.std.proofs.lemmas.List.{length-set}
 use Rattle.std.specs.List.{AllByRecursion, list_all, flat_map}
-use Rattle.std.specs.Prelude.{Option, Some, None, Result, Ok, Err, is_ok, is_some, IsTrue, map, nat_le, slice_set, option_map, replicate, drop, codes}
-use Rattle.beam_term.specs.TermValue.{TermValue, nil_term, atom_term, pid_term, pair_term, tuple_term, tuple_of, elements_of, count_of}
+use Rattle.std.proofs.lemmas.Option.{same_Some}
 use Rattle.beam_model.specs.declared.exception.Class.{Class}
 use Rattle.beam_model.specs.declared.exception.Exception.{Exception}
-use Rattle.beam_model.specs.declared.exception.Exception.TheVariants as exception
 use Rattle.beam_model.specs.declared.exception.Fault.{Fault}
 use Rattle.beam_model.specs.declared.exception.Fault.TheVariants.{IllegalOperand, SystemLimit, Undef, Badarg, TimeoutValue}
 use Rattle.beam_model.specs.declared.instruction.Instruction.{Instruction}
-use Rattle.beam_model.specs.declared.native.Native.TheVariants as native
 use Rattle.beam_model.specs.declared.native.Nullary.{Nullary}
-use Rattle.beam_model.specs.declared.native.Nullary.TheVariants as nullary
 use Rattle.beam_model.specs.declared.native.Unary.{Unary}
-use Rattle.beam_model.specs.declared.native.Unary.TheVariants as unary
 use Rattle.beam_model.specs.declared.native.Binary.{Binary}
-use Rattle.beam_model.specs.declared.native.Binary.TheVariants as binary
-use Rattle.beam_model.specs.Framed.{Shape, bare, sized, any, is_there as is_there_in, put_ys, put_all, after_effect, trims as trims_by, is_total}
-use Rattle.beam_model.specs.Listing.{row_of_label}
-use Rattle.beam_model.specs.Mailbox.{Mailbox}
-use Rattle.beam_model.specs.Native.{compares, is_of_type, is_equal, limited_term as made_term, nullary_value, unary_value, binary_value, native_value, truth, is_exit}
+use Rattle.beam_model.specs.Prelude.{bare, sized, any, is_there as is_there_in, put_ys, put_all, after_effect, trims as trims_by, is_total, row_of_label, Mailbox, compares, is_of_type, is_equal, limited_term as made_term, nullary_value, unary_value, binary_value, native_value, truth, is_exit, Place, Shape}
 use Rattle.beam_model.specs.declared.native.ProcessNative.{ProcessNative}
+use Rattle.beam_model.specs.declared.native.Native.{Native}
+use Rattle.beam_term.specs.Prelude.{TermValue, nil_term, atom_term, pid_term, pair_term, tuple_term, tuple_of, elements_of, count_of}
+use Rattle.beam_model.specs.declared.exception.Exception.TheVariants as exception
+use Rattle.beam_model.specs.declared.native.Native.TheVariants as native
+use Rattle.beam_model.specs.declared.native.Nullary.TheVariants as nullary
+use Rattle.beam_model.specs.declared.native.Unary.TheVariants as unary
+use Rattle.beam_model.specs.declared.native.Binary.TheVariants as binary
 use Rattle.beam_laws.proofs.Demonitoring.{answers_keep}
-use Rattle.beam_model.specs.Place.{Place}
 use Rattle.beam_machine.specs.declared.action.Choice.{Choice}
 use Rattle.beam_machine.specs.declared.action.OnFault.{OnFault}
 use Rattle.beam_machine.specs.declared.action.OnFault.TheVariants.{Raises, Goes as GoesTo}
 use Rattle.beam_machine.specs.declared.action.Register.{Register}
-use Rattle.beam_machine.specs.declared.action.Register.TheVariants as register
 use Rattle.beam_machine.specs.declared.action.SizeChoice.{SizeChoice}
-use Rattle.beam_machine.specs.declared.action.Test.{Test}
-use Rattle.beam_machine.specs.declared.action.Test.TheVariants as test
 use Rattle.beam_machine.specs.declared.action.Update.{Update}
 use Rattle.beam_machine.specs.declared.callee.After.{After}
 use Rattle.beam_machine.specs.declared.callee.After.TheVariants.{NextRow, Return}
 use Rattle.beam_machine.specs.declared.callee.Callee.{Callee}
-use Rattle.beam_machine.specs.declared.callee.Callee.TheVariants as callee
 use Rattle.beam_machine.specs.declared.process.Deadline.{Deadline}
 use Rattle.beam_machine.specs.declared.process.Frame.{Frame}
 use Rattle.beam_machine.specs.declared.process.Slot.{Slot}
 use Rattle.beam_machine.specs.declared.process.Slot.TheVariants.{Value, Tag as TagSlot}
 use Rattle.beam_machine.specs.declared.process.Status.TheVariants.{Running}
-use Rattle.beam_machine.specs.Code.{Code, entry_of}
-use Rattle.beam_machine.specs.Process.{Process, normal, read, read_x, put, put_x, put_y, with_slots, dropped, words_of, own_pid, bared, with_y}
-use Rattle.beam_machine.specs.Row.{Outcome, makes, sends, asks, sleeps, goes_on, goes_to, changes, stores, stores_made, stores_second, stores_two, decides, has_size, is_tagged, with_one, with_two, tests, fails, stores_computed, splits, opens, put_elements, stores_tuple, updates_record, allocates_in, trims_in, trims_newest, cleared, tags, raises_again, raises_raw, catches, handles, raises, faults, illegal, returns_to, returns_from, returns, follows, answers, changed_by, answers_true, arguments_of, enters, with_new_frame, pushes, calls, calls_only, after_dropping, applies, chosen, selects, size_chosen, selects_size, own_number, sends_own, sends_to, peeks, with_message_at, waits, Duration, forever, milliseconds, duration_of, sleeps_at, sleeps_for, waits_for, waits_with, finds_message, exits}
+use Rattle.beam_machine.specs.Prelude.{Code, entry_of, Process, normal, read, read_x, put, put_x, put_y, with_slots, dropped, words_of, own_pid, bared, with_y, Outcome, makes, sends, asks, sleeps, goes_on, goes_to, changes, stores, stores_made, stores_second, stores_two, decides, has_size, is_tagged, with_one, with_two, tests, fails, stores_computed, splits, opens, put_elements, stores_tuple, updates_record, allocates_in, trims_in, trims_newest, cleared, tags, raises_again, raises_raw, catches, handles, raises, faults, illegal, returns_to, returns_from, returns, follows, answers, changed_by, answers_true, arguments_of, enters, with_new_frame, pushes, calls, calls_only, after_dropping, applies, chosen, selects, size_chosen, selects_size, own_number, sends_own, sends_to, peeks, with_message_at, waits, Duration, forever, milliseconds, duration_of, sleeps_at, sleeps_for, waits_for, waits_with, finds_message, exits}
+use Rattle.beam_machine.specs.declared.action.Register.TheVariants as register
+use Rattle.beam_machine.specs.declared.action.Test.{Test}
+use Rattle.beam_machine.specs.declared.action.Test.TheVariants as test
+use Rattle.beam_machine.specs.declared.callee.Callee.TheVariants as callee
 use Rattle.beam_shape_laws.specs.Finds.{newest, is_bare, HasValue, test_reads}
 use Rattle.beam_shape_laws.specs.Shaped.{HasShape, Fits, Catches, Wait, WaitBehind, IsShaped}
 use Rattle.beam_shape_laws.proofs.Exits.{exit_gives}
 use Rattle.beam_shape_laws.proofs.Slots.{same_length, made_held, drop_held}
 use Rattle.beam_shape_laws.proofs.Standing.{FitsRow, has_many, stands_some, running, over, raises_shaped, bare_catches, waits_from, Stands, StandsIf, put_y_stands, dropped_stands, bare_slots}
-use Rattle.beam_shape_laws.proofs.Small.{some_is, some_of, chosen_some, in_parts}
-use Rattle.beam_model.specs.declared.native.Native.{Native}
+use Rattle.beam_shape_laws.proofs.Small.{some_of, chosen_some, in_parts}
 
 -- ---- the y registers of registers
 
@@ -620,11 +613,11 @@ module _ (row : Row) where
   slept at n k on None = λ d after e. ((k, behind), λ d' w f. fits_after d d' after f)
     where
       fits_after : (d d' : Deadline) → d.after ≡ next_place → Some d ≡ Some d' → Fits code d'.after (newest p.frames)
-      fits_after d d' after f = subst (λ place. Fits code place (newest p.frames)) (sym (ap (λ (d : Deadline). d.after) (sym (some_is d d' f)) ∙ after)) (on (newest p.frames) has)
+      fits_after d d' after f = subst (λ place. Fits code place (newest p.frames)) (sym (ap (λ (d : Deadline). d.after) (sym (same_Some d d' f)) ∙ after)) (on (newest p.frames) has)
   slept at n k on (Some old) = λ e. ((k, behind), λ d w f. fits_after d f)
     where
       fits_after : (d : Deadline) → Some (record old { after = next_place }) ≡ Some d → Fits code d.after (newest p.frames)
-      fits_after d f = subst (λ place. Fits code place (newest p.frames)) (ap (λ (d : Deadline). d.after) (some_is (record old { after = next_place }) d f)) (on (newest p.frames) has)
+      fits_after d f = subst (λ place. Fits code place (newest p.frames)) (ap (λ (d : Deadline). d.after) (same_Some (record old { after = next_place }) d f)) (on (newest p.frames) has)
 
   slept_for : (target : Option ℕ) (n : ℕ) → Reached target → On s → Comes code (sleeps_for p next_place target n)
   slept_for None n k on = absurd k

@@ -1,32 +1,24 @@
 -- Changes of code: the instances that stay keep their listings, and the processes that don't linger in removed instances stay shaped.
-use Rattle.std.proofs.Common.{◌≡◌, ℕ, ◌==◌, ◌||◌, Bool, true, false, cond, List, [], ◌∷◌, ◌++◌, map, refl, sym, ap, subst, ◌∙◌, arith}
+use Rattle.std.proofs.Common.{◌≡◌, ℕ, ◌==◌, ◌||◌, Bool, true, false, cond, List, [], ◌∷◌, ◌++◌, map, refl, sym, ap, subst, ◌∙◌, arith, Option, Some, None, is_some, option_map, flat_map}
 use Rattle.std.proofs.lemmas.Bool.Decides.{nat_tests}
 use Rattle.std.specs.List.{list_any}
-use Rattle.std.specs.Prelude.{Option, Some, None, is_some, option_map, flat_map}
-use Rattle.beam_term.specs.TermValue.{nil_term}
-use Rattle.beam_model.specs.Heads.{IsWellFormed}
-use Rattle.beam_model.specs.Listing.{Listing}
-use Rattle.beam_model.specs.Place.{Place}
-use Rattle.beam_model.specs.SameText.{same_text}
+use Rattle.std.proofs.lemmas.Option.{same_Some}
 use Rattle.beam_machine.specs.declared.process.Deadline.{Deadline}
 use Rattle.beam_machine.specs.declared.process.Frame.{Frame}
-use Rattle.beam_machine.specs.declared.process.Goes.{Goes}
 use Rattle.beam_machine.specs.declared.process.Goes.TheVariants.{At, Enter, Nowhere}
 use Rattle.beam_machine.specs.declared.process.Slot.{Slot}
 use Rattle.beam_machine.specs.declared.process.Slot.TheVariants.{Value, Tag as TagSlot}
-use Rattle.beam_machine.specs.declared.process.Tag.{Tag}
-use Rattle.beam_machine.specs.Change.{old_of, loaded, deleted, purged, has_instance, with_versions, is_in, is_place_in, goes_in, is_tag_in, has_tag_in, is_frame_in, is_deadline_in, lingers, lingers_at, lingers_in_old, pids_of, ends_or_hears, killing}
-use Rattle.beam_machine.specs.Code.{Code, Instance, Versions, versions_of, listing_in, listing_of}
+use Rattle.beam_machine.specs.Prelude.{old_of, loaded, deleted, purged, has_instance, with_versions, is_in, is_place_in, goes_in, is_tag_in, has_tag_in, is_frame_in, is_deadline_in, lingers, lingers_at, lingers_in_old, pids_of, ends_or_hears, killing, Code, Instance, versions_of, listing_in, listing_of, Process, is_ended, ended, killed, with_signals, downs, tag_in, tag_of, Versions}
 use Rattle.beam_machine.specs.declared.process.Signal.{Signal}
-use Rattle.beam_machine.specs.Process.{Process, is_ended, ended, killed}
-use Rattle.beam_machine.specs.State.{with_signals, downs}
-use Rattle.beam_machine.specs.Row.{tag_in, tag_of}
+use Rattle.beam_model.specs.Prelude.{IsWellFormed, Listing, Place, same_text}
+use Rattle.beam_term.specs.Prelude.{nil_term}
+use Rattle.beam_machine.specs.declared.process.Goes.{Goes}
+use Rattle.beam_machine.specs.declared.process.Tag.{Tag}
 use Rattle.beam_laws.proofs.Changes.{is_number, none}
 use Rattle.beam_laws.proofs.Lookups.{left_false, right_false}
 use Rattle.beam_shape_laws.specs.Finds.{newest}
 use Rattle.beam_shape_laws.specs.Shaped.{Fits, Catches, Wait, WaitBehind, AreFit, IsShaped, AreShaped, IsLawful, AreLawful}
 use Rattle.beam_shape_laws.proofs.Standing.{over}
-use Rattle.beam_shape_laws.proofs.Small.{some_is}
 
 -- ---- listings that stay
 
@@ -184,7 +176,7 @@ module _ (gone : ℕ → Bool) where
 tag_outside : (n : ℕ) (y : List Slot) (tag : Tag) → list_any (is_tag_in n) y ≡ false → tag_in y ≡ Some tag → is_in n tag.place ≡ false
 tag_outside n [] tag h e = cc
 tag_outside n (Value t ∷ y) tag h e = tag_outside n y tag h e
-tag_outside n (TagSlot u ∷ y) tag h e = subst (λ (t : Tag). is_in n t.place ≡ false) (some_is u tag e) (left_false (is_in n u.place) (list_any (is_tag_in n) y) h)
+tag_outside n (TagSlot u ∷ y) tag h e = subst (λ (t : Tag). is_in n t.place ≡ false) (same_Some u tag e) (left_false (is_in n u.place) (list_any (is_tag_in n) y) h)
 
 slots_outside : (n : ℕ) (y : Option (List Slot)) (tag : Tag) → has_tag_in n y ≡ false → tag_of y ≡ Some tag → is_in n tag.place ≡ false
 slots_outside n None tag h e = cc

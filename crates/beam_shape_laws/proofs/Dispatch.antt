@@ -1,50 +1,40 @@
 -- Calls and messages, and all instructions: each row that an assignment fits finds what it names, and leaves a process that is shaped.
-use Rattle.std.proofs.Common.{◌≡◌, ℕ, ◌==◌, ◌&&◌, ◌||◌, Bool, true, false, cond, not, List, [], ◌∷◌, ◌++◌, refl, sym, ap, subst, ◌∙◌, true≢false}
-use Rattle.std.proofs.lemmas.Bool.{and_parts, eqb-true}
-use Rattle.std.proofs.lemmas.Slice.Eq.{bytes_eq-Decides}
+use Rattle.std.proofs.Common.{◌≡◌, ℕ, ◌==◌, ◌&&◌, ◌||◌, Bool, true, false, cond, not, List, [], ◌∷◌, ◌++◌, refl, sym, ap, subst, ◌∙◌, true≢false, eqb-true, Option, Some, None, codes}
+use Rattle.std.proofs.lemmas.Bool.{and_parts}
 use Rattle.std.specs.List.{list_all}
-use Rattle.std.specs.Prelude.{Option, Some, None, codes}
-use Rattle.beam_term.specs.TermValue.{nil_term}
+use Rattle.beam_lemmas.proofs.SameText.{text_is}
+use Rattle.beam_term.specs.Prelude.{nil_term}
 use Rattle.beam_model.specs.declared.exception.ClauseFault.TheVariants as clause
 use Rattle.beam_model.specs.declared.exception.Class.TheVariants as class
 use Rattle.beam_model.specs.declared.exception.Exception.TheVariants as exception
 use Rattle.beam_model.specs.declared.exception.Fault.TheVariants.{FunctionClause, IfClause, Undef}
 use Rattle.beam_model.specs.declared.function.Import.{Import}
-use Rattle.beam_model.specs.declared.instruction.Argument.TheVariants as argument
 use Rattle.beam_model.specs.declared.instruction.Instruction.{Instruction}
 use Rattle.beam_model.specs.declared.instruction.Operand.{Operand}
-use Rattle.beam_model.specs.declared.instruction.Operand.TheVariants as operand
 use Rattle.beam_model.specs.declared.native.Comparison.TheVariants.{Less, GreaterOrEqual, Equal, NotEqual}
-use Rattle.beam_model.specs.declared.native.Binary.TheVariants as binary
 use Rattle.beam_model.specs.declared.native.Native.{Native}
-use Rattle.beam_model.specs.declared.native.Native.TheVariants as native
 use Rattle.beam_model.specs.declared.native.NodeNative.{NodeNative}
 use Rattle.beam_model.specs.declared.native.ProcessNative.{ProcessNative}
+use Rattle.beam_model.specs.declared.opcode.Opcode.{Opcode}
+use Rattle.beam_model.specs.Prelude.{bare, ys_in, is_value, put_all, after_effect, keeps, wants_bare, drops, calls_exit_by, calls_exit, labels_in as labels_named, label_in as label_named, in_list, number, may_have, begins_bare, never_returns, next_row, is_row_by, message_at, with_next, with_removed, with_reset, class_in, is_exit, is_erlang, native_named, node_native_named, process_native_named, kinds_of, same_text}
+use Rattle.beam_model.specs.declared.instruction.Argument.TheVariants as argument
+use Rattle.beam_model.specs.declared.instruction.Operand.TheVariants as operand
+use Rattle.beam_model.specs.declared.native.Binary.TheVariants as binary
+use Rattle.beam_model.specs.declared.native.Native.TheVariants as native
 use Rattle.beam_model.specs.declared.native.TypeTest.TheVariants as type
 use Rattle.beam_model.specs.declared.native.Unary.TheVariants as unary
 use Rattle.beam_model.specs.declared.opcode.Kind.TheVariants as kind
-use Rattle.beam_model.specs.declared.opcode.Opcode.{Opcode}
 use Rattle.beam_model.specs.declared.opcode.Opcode.TheVariants as op
-use Rattle.beam_model.specs.Framed.{bare, ys_in, is_value, put_all, after_effect, keeps, wants_bare, drops, calls_exit_by, calls_exit, labels_in as labels_named, label_in as label_named, in_list, number, may_have, begins_bare, never_returns}
-use Rattle.beam_model.specs.Listing.{next_row, is_row_by}
-use Rattle.beam_model.specs.Mailbox.{message_at, with_next, with_removed, with_reset}
-use Rattle.beam_model.specs.Native.{class_in, is_exit}
-use Rattle.beam_model.specs.NativeNames.{is_erlang, native_named, node_native_named, process_native_named}
-use Rattle.beam_model.specs.Opcodes.{kinds_of}
-use Rattle.beam_model.specs.SameText.{same_text}
 use Rattle.beam_machine.specs.declared.action.Action.{Action}
+use Rattle.beam_machine.specs.declared.callee.After.TheVariants.{NextRow}
+use Rattle.beam_machine.specs.Prelude.{number_in, given, target_of, test_of_size, test_of_tag, to_label, local_call, call_last, external_call, call_ext_last, with_number, with_numbers, with_register, reads, reads_both, peek, wait_timeout, action_by, erlang_callee, node_callee, process_callee, callee_named, callee_of, read, read_x, put_x, dropped, bared, own_pid, goes_to, calls, calls_only, after_dropping, arguments_of, callee_at, exits as exits_here}
 use Rattle.beam_machine.specs.declared.action.Action.TheVariants.{Control, Data, Messaging}
 use Rattle.beam_machine.specs.declared.action.Control.TheVariants as control
 use Rattle.beam_machine.specs.declared.action.Data.TheVariants as data'
 use Rattle.beam_machine.specs.declared.action.Messaging.TheVariants as messaging
 use Rattle.beam_machine.specs.declared.action.Source.TheVariants as source
 use Rattle.beam_machine.specs.declared.action.Test.TheVariants as test
-use Rattle.beam_machine.specs.declared.callee.After.TheVariants.{NextRow}
 use Rattle.beam_machine.specs.declared.callee.Callee.TheVariants as callee
-use Rattle.beam_machine.specs.Action.{number_in, given, target_of, test_of_size, test_of_tag, to_label, local_call, call_last, external_call, call_ext_last, with_number, with_numbers, with_register, reads, reads_both, peek, wait_timeout, action_by}
-use Rattle.beam_machine.specs.Callee.{erlang_callee, node_callee, process_callee, callee_named, callee_of}
-use Rattle.beam_machine.specs.Process.{read, read_x, put_x, dropped, bared, own_pid}
-use Rattle.beam_machine.specs.Row.{goes_to, calls, calls_only, after_dropping, arguments_of, callee_at, exits as exits_here}
 use Rattle.beam_shape_laws.specs.Finds.{newest, is_bare, has_size as has_slots, HasRow}
 use Rattle.beam_shape_laws.proofs.Landing.{Facts}
 use Rattle.beam_shape_laws.proofs.Opcodes as rows
@@ -53,9 +43,6 @@ use Rattle.beam_shape_laws.proofs.Actions.{exit_raised, exited, Row, Comes, retu
 use Rattle.beam_shape_laws.proofs.Standing.{FitsRow, has_many, size_there, bare_there}
 
 -- ---- functions that never return
-
-text_is : (a b : List ℕ) → same_text a b ≡ true → a ≡ b
-text_is a b e = (bytes_eq-Decides a b).0 e
 
 -- a function of module erlang, by its name
 erlang_is : (i : Import) (name : List ℕ) → is_erlang i.«module» ≡ true → same_text i.function name ≡ true → callee_of i ≡ erlang_callee name i.arity (native_named name i.arity)

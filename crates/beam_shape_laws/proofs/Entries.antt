@@ -1,25 +1,21 @@
 -- An exported function begins where an assignment has no y registers.
-use Rattle.std.proofs.Common.{◌≡◌, ℕ, ◌≤◌, ◌==◌, ◌&&◌, ◌||◌, Bool, true, false, cond, List, [], ◌∷◌, ◌++◌, refl, sym, ap, subst, ◌∙◌, true≢false, append_assoc, arith}
-use Rattle.std.proofs.lemmas.Bool.{and_parts, eqb-true}
+use Rattle.std.proofs.Common.{◌≡◌, ℕ, ◌≤◌, ◌==◌, ◌&&◌, ◌||◌, Bool, true, false, cond, List, [], ◌∷◌, ◌++◌, refl, sym, ap, subst, ◌∙◌, true≢false, append_assoc, arith, eqb-true, Option, Some, None, option_map, option_and_then}
+use Rattle.std.proofs.lemmas.Bool.{and_parts}
 use Rattle.std.proofs.lemmas.Bool.Decides.{nat_tests}
 use Rattle.std.specs.List.{list_all, list_any}
-use Rattle.std.specs.Prelude.{Option, Some, None, option_map, option_and_then}
+use Rattle.std.proofs.lemmas.Option.{same_Some}
+use Rattle.beam_machine.specs.Prelude.{Code, Instance, versions_of, listing_in, listing_of, entry_in, entry_of}
 use Rattle.beam_model.specs.declared.function.Export.{Export}
 use Rattle.beam_model.specs.declared.function.Function.{Function}
 use Rattle.beam_model.specs.declared.instruction.Instruction.{Instruction}
-use Rattle.beam_model.specs.Framed.{begins_bare, entries, entry_by}
-use Rattle.beam_model.specs.Heads.{label, func_info, IsFunction, AreFunctions, IsWellFormed}
-use Rattle.beam_model.specs.Listing.{Listing, row_of_label, is_export, export_of}
-use Rattle.beam_model.specs.Loadable.{exported, is_entry, is_entry_of}
-use Rattle.beam_model.specs.Place.{Place}
-use Rattle.beam_model.specs.SameText.{same_text}
-use Rattle.beam_machine.specs.Code.{Code, Instance, versions_of, listing_in, listing_of, entry_in, entry_of}
-use Rattle.beam_laws.specs.Numbers.{bears, how_many}
+use Rattle.beam_model.specs.Prelude.{begins_bare, entries, entry_by, label, func_info, IsFunction, AreFunctions, IsWellFormed, Listing, row_of_label, is_export, export_of, exported, is_entry, is_entry_of, Place, same_text}
+use Rattle.beam_laws.specs.Prelude.{bears, how_many}
+use Rattle.beam_laws.proofs.Kinship.{bears_own}
 use Rattle.beam_shape_laws.specs.Shaped.{Fits, IsLawful, AreLawful}
 use Rattle.beam_shape_laws.proofs.Landing.{begins_label}
 use Rattle.beam_shape_laws.proofs.Actions.{Enters}
 use Rattle.beam_shape_laws.proofs.Standing.{FitsRow}
-use Rattle.beam_shape_laws.proofs.Small.{some_is, in_parts}
+use Rattle.beam_shape_laws.proofs.Small.{in_parts}
 
 -- ---- entries
 
@@ -58,7 +54,7 @@ export_passes test fs passes function arity (x ∷ exports) n h e =
     go (is_export function arity x) e (passes x both.0) (export_passes test fs passes function arity exports n both.1)
   where
     go : (b : Bool) → cond b (Some x.label) (export_of function arity exports) ≡ Some n → test x.label ≡ true → (export_of function arity exports ≡ Some n → test n ≡ true) → test n ≡ true
-    go true e this later = subst (λ n. test n ≡ true) (some_is x.label n e) this
+    go true e this later = subst (λ n. test n ≡ true) (same_Some x.label n e) this
     go false e this later = later e
 
 export_begins : (l : Listing) (w : IsWellFormed l) (function : List ℕ) (arity n : ℕ) → export_of function arity l.exports ≡ Some n → begins_bare w.framed.shapes l.instructions n ≡ true
@@ -79,11 +75,6 @@ not_borne n (Some i) x e = go (i.number == n) e
     go : (b : Bool) → ◌≡◌ {A = ℕ} (cond b 1 0) 0 → cond b (Some i.listing) x ≡ x
     go true e = cc
     go false e = refl
-
-bears_own : (i : Instance) (o : Option Instance) → o ≡ Some i → bears i.number o ≡ 1
-bears_own i o e =
-    let own : (i.number == i.number) ≡ true = grind (arith, nat_tests) in
-    ap (bears i.number) e ∙ ap (λ b. cond b 1 0) own
 
 current_borne : (code : Code) (name : List ℕ) (i : Instance) → (versions_of code name).current ≡ Some i → 1 ≤ how_many i.number code
 current_borne [] name i e = cc
@@ -119,7 +110,7 @@ current_lawful (v ∷ rest) name i h e = go (same_text v.name name) e (current_l
 
 label_fits : (code : Code) (i : Instance) (o : Option ℕ) (place : Place) → FitsRow code i.number None o → option_map (λ at. record { instance = i.number; at = at }) o ≡ Some place → Fits code place None
 label_fits code i None place f e = absurd f
-label_fits code i (Some at) place f e = subst (λ place. Fits code place None) (some_is (record { instance = i.number; at = at }) place e) f
+label_fits code i (Some at) place f e = subst (λ place. Fits code place None) (same_Some (record { instance = i.number; at = at }) place e) f
 
 export_fits : (code : Code) (i : Instance) (w : IsWellFormed i.listing) (o : Option ℕ) (place : Place) → listing_of code i.number ≡ Some i.listing → ((n : ℕ) → o ≡ Some n → begins_bare w.framed.shapes i.listing.instructions n ≡ true)
     → option_map (λ at. record { instance = i.number; at = at }) (option_and_then (λ label. row_of_label label 0 i.listing.instructions) o) ≡ Some place → Fits code place None

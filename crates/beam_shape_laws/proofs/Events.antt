@@ -1,46 +1,36 @@
 -- Each event keeps the processes of a node with framed code shaped, and each of their rows finds what it names.
-use Rattle.std.proofs.Common.{◌≡◌, ℕ, suc, zero, ◌+◌, ◌-◌, ◌==◌, ◌&&◌, ◌^◌, cond, Bool, true, false, not, nat_lt, List, [], ◌∷◌, ◌++◌, length, refl, sym, ap, subst, ◌∙◌, true≢false}
+use Rattle.std.proofs.Common.{◌≡◌, ℕ, suc, zero, ◌+◌, ◌-◌, ◌==◌, ◌&&◌, ◌^◌, cond, Bool, true, false, not, nat_lt, List, [], ◌∷◌, ◌++◌, length, refl, sym, ap, subst, ◌∙◌, true≢false, Option, Some, None, Result, is_some, unwrap_or, nat_le, map, codes}
 use Rattle.std.specs.List.{AllByRecursion, list_any}
-use Rattle.std.specs.Prelude.{Option, Some, None, Result, is_some, unwrap_or, nat_le, map, codes}
-use Rattle.beam_term.specs.TermValue.{TermValue, nil_term, int_term, atom_term, reference_term, pid_term, pair_term, tuple_term}
-use Rattle.beam_model.specs.declared.exception.Fault.{Fault}
-use Rattle.beam_model.specs.Heads.{IsWellFormed}
-use Rattle.beam_model.specs.Listing.{Listing}
-use Rattle.beam_model.specs.NativeNames.{is_erlang}
-use Rattle.beam_model.specs.SameText.{same_text}
+use Rattle.std.proofs.lemmas.Option.{same_Some}
+use Rattle.beam_lemmas.proofs.Options.{not_some}
 use Rattle.beam_machine.specs.declared.callee.After.{After}
 use Rattle.beam_machine.specs.declared.callee.After.TheVariants.{NextRow, Return}
 use Rattle.beam_machine.specs.declared.event.Event.{Event}
-use Rattle.beam_machine.specs.declared.event.Event.TheVariants as event
 use Rattle.beam_machine.specs.declared.event.UpgradeMode.{UpgradeMode}
 use Rattle.beam_machine.specs.declared.event.Refused.TheVariants.{NotReady, Sticky, NotPurged, Duplicated, TooMany, BackwardClock}
 use Rattle.beam_machine.specs.declared.event.Reply.TheVariants.{Done, Changed}
 use Rattle.beam_machine.specs.declared.process.Deadline.{Deadline}
 use Rattle.beam_machine.specs.declared.process.Frame.{Frame}
-use Rattle.beam_machine.specs.declared.process.Goes.{Goes}
 use Rattle.beam_machine.specs.declared.process.Goes.TheVariants.{At, Enter, Nowhere}
 use Rattle.beam_machine.specs.declared.process.Signal.{Signal}
 use Rattle.beam_machine.specs.declared.process.Signal.TheVariants.{Message, Exit, Down}
 use Rattle.beam_machine.specs.declared.process.Monitor.{Monitor}
 use Rattle.beam_machine.specs.declared.process.Status.{Status}
 use Rattle.beam_machine.specs.declared.process.Status.TheVariants.{Running, Waiting, Ended}
-use Rattle.beam_machine.specs.Change.{current_of, old_of, deleted, purged, lingers_at, lingers_in_old, lingers_in_olds, killing}
-use Rattle.beam_machine.specs.Code.{Code}
-use Rattle.beam_machine.specs.Next.{Next, refused, replied, raised, continues, deadline_at, done_by, row, Rows, running as running_one, row_and, steps, ran_to, ran, next_steps, signalled, notified, arrived, delivered, is_nothing, next_deliver, timed_out, next_timeout, next_spawn, sent_to, next_send, end_old, load_new, has_instances_left, next_load, next_load_strict, next_delete, is_lingered_in, next_soft_purge, are_apart, stands_in_way, end_olds, load_each, upgraded, next_atomic, next}
-use Rattle.beam_machine.specs.NodeNative.{Answered, answer_of, most_processes}
-use Rattle.beam_machine.specs.Process.{Process, is_running, is_ended, is_waiting, started, ended, killed, monitor_of}
-use Rattle.beam_machine.specs.Row.{Outcome, makes, sends, asks, sleeps, answers, arguments_of, outcome, goes_on}
-use Rattle.beam_machine.specs.Run.{run}
-use Rattle.beam_machine.specs.State.{State, process_of, with_process, live_process, receiver_of, hearing_by, with_made}
-use Rattle.beam_laws.specs.Private.{with_name_and_transit}
+use Rattle.beam_machine.specs.Prelude.{current_of, old_of, deleted, purged, lingers_at, lingers_in_old, lingers_in_olds, killing, Code, Next, refused, replied, raised, continues, deadline_at, done_by, row, Rows, running as running_one, row_and, ran_to, ran, next_steps, signalled, notified, arrived, delivered, is_nothing, next_deliver, timed_out, next_timeout, next_spawn, sent_to, next_send, end_old, load_new, has_instances_left, next_load, next_load_strict, next_delete, is_lingered_in, next_soft_purge, are_apart, stands_in_way, end_olds, load_each, upgraded, next_atomic, next, Answered, answer_of, most_processes, Process, is_running, is_ended, is_waiting, started, ended, killed, monitor_of, Outcome, makes, sends, asks, sleeps, answers, arguments_of, outcome, goes_on, run, State, process_of, with_process, live_process, receiver_of, hearing_by, with_made}
+use Rattle.beam_model.specs.declared.exception.Fault.{Fault}
+use Rattle.beam_model.specs.Prelude.{IsWellFormed, Listing, is_erlang, same_text}
+use Rattle.beam_term.specs.Prelude.{TermValue, nil_term, int_term, atom_term, reference_term, pid_term, pair_term, tuple_term}
+use Rattle.beam_machine.specs.declared.event.Event.TheVariants as event
+use Rattle.beam_machine.specs.declared.process.Goes.{Goes}
+use Rattle.beam_machine.specs.Next.{steps}
+use Rattle.beam_laws.specs.Prelude.{with_name_and_transit, downs_of_end, native_sends, signals_to}
 use Rattle.beam_laws.proofs.Numbered.{put_here}
 use Rattle.beam_laws.proofs.Numbering.{ordered_next, next_is_free}
 use Rattle.beam_laws.proofs.Slices.{node_stays}
-use Rattle.beam_laws.specs.Private.{downs_of_end}
 use Rattle.beam_laws.proofs.Arriving.{answer_asked}
 use Rattle.beam_laws.proofs.Hearing.{nobody_ends, hears, hearing_is}
 use Rattle.beam_laws.proofs.Purging.{nobody_at}
-use Rattle.beam_laws.specs.Signals.{native_sends, signals_to}
 use Rattle.beam_shape_laws.specs.Shaped.{IsShaped, AreShaped, AreLawful, Framing, AreFit, WaitBehind}
 use Rattle.beam_shape_laws.proofs.Codes.{loaded_lawful, deleted_lawful, purged_lawful, signals_shaped, purged_shaped, deleted_shaped, loaded_shaped, killed_shaped}
 use Rattle.beam_shape_laws.proofs.Entries.{enters}
@@ -48,7 +38,6 @@ use Rattle.beam_shape_laws.proofs.Outcomes.{outcome_right}
 use Rattle.beam_shape_laws.proofs.Processes.{started_shaped, IsShapedIf, set_shaped, process_shaped, live_shaped, appended_shaped, posted_shaped, AllBut, set_apart, set_back, answer_apart}
 use Rattle.beam_shape_laws.proofs.Actions.{IsReady, Comes, Enters, answered}
 use Rattle.beam_shape_laws.proofs.Standing.{over}
-use Rattle.beam_shape_laws.proofs.Small.{some_is}
 
 pub is_running_status : (status : Status) → is_running status ≡ true → status ≡ Running
 is_running_status Running e = refl
@@ -91,7 +80,7 @@ continued s pid after value (Some q) r e enter h k =
     let x : Process = answers q after (raised value) in (
       enter,
       hearing_shaped s.code pid x.status (with_process s.processes pid x)
-          (set_back s.code (pid - 1) s.processes x h (answered s.code q after (raised value) (subst (IsReady s.code after) (some_is r q (sym e)) k))),
+          (set_back s.code (pid - 1) s.processes x h (answered s.code q after (raised value) (subst (IsReady s.code after) (same_Some r q (sym e)) k))),
     )
 
 asked : (s : State) (pid : ℕ) (p q : Process) (native : _) (arity : ℕ) (after : After) → process_of s.processes pid ≡ Some p → RowsLawful s → IsReady s.code after q → RowsLawful (done_by s pid (asks q native arity after))
@@ -175,10 +164,6 @@ either : (P : State → Type 0) (b : Bool) (x y : Next) → P x.state → P y.st
 either P true x y h k = h
 either P false x y h k = k
 
-none_is : (o : Option ℕ) → is_some o ≡ false → o ≡ None
-none_is None e = refl
-none_is (Some n) e = cc
-
 load_new_kept : (s : State) (l : Listing) → IsWellFormed l → Framing s → Kept (load_new (end_old s l.name) l).state
 load_new_kept s l w h = (loaded_lawful s.code (s.instances + 1) l w h.0, loaded_shaped s.code (s.instances + 1) l s.processes (next_is_free s.code s.instances h.1) h.2)
 
@@ -196,7 +181,7 @@ strict_kept s l w h = either Kept (is_erlang l.name) (refused s Sticky) _ (h.0, 
 
     go : (b : Bool) → is_some (old_of s.code l.name) ≡ b → Kept (cond {A = Next} b (refused s NotPurged) (cond (has_instances_left s) (load_new s l) (refused s TooMany))).state
     go true e = (h.0, h.2)
-    go false e = either Kept (has_instances_left s) (load_new s l) (refused s TooMany) (over_none (none_is (old_of s.code l.name) e)) (h.0, h.2)
+    go false e = either Kept (has_instances_left s) (load_new s l) (refused s TooMany) (over_none (not_some (old_of s.code l.name) e)) (h.0, h.2)
 
 each_kept : (s : State) (ls : List Listing) → AllByRecursion IsWellFormed ls → Framing s → Kept (load_each s ls)
 each_kept s [] w h = (h.0, h.2)
@@ -216,7 +201,7 @@ delete_kept : (s : State) (name : List ℕ) → Framing s → Kept (next_delete 
 delete_kept s name h = go (is_some (current_of s.code name)) (is_some (old_of s.code name)) refl
   where
     go : (b c : Bool) → is_some (old_of s.code name) ≡ c → Kept (cond {A = Next} (b && not c) (replied (record s { code = deleted s.code name }) (Changed true)) (replied s (Changed false))).state
-    go true false e = (deleted_lawful s.code name h.0, deleted_shaped s.code name s.processes (none_is (old_of s.code name) e) h.2)
+    go true false e = (deleted_lawful s.code name h.0, deleted_shaped s.code name s.processes (not_some (old_of s.code name) e) h.2)
     go true true e = (h.0, h.2)
     go false c e = (h.0, h.2)
 

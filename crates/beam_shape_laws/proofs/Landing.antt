@@ -1,23 +1,17 @@
 -- Where the rows of a framed listing go: each place is a row, and its shape is the assignment's.
-use Rattle.std.proofs.Common.{◌≡◌, ℕ, suc, ◌+◌, ◌-◌, ◌<◌, ◌≤◌, ◌==◌, ◌&&◌, ◌||◌, Bool, true, false, cond, not, List, [], ◌∷◌, length, drop, refl, sym, ap, subst, ◌∙◌, true≢false, length-drop, get_or-drop, arith}
+use Rattle.std.proofs.Common.{◌≡◌, ℕ, suc, ◌+◌, ◌-◌, ◌<◌, ◌≤◌, ◌==◌, ◌&&◌, ◌||◌, Bool, true, false, cond, not, List, [], ◌∷◌, length, drop, refl, sym, ap, subst, ◌∙◌, true≢false, length-drop, get_or-drop, arith, Option, Some, None, is_some, option_and_then}
 use Rattle.std.proofs.lemmas.Bool.{and_parts}
 use Rattle.std.proofs.lemmas.Bool.Decides.{nat_tests}
-use Rattle.std.proofs.lemmas.Option.{unwrap_or-slice_get}
+use Rattle.std.proofs.lemmas.Option.{unwrap_or-slice_get, same_Some}
 use Rattle.std.specs.List.{list_all}
-use Rattle.std.specs.Prelude.{Option, Some, None, is_some, option_and_then}
 use Rattle.beam_model.specs.declared.instruction.Instruction.{Instruction}
-use Rattle.beam_model.specs.Fetch.{end_of_code}
-use Rattle.beam_model.specs.Framed.{Shape, bare, sized, any, Assignment, first_tag, may_have, is_bare as is_bare_in, shape_of_label, begins_bare, in_list, row_at, targets, jumps, may_raise, leads, finds, fits, fits_if, leads_on, shape_after, read_ys, written_ys, is_value, is_there as is_there_in, tags_a_y, tag as tag_by_row, called}
-use Rattle.beam_model.specs.Heads.{IsWellFormed}
-use Rattle.beam_model.specs.Listing.{Listing, label_of, is_row, is_this_number, gap_before_row, row_of_label, next_row}
-use Rattle.beam_model.specs.Loadable.{is_among, with_label, defined_labels}
-use Rattle.beam_model.specs.Place.{Place}
+use Rattle.beam_model.specs.Prelude.{end_of_code, bare, sized, any, Assignment, first_tag, may_have, is_bare as is_bare_in, shape_of_label, begins_bare, in_list, row_at, targets, jumps, may_raise, leads, finds, fits, fits_if, leads_on, shape_after, read_ys, written_ys, is_value, is_there as is_there_in, tags_a_y, tag as tag_by_row, called, IsWellFormed, Listing, label_of, is_row, is_this_number, gap_before_row, row_of_label, next_row, is_among, with_label, defined_labels, Place, Shape}
 use Rattle.beam_machine.specs.declared.process.Slot.{Slot}
-use Rattle.beam_machine.specs.Code.{Code, listing_of}
+use Rattle.beam_machine.specs.Prelude.{Code, listing_of}
 use Rattle.beam_shape_laws.specs.Shaped.{HasShape, Fits, Catches}
 use Rattle.beam_shape_laws.proofs.Slots.{to_place, first_of}
 use Rattle.beam_shape_laws.proofs.Standing.{FitsRow}
-use Rattle.beam_shape_laws.proofs.Small.{some_is, in_parts}
+use Rattle.beam_shape_laws.proofs.Small.{in_parts}
 
 -- ---- rows
 
@@ -47,7 +41,7 @@ label_behind label at (i ∷ rest) k e = go (label_behind label (at + 1) rest k)
     go : (row_of_label label (at + 1) rest ≡ Some k → IsRowBehind (at + 1) rest k) → (b : Bool) → cond b (Some (at + 1 + gap_before_row rest)) (row_of_label label (at + 1) rest) ≡ Some k → IsRowBehind at (i ∷ rest) k
     go more true e =
         let row = passed_row rest in
-        let is : at + 1 + gap_before_row rest ≡ k = some_is (at + 1 + gap_before_row rest) k e in
+        let is : at + 1 + gap_before_row rest ≡ k = same_Some (at + 1 + gap_before_row rest) k e in
         (suc (gap_before_row rest), omega (arith, is), (omega (arith, row.0), row.1))
     go more false e =
         let later = more e in

@@ -1,33 +1,23 @@
 -- In a framed node each row finds what it names; each event, whose listings can be loaded, keeps it framed.
-use Rattle.std.proofs.Common.{◌≡◌, ℕ, suc, zero, cond, Bool, true, false, List, [], ◌∷◌, ◌++◌, refl, sym, subst, arith}
+use Rattle.std.proofs.Common.{◌≡◌, ℕ, suc, zero, cond, Bool, true, false, List, [], ◌∷◌, ◌++◌, refl, sym, subst, arith, Option, Some, None, Ok, Err}
 use Rattle.std.proofs.Math.Bool.{Bool-set}
 use Rattle.std.proofs.Math.Logic.{∥∥₁_elim, ∥∥₁_map₂}
 use Rattle.std.specs.List.{AllByRecursion, AllByRecursion-prop}
-use Rattle.std.specs.Prelude.{Option, Some, None, Ok, Err}
-use Rattle.beam_model.specs.Heads.{IsWellFormed, CanLoad}
-use Rattle.beam_model.specs.Listing.{Listing}
-use Rattle.beam_model.specs.Place.{Place}
 use Rattle.beam_machine.specs.declared.debug.DebugEvent.{DebugEvent}
-use Rattle.beam_machine.specs.declared.debug.DebugEvent.TheVariants.{Node as NodeEvent, StepOne}
-use Rattle.beam_machine.specs.declared.debug.DebugReply.TheVariants.{Node}
+use Rattle.beam_machine.specs.declared.debug.DebugEvent.TheVariants.{StepOne, Node as NodeEvent}
 use Rattle.beam_machine.specs.declared.event.Event.{Event}
-use Rattle.beam_machine.specs.declared.event.Event.TheVariants as event
 use Rattle.beam_machine.specs.declared.event.Refused.TheVariants.{NoMemory}
 use Rattle.beam_machine.specs.declared.event.Reply.TheVariants.{Ran}
 use Rattle.beam_machine.specs.declared.action.Action.{Action}
 use Rattle.beam_machine.specs.declared.action.Step.{Step}
-use Rattle.beam_machine.specs.declared.process.Goes.{Goes}
 use Rattle.beam_machine.specs.declared.process.Goes.TheVariants.{At, Enter, Nowhere}
-use Rattle.beam_machine.specs.Code.{Code, step_of}
-use Rattle.beam_machine.specs.Debug.{Debugged, DebugAnswer, DebugNext, debug_next, rows_of_answer, steps_of, erased, erase}
-use Rattle.beam_machine.specs.DebugRun.{debug_cut_event, DebugAnswers}
-use Rattle.beam_machine.specs.Next.{Answer, Next, steps, next}
-use Rattle.beam_machine.specs.Private.{Private, private_by, private_rows, private_to_spot, stops, after_row}
-use Rattle.beam_machine.specs.Process.{Process, is_running}
-use Rattle.beam_machine.specs.Row.{Outcome, makes, sends, asks, sleeps, outcome}
-use Rattle.beam_machine.specs.Run.{run, cut_event, Answers}
-use Rattle.beam_machine.specs.State.{State, empty, process_of}
-use Rattle.beam_laws.specs.Numbers.{Ordered}
+use Rattle.beam_machine.specs.Prelude.{Code, step_of, Debugged, DebugAnswer, DebugNext, debug_next, rows_of_answer, steps_of, erased, erase, debug_cut_event, DebugAnswers, Answer, Next, next, Private, private_by, private_rows, private_to_spot, stops, after_row, Process, is_running, Outcome, makes, sends, asks, sleeps, outcome, run, cut_event, Answers, State, empty, process_of}
+use Rattle.beam_model.specs.Prelude.{IsWellFormed, CanLoad, Listing, Place}
+use Rattle.beam_machine.specs.declared.debug.DebugReply.TheVariants.{Node}
+use Rattle.beam_machine.specs.declared.event.Event.TheVariants as event
+use Rattle.beam_machine.specs.declared.process.Goes.{Goes}
+use Rattle.beam_machine.specs.Next.{steps}
+use Rattle.beam_laws.specs.Prelude.{Ordered}
 use Rattle.beam_laws.proofs.Debugging.{run_erased}
 use Rattle.beam_laws.proofs.Events.{steps_alike}
 use Rattle.beam_laws.proofs.Spots.{spot_prefix}

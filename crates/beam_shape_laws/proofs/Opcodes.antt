@@ -1,53 +1,45 @@
 -- Each instruction that an assignment fits: its row finds what it names, and leaves a process that is shaped.
-use Rattle.std.proofs.Common.{◌≡◌, ℕ, ◌+◌, ◌<◌, ◌==◌, ◌&&◌, ◌||◌, nat_lt, Bool, true, false, cond, not, List, [], ◌∷◌, ◌++◌, length, refl, sym, ap, subst, ◌∙◌, true≢false}
+use Rattle.std.proofs.Common.{◌≡◌, ℕ, ◌+◌, ◌<◌, ◌==◌, ◌&&◌, ◌||◌, nat_lt, Bool, true, false, cond, not, List, [], ◌∷◌, ◌++◌, length, refl, sym, ap, subst, ◌∙◌, true≢false, map, Option, Some, None, is_some, replicate, option_map, slice_get}
 use Rattle.std.proofs.lemmas.Bool.{and_parts}
 use Rattle.std.specs.List.{AllByRecursion, list_all, flat_map}
-use Rattle.std.specs.Prelude.{map, Option, Some, None, is_some, replicate, option_map, slice_get}
-use Rattle.beam_term.specs.TermValue.{nil_term, TermValue}
+use Rattle.std.proofs.lemmas.Option.{same_Some}
 use Rattle.beam_model.specs.declared.exception.ClauseFault.{ClauseFault}
 use Rattle.beam_model.specs.declared.exception.Fault.TheVariants.{IllegalOperand}
 use Rattle.beam_model.specs.declared.instruction.Argument.{Argument}
-use Rattle.beam_model.specs.declared.instruction.Argument.TheVariants as argument
 use Rattle.beam_model.specs.declared.instruction.Instruction.{Instruction}
 use Rattle.beam_model.specs.declared.instruction.Operand.{Operand}
-use Rattle.beam_model.specs.declared.instruction.Operand.TheVariants as operand
 use Rattle.beam_model.specs.declared.native.Comparison.{Comparison}
-use Rattle.beam_model.specs.declared.native.Native.TheVariants as native
 use Rattle.beam_model.specs.declared.native.TypeTest.{TypeTest}
+use Rattle.beam_model.specs.Prelude.{clause_exception, bare, sized, any, Assignment, y_in, ys_in, is_value, is_there as is_there_in, put_all, after_effect, wants_bare, allocates, drops, trims as trims_by, labels_in as labels_named, label_of_argument, label_in as label_named, is_total, may_fail, may_have, shape_of_label, begins_bare, leads_on, may_fall_through as goes_on_row, tags_a_y, is_choice, is_size, are_choices, is_register as is_register_in, built_in as native_in, IsWellFormed, Listing, row_of_label, next_row, defined_labels, is_among, is_of_type, Shape}
+use Rattle.beam_model.specs.declared.native.Native.{Native}
+use Rattle.beam_term.specs.Prelude.{nil_term, TermValue}
+use Rattle.beam_model.specs.declared.instruction.Argument.TheVariants as argument
+use Rattle.beam_model.specs.declared.instruction.Operand.TheVariants as operand
+use Rattle.beam_model.specs.declared.native.Native.TheVariants as native
 use Rattle.beam_model.specs.declared.opcode.Kind.TheVariants as kind
-use Rattle.beam_model.specs.Exception.{clause_exception}
-use Rattle.beam_model.specs.Framed.{Shape, bare, sized, any, Assignment, y_in, ys_in, is_value, is_there as is_there_in, put_all, after_effect, wants_bare, allocates, drops, trims as trims_by, labels_in as labels_named, label_of_argument, label_in as label_named, is_total, may_fail, may_have, shape_of_label, begins_bare, leads_on, may_fall_through as goes_on_row, tags_a_y, is_choice, is_size, are_choices, is_register as is_register_in, built_in as native_in}
-use Rattle.beam_model.specs.Heads.{IsWellFormed}
-use Rattle.beam_model.specs.Listing.{Listing, row_of_label, next_row}
-use Rattle.beam_model.specs.Loadable.{defined_labels, is_among}
 use Rattle.beam_machine.specs.declared.action.Action.{Action}
-use Rattle.beam_machine.specs.declared.action.Action.TheVariants.{Stack, Catching, Control}
-use Rattle.beam_machine.specs.declared.action.Catching.TheVariants as catching
 use Rattle.beam_machine.specs.declared.action.Choice.{Choice}
 use Rattle.beam_machine.specs.declared.action.SizeChoice.{SizeChoice}
-use Rattle.beam_machine.specs.declared.action.Control.TheVariants as control
-use Rattle.beam_machine.specs.declared.action.Data.TheVariants as data'
 use Rattle.beam_machine.specs.declared.action.OnFault.TheVariants.{Raises, Goes as GoesTo}
 use Rattle.beam_machine.specs.declared.action.Register.{Register}
-use Rattle.beam_machine.specs.declared.action.Register.TheVariants as register
 use Rattle.beam_machine.specs.declared.action.Source.{Source}
-use Rattle.beam_machine.specs.declared.action.Stack.TheVariants as stack
-use Rattle.beam_machine.specs.declared.action.Test.TheVariants as test
 use Rattle.beam_machine.specs.declared.process.Slot.TheVariants.{Value}
 use Rattle.beam_machine.specs.declared.process.Status.TheVariants.{Running}
-use Rattle.beam_machine.specs.Action.{source_in, register_in, label_in, number_in, given, illegal_action, target_of, on_fault, test_of_type, test_of_comparison, computes_0, computes_1, computes_2, bif0, of_one, of_two, from_to, swap, get_list, get_element, put_list, put_tuple, update_record, select_value, select_size, clear, catch', with_register, raise_clause, raise_again, choices_in, size_choices_in}
-use Rattle.beam_machine.specs.Code.{Code, listing_of}
-use Rattle.beam_machine.specs.Process.{Process, read, read_all, put_y, dropped}
-use Rattle.beam_machine.specs.Row.{held_in, perform, chosen, decides}
+use Rattle.beam_machine.specs.Prelude.{source_in, register_in, label_in, number_in, given, illegal_action, target_of, on_fault, test_of_type, test_of_comparison, computes_0, computes_1, computes_2, bif0, of_one, of_two, from_to, swap, get_list, get_element, put_list, put_tuple, update_record, select_value, select_size, clear, catch', with_register, raise_clause, raise_again, choices_in, size_choices_in, Code, listing_of, Process, read, read_all, put_y, dropped, held_in, perform, chosen, decides}
+use Rattle.beam_machine.specs.declared.action.Action.TheVariants.{Stack, Catching, Control}
+use Rattle.beam_machine.specs.declared.action.Catching.TheVariants as catching
+use Rattle.beam_machine.specs.declared.action.Control.TheVariants as control
+use Rattle.beam_machine.specs.declared.action.Data.TheVariants as data'
+use Rattle.beam_machine.specs.declared.action.Register.TheVariants as register
+use Rattle.beam_machine.specs.declared.action.Stack.TheVariants as stack
+use Rattle.beam_machine.specs.declared.action.Test.TheVariants as test
 use Rattle.beam_shape_laws.specs.Finds.{newest, HasValue, IsThere, HasRow, fault_targets, Finds}
 use Rattle.beam_shape_laws.specs.Shaped.{HasShape, WaitBehind}
 use Rattle.beam_shape_laws.proofs.Landing.{fits_label, begins_label, next_fits, defined_row}
 use Rattle.beam_shape_laws.proofs.Operands.{no_choices, no_sizes, IsGood, as_import, as_list, as_label, given_number, given_register, value_there, given_source, given_elements, given_updates, given_label, given_choices, given_sizes, given_registers, nullary_known, unary_known, binary_known}
 use Rattle.beam_shape_laws.proofs.Actions.{Right, goes_label, y_of, put_none, Comes, Enters, Row, next_place, On, Reached, Begins, Caught, changed, raised, faulted, stored, stored_made, stored_two, with_one_right, with_two_right, tested, Fails, computed_0, computed_1, computed_2, split_right, open_right, with_one_caught, stored_tuple, updated, allocated, trimmed, dropped_bare, dropped_some, all_cleared, tagged, catch_ended, handled, raised_again, chosen_reached, selected, selected_size}
 use Rattle.beam_shape_laws.proofs.Standing.{row_there, stands_some, put_y_stands, size_there, trim_there, bare_slots, bare_there}
-use Rattle.beam_shape_laws.proofs.Small.{some_is, some_of, in_parts}
-use Rattle.beam_model.specs.declared.native.Native.{Native}
-use Rattle.beam_model.specs.Native.{is_of_type}
+use Rattle.beam_shape_laws.proofs.Small.{some_of, in_parts}
 
 -- a row of a framed listing in the node's code, and a process that is at it
 pub record Before : Type 0 where
@@ -335,7 +327,7 @@ module _ (here : Before) where
   left_fits i None e g t is = absurd (true≢false (sym e))
   left_fits i (Some u) e g t is =
       let on : may_have (put_all None [] u) (shapes next) ≡ true = ap (λ b. not b || may_have (put_all None [] u) (shapes next)) (sym g) ∙ e in
-      subst (λ t. may_have t (shapes next) ≡ true) (put_none u ∙ some_is u t is) on
+      subst (λ t. may_have t (shapes next) ≡ true) (put_none u ∙ same_Some u t is) on
 
   pub wants_bare_is : (t : Shape) → is_some (after_effect wants_bare t) ≡ true → t ≡ bare
   wants_bare_is bare e = refl

@@ -1,36 +1,31 @@
 -- Operands of their kinds: the parts of actions that are made of them, and the registers and labels that they name.
-use Rattle.std.proofs.Common.{◌≡◌, ℕ, ◌==◌, ◌&&◌, nat_lt, Bool, true, false, cond, not, List, [], ◌∷◌, ◌++◌, length, refl, sym, ap, subst, ◌∙◌, true≢false, append_assoc, arith}
-use Rattle.std.proofs.lemmas.Bool.{and_parts, eqb-true}
+use Rattle.std.proofs.Common.{◌≡◌, ℕ, ◌==◌, ◌&&◌, nat_lt, Bool, true, false, cond, not, List, [], ◌∷◌, ◌++◌, length, refl, sym, ap, subst, ◌∙◌, true≢false, append_assoc, arith, eqb-true, Option, Some, None, is_some, map, option_map, option_and_then}
+use Rattle.std.proofs.lemmas.Bool.{and_parts}
 use Rattle.std.proofs.lemmas.Bool.Decides.{nat_tests}
 use Rattle.std.specs.List.{AllByRecursion, list_all, flat_map, zip}
-use Rattle.std.specs.Prelude.{Option, Some, None, is_some, map, option_map, option_and_then}
-use Rattle.beam_term.specs.TermValue.{atom_term}
 use Rattle.beam_model.specs.declared.function.Import.{Import}
 use Rattle.beam_model.specs.declared.instruction.Argument.{Argument}
-use Rattle.beam_model.specs.declared.instruction.Argument.TheVariants as argument
 use Rattle.beam_model.specs.declared.instruction.Instruction.{Instruction}
 use Rattle.beam_model.specs.declared.instruction.Operand.{Operand}
-use Rattle.beam_model.specs.declared.instruction.Operand.TheVariants as operand
 use Rattle.beam_model.specs.declared.native.Binary.{Binary}
 use Rattle.beam_model.specs.declared.native.Native.{Native}
-use Rattle.beam_model.specs.declared.native.Native.TheVariants as native
 use Rattle.beam_model.specs.declared.native.Nullary.{Nullary}
 use Rattle.beam_model.specs.declared.native.Unary.{Unary}
 use Rattle.beam_model.specs.declared.opcode.Kind.{Kind}
-use Rattle.beam_model.specs.Framed.{Shape, is_value, y_in, ys_in, labels_in as labels_named, label_of_argument, is_choice, is_size, are_choices, is_register as is_register_in}
-use Rattle.beam_model.specs.Listing.{row_of_label}
-use Rattle.beam_model.specs.Loadable.{is_among, is_within, is_known, is_native, is_defined, is_defined_in, is_argument_defined, is_label_operand, is_source_operand, is_register_operand, is_number_operand, is_arity, is_frame_size, is_atom_operand, is_import_operand, is_list_operand, all_operands}
-use Rattle.beam_model.specs.NativeNames.{look_up, nullary_names, unary_names, binary_names, native_named, is_built_in, allowed, is_erlang, built_in_of}
+use Rattle.beam_model.specs.Prelude.{is_value, y_in, ys_in, labels_in as labels_named, label_of_argument, is_choice, is_size, are_choices, is_register as is_register_in, row_of_label, is_among, is_within, is_known, is_native, is_defined, is_defined_in, is_argument_defined, is_label_operand, is_source_operand, is_register_operand, is_number_operand, is_arity, is_frame_size, is_atom_operand, is_import_operand, is_list_operand, all_operands, look_up, nullary_names, unary_names, binary_names, native_named, is_built_in, allowed, is_erlang, built_in_of, Shape}
+use Rattle.beam_term.specs.Prelude.{atom_term}
+use Rattle.beam_model.specs.declared.instruction.Argument.TheVariants as argument
+use Rattle.beam_model.specs.declared.instruction.Operand.TheVariants as operand
+use Rattle.beam_model.specs.declared.native.Native.TheVariants as native
 use Rattle.beam_machine.specs.declared.action.Action.{Action}
 use Rattle.beam_machine.specs.declared.action.Choice.{Choice}
 use Rattle.beam_machine.specs.declared.action.Register.{Register}
-use Rattle.beam_machine.specs.declared.action.Register.TheVariants as register
 use Rattle.beam_machine.specs.declared.action.SizeChoice.{SizeChoice}
 use Rattle.beam_machine.specs.declared.action.Source.{Source}
-use Rattle.beam_machine.specs.declared.action.Source.TheVariants as source
 use Rattle.beam_machine.specs.declared.action.Update.{Update}
-use Rattle.beam_machine.specs.Action.{source_by, source_in, register_by, register_in, label_in, number_in, atom_in, import_in, before, all_by, choices_in, size_choices_in, choice, update, updates_in, given, illegal_action}
-use Rattle.beam_machine.specs.Process.{Process}
+use Rattle.beam_machine.specs.Prelude.{source_by, source_in, register_by, register_in, label_in, number_in, atom_in, import_in, before, all_by, choices_in, size_choices_in, choice, update, updates_in, given, illegal_action, Process}
+use Rattle.beam_machine.specs.declared.action.Register.TheVariants as register
+use Rattle.beam_machine.specs.declared.action.Source.TheVariants as source
 use Rattle.beam_shape_laws.specs.Finds.{newest, HasValue}
 use Rattle.beam_shape_laws.specs.Shaped.{HasShape}
 use Rattle.beam_shape_laws.proofs.Standing.{read_there}

@@ -1,29 +1,18 @@
 -- The next row of a process that is shaped finds what it names, and leaves a process that is shaped.
-use Rattle.std.proofs.Common.{◌≡◌, ℕ, ◌&&◌, nat_lt, true, cond, List, [], refl, sym, ap, subst}
+use Rattle.std.proofs.Common.{◌≡◌, ℕ, ◌&&◌, nat_lt, true, cond, List, [], refl, sym, ap, subst, Option, Some, None, is_some, slice_get, option_map, option_and_then, unwrap_or}
 use Rattle.std.proofs.lemmas.Bool.{and_parts}
 use Rattle.std.proofs.lemmas.Option.{slice_get_within}
 use Rattle.std.specs.List.{list_all}
-use Rattle.std.specs.Prelude.{Option, Some, None, is_some, slice_get, option_map, option_and_then, unwrap_or}
 use Rattle.beam_model.specs.declared.exception.Exception.TheVariants as exception
 use Rattle.beam_model.specs.declared.exception.Fault.TheVariants.{IllegalOperand}
 use Rattle.beam_model.specs.declared.instruction.Instruction.{Instruction}
-use Rattle.beam_model.specs.Fetch.{end_of_code}
-use Rattle.beam_model.specs.Framed.{Shape, row_at}
-use Rattle.beam_model.specs.Heads.{IsWellFormed}
-use Rattle.beam_model.specs.Listing.{Listing, is_row, next_row}
-use Rattle.beam_model.specs.Loadable.{defined_labels, are_new, are_targets, all_operands, is_within, is_known}
-use Rattle.beam_model.specs.Opcodes.{kinds_of}
-use Rattle.beam_model.specs.Place.{Place}
+use Rattle.beam_model.specs.Prelude.{end_of_code, row_at, IsWellFormed, Listing, is_row, next_row, defined_labels, are_new, are_targets, all_operands, is_within, is_known, kinds_of, Place, Shape}
 use Rattle.beam_machine.specs.declared.action.Step.{Step}
 use Rattle.beam_machine.specs.declared.process.Frame.{Frame}
-use Rattle.beam_machine.specs.declared.process.Goes.{Goes}
 use Rattle.beam_machine.specs.declared.process.Goes.TheVariants.{At, Enter, Nowhere}
 use Rattle.beam_machine.specs.declared.process.Status.TheVariants.{Running}
-use Rattle.beam_machine.specs.Action.{illegal_action, action_by, action_of, step_at}
-use Rattle.beam_machine.specs.Callee.{callee_named}
-use Rattle.beam_machine.specs.Code.{Code, listing_of, step_of}
-use Rattle.beam_machine.specs.Process.{Process, is_ended}
-use Rattle.beam_machine.specs.Row.{performs, outcome_at, outcome}
+use Rattle.beam_machine.specs.Prelude.{illegal_action, action_by, action_of, step_at, callee_named, Code, listing_of, step_of, Process, is_ended, performs, outcome_at, outcome}
+use Rattle.beam_machine.specs.declared.process.Goes.{Goes}
 use Rattle.beam_shape_laws.specs.Finds.{newest, is_bare, FindsAt, FindsNext}
 use Rattle.beam_shape_laws.specs.Shaped.{HasShape, Fits, WaitBehind, IsFirst, AreFit, IsShaped}
 use Rattle.beam_shape_laws.proofs.Dispatch.{fits_right}

@@ -1,23 +1,17 @@
 -- Processes that are set, started, named and sent to stay shaped, while one of them is apart.
-use Rattle.std.proofs.Common.{◌≡◌, ℕ, suc, zero, ◌+◌, ◌-◌, Bool, true, false, cond, nat_lt, List, [], ◌∷◌, ◌++◌, length, slice_get, refl, subst}
+use Rattle.std.proofs.Common.{◌≡◌, ℕ, suc, zero, ◌+◌, ◌-◌, Bool, true, false, cond, nat_lt, List, [], ◌∷◌, ◌++◌, length, slice_get, refl, subst, Option, Some, None, codes}
 use Rattle.std.proofs.Math.ListN.{set}
-use Rattle.std.specs.Prelude.{Option, Some, None, codes}
-use Rattle.beam_model.specs.SameText.{same_text}
-use Rattle.beam_term.specs.TermValue.{TermValue, atom_term, pid_term}
+use Rattle.std.proofs.lemmas.Option.{same_Some}
+use Rattle.beam_machine.specs.declared.process.Signal.{Signal}
+use Rattle.beam_machine.specs.declared.process.Signal.TheVariants.{Message, Exit as ExitSignal, Down}
+use Rattle.beam_machine.specs.Prelude.{Code, Answered, answer, fault, most_processes, spawns_with, names, registers, unnames, unregisters, is_alive, posted_if_own, sends_named, most_references, makes_reference, or_noproc, put_monitor, monitored, answer_of, Process, is_ended, started, own_pid, own_number, process_of, alive, live_process, registered, posted_to, posted}
+use Rattle.beam_term.specs.Prelude.{TermValue, atom_term, pid_term}
+use Rattle.beam_model.specs.Prelude.{same_text, elements_in}
 use Rattle.beam_model.specs.declared.exception.Fault.TheVariants.{Badarg, SystemLimit}
 use Rattle.beam_model.specs.declared.native.NodeNative.{NodeNative}
 use Rattle.beam_model.specs.declared.native.NodeNative.TheVariants.{Spawn, Register, Unregister, Whereis, IsProcessAlive, Exit, Send, MakeRef, Monitor}
-use Rattle.beam_model.specs.Native.{elements_in}
-use Rattle.beam_machine.specs.declared.process.Signal.{Signal}
-use Rattle.beam_machine.specs.declared.process.Signal.TheVariants.{Message, Exit as ExitSignal, Down}
-use Rattle.beam_machine.specs.Code.{Code}
-use Rattle.beam_machine.specs.NodeNative.{Answered, answer, fault, most_processes, spawns_with, names, registers, unnames, unregisters, is_alive, posted_if_own, sends_named, most_references, makes_reference, or_noproc, put_monitor, monitored, answer_of}
-use Rattle.beam_machine.specs.Process.{Process, is_ended, started, own_pid}
-use Rattle.beam_machine.specs.Row.{own_number}
-use Rattle.beam_machine.specs.State.{process_of, alive, live_process, registered, posted_to, posted}
 use Rattle.beam_laws.proofs.Ending.{alive_is, at_index}
 use Rattle.beam_shape_laws.specs.Shaped.{IsShaped, AreShaped}
-use Rattle.beam_shape_laws.proofs.Small.{some_is}
 
 pub started_shaped : (code : Code) (pid : ℕ) (name function : List ℕ) (arguments : List TermValue) → IsShaped code (started pid name function arguments)
 started_shaped code pid name function arguments = λ e. (refl, λ d w f. cc)
@@ -80,14 +74,14 @@ module _ (code : Code) where
 
   set_from : (ps : List Process) (j : ℕ) (x y : Process) → slice_get ps j ≡ Some x → (IsShaped code x → IsShaped code y) → AreShaped code ps → AreShaped code (set ps j y)
   set_from [] j x y e f h = tt
-  set_from (q ∷ ps) zero x y e f h = (f (subst (IsShaped code) (some_is q x e) h.0), h.1)
+  set_from (q ∷ ps) zero x y e f h = (f (subst (IsShaped code) (same_Some q x e) h.0), h.1)
   set_from (q ∷ ps) (suc j) x y e f h = (h.0, set_from ps j x y e f h.1)
 
   set_other : (i : ℕ) (ps : List Process) (j : ℕ) (x y : Process) → slice_get ps j ≡ Some x → (IsShaped code x → IsShaped code y) → AllBut i ps → AllBut i (set ps j y)
   set_other i [] j x y e f h = tt
   set_other zero (q ∷ ps) zero x y e f h = h
   set_other zero (q ∷ ps) (suc j) x y e f h = set_from ps j x y e f h
-  set_other (suc i) (q ∷ ps) zero x y e f h = (f (subst (IsShaped code) (some_is q x e) h.0), h.1)
+  set_other (suc i) (q ∷ ps) zero x y e f h = (f (subst (IsShaped code) (same_Some q x e) h.0), h.1)
   set_other (suc i) (q ∷ ps) (suc j) x y e f h = (h.0, set_other i ps j x y e f h.1)
 
   appended_apart : (i : ℕ) (ps : List Process) (p : Process) → AllBut i ps → IsShaped code p → AllBut i (ps ++ p ∷ [])

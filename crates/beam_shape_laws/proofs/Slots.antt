@@ -1,21 +1,18 @@
 -- Y registers and their shapes: the facts that a shape gives, and how writing a register changes them.
-use Rattle.std.proofs.Common.{◌≡◌, ℕ, suc, zero, true, not, List, [], ◌∷◌, length, refl, sym, ap, subst, ◌∙◌, true≢false}
+use Rattle.std.proofs.Common.{◌≡◌, ℕ, suc, zero, true, not, List, [], ◌∷◌, length, refl, sym, ap, subst, ◌∙◌, true≢false, eqb-true, Option, Some, None, is_some, nat_eq, slice_get, drop, replicate, option_map}
 use Rattle.std.proofs.Math.ListN.{set}
-use Rattle.std.proofs.lemmas.Bool.{and_parts, eqb-true}
+use Rattle.std.proofs.lemmas.Bool.{and_parts}
 use Rattle.std.specs.Cmp.Lexicographic.{pointwise}
 use Rattle.std.specs.Option.{option_eq}
-use Rattle.std.specs.Prelude.{Option, Some, None, is_some, nat_eq, slice_get, drop, replicate, option_map}
-use Rattle.beam_term.specs.TermValue.{nil_term}
+use Rattle.std.proofs.lemmas.Option.{same_Some}
 use Rattle.beam_model.specs.declared.instruction.Instruction.{Instruction}
-use Rattle.beam_model.specs.Framed.{Shape, bare, sized, any, first_in, first_tag, same_shape, may_have, is_value_in}
-use Rattle.beam_model.specs.Listing.{row_of_label}
+use Rattle.beam_model.specs.Prelude.{bare, sized, any, first_in, first_tag, same_shape, may_have, is_value_in, row_of_label, Shape}
+use Rattle.beam_term.specs.Prelude.{nil_term}
 use Rattle.beam_machine.specs.declared.process.Slot.{Slot}
 use Rattle.beam_machine.specs.declared.process.Slot.TheVariants.{Value, Tag as TagSlot}
+use Rattle.beam_machine.specs.Prelude.{value_in, tag_in, tag_of}
 use Rattle.beam_machine.specs.declared.process.Tag.{Tag}
-use Rattle.beam_machine.specs.Process.{value_in}
-use Rattle.beam_machine.specs.Row.{tag_in, tag_of}
 use Rattle.beam_shape_laws.specs.Shaped.{Holds, HoldAll, HasShape}
-use Rattle.beam_shape_laws.proofs.Small.{some_is}
 
 -- ---- shapes that are the same
 
@@ -57,7 +54,7 @@ module _ (instance : ℕ) (code : List Instruction) where
   first_held (Some label ∷ ts) (Value v ∷ y) tag h e = absurd h.0
   first_held (Some label ∷ ts) (TagSlot u ∷ y) tag h e =
       let place = λ (o : Option Tag). option_map (λ t. t.place) o in
-      let is : u.place ≡ tag.place = some_is u.place tag.place (ap place e) in
+      let is : u.place ≡ tag.place = same_Some u.place tag.place (ap place e) in
       (label, refl, sym (ap (λ p. p.instance) is) ∙ h.0.0, h.0.1 ∙ ap (λ p. Some p.at) is)
 
   pub first_of : (s : Shape) (y : Option (List Slot)) (tag : Tag) → HasShape instance code s y → tag_of y ≡ Some tag → IsTagOf (first_tag s) tag

@@ -1,19 +1,14 @@
 -- Frames of a process after an exception, a write and a drop.
-use Rattle.std.proofs.Common.{◌≡◌, ℕ, ◌+◌, ◌==◌, nat_lt, Bool, true, false, cond, List, [], ◌∷◌, length, refl, sym, ap, subst, ◌∙◌, true≢false}
-use Rattle.std.specs.Prelude.{Option, Some, None, is_some, slice_set, drop}
-use Rattle.beam_term.specs.TermValue.{TermValue, nil_term}
+use Rattle.std.proofs.Common.{◌≡◌, ℕ, ◌+◌, ◌==◌, nat_lt, Bool, true, false, cond, List, [], ◌∷◌, length, refl, sym, ap, subst, ◌∙◌, true≢false, Option, Some, None, is_some, slice_set, drop}
 use Rattle.beam_model.specs.declared.exception.Exception.{Exception}
 use Rattle.beam_model.specs.declared.instruction.Instruction.{Instruction}
-use Rattle.beam_model.specs.Exception.{exit_reason}
-use Rattle.beam_model.specs.Framed.{Shape, bare, sized, any, is_value, is_there as is_there_in, put_all, after_effect, drops, trims}
+use Rattle.beam_model.specs.Prelude.{exit_reason, bare, sized, any, is_value, is_there as is_there_in, put_all, after_effect, drops, trims, Place, Shape}
+use Rattle.beam_term.specs.Prelude.{TermValue, nil_term}
 use Rattle.beam_machine.specs.declared.process.Frame.{Frame}
 use Rattle.beam_machine.specs.declared.process.Slot.{Slot}
 use Rattle.beam_machine.specs.declared.process.Status.TheVariants.{Running}
+use Rattle.beam_machine.specs.Prelude.{Code, Process, ended, read_slots, read_y, put_slots, put_y, with_slots, without_slots, dropped, tag_of, caught_at, unwound, raises}
 use Rattle.beam_machine.specs.declared.process.Tag.{Tag}
-use Rattle.beam_model.specs.Place.{Place}
-use Rattle.beam_machine.specs.Code.{Code}
-use Rattle.beam_machine.specs.Process.{Process, ended, read_slots, read_y, put_slots, put_y, with_slots, without_slots, dropped}
-use Rattle.beam_machine.specs.Row.{tag_of, caught_at, unwound, raises}
 use Rattle.beam_shape_laws.specs.Finds.{newest, is_bare}
 use Rattle.beam_shape_laws.specs.Shaped.{Holds, HasShape, Fits, Catches, Wait, WaitBehind, AreFit, IsShaped}
 use Rattle.beam_shape_laws.proofs.Slots.{value_held, same_length, set_held}

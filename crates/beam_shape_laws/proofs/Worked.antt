@@ -1,14 +1,12 @@
 -- A listing with catch tags that can be loaded: shapes for its rows, position by position.
-use Rattle.std.proofs.Common.{◌≡◌, ℕ, suc, zero, ◌≤◌, ◌&&◌, ◌⊎◌, inl, inr, Bool, true, List, [], ◌∷◌, take, drop, refl, sym, subst, arith}
+use Rattle.std.proofs.Common.{◌≡◌, ℕ, suc, zero, ◌≤◌, ◌&&◌, ◌⊎◌, inl, inr, Bool, true, List, [], ◌∷◌, take, drop, refl, sym, subst, arith, Option, Some, None, slice_get, option_and_then, codes}
 use Rattle.std.proofs.lemmas.Bool.{and_parts, cases_eq}
 use Rattle.std.proofs.lemmas.List.Elements.{All-nil, All-cons}
-use Rattle.std.specs.List.{All, AllByRecursion}
-use Rattle.std.specs.Prelude.{Option, Some, None, slice_get, option_and_then, codes}
+use Rattle.std.specs.List.{AllByRecursion, All}
 use Rattle.beam_model.specs.declared.function.Function.{Function}
 use Rattle.beam_model.specs.declared.instruction.Instruction.{Instruction}
-use Rattle.beam_model.specs.Framed.{Shape, bare, sized, Assignment, fits_at}
-use Rattle.beam_model.specs.Heads.{IsLine, IsInBody, IsFunction, AreFunctions, IsWellFormed, CanLoad}
-use Rattle.beam_laws.specs.Listings.{e}
+use Rattle.beam_model.specs.Prelude.{bare, sized, Assignment, fits_at, IsLine, IsInBody, IsFunction, AreFunctions, IsWellFormed, CanLoad, Shape}
+use Rattle.beam_laws.specs.Prelude.{e}
 
 -- ---- shapes
 

@@ -3,27 +3,21 @@
 use Rattle.std.specs.Prelude.{◌≡◌, ◌≤◌, ℕ, true, false, List, [], ◌∷◌, length, Option, Some, None}
 use Rattle.std.specs.List.{AllByRecursion}
 use Rattle.beam_model.specs.declared.instruction.Instruction.{Instruction}
-use Rattle.beam_model.specs.Framed.{Shape, bare, sized, any, row_at}
-use Rattle.beam_model.specs.Heads.{IsWellFormed, CanLoad}
-use Rattle.beam_model.specs.Listing.{Listing, is_row, row_of_label}
-use Rattle.beam_model.specs.Place.{Place}
+use Rattle.beam_model.specs.Prelude.{bare, sized, any, row_at, IsWellFormed, CanLoad, Listing, is_row, row_of_label, Place, Shape}
 use Rattle.beam_machine.specs.declared.debug.DebugEvent.{DebugEvent}
-use Rattle.beam_machine.specs.declared.debug.DebugEvent.TheVariants.{Node as NodeEvent}
 use Rattle.beam_machine.specs.declared.event.Event.{Event}
-use Rattle.beam_machine.specs.declared.event.Event.TheVariants as event
 use Rattle.beam_machine.specs.declared.process.Deadline.{Deadline}
 use Rattle.beam_machine.specs.declared.process.Frame.{Frame}
-use Rattle.beam_machine.specs.declared.process.Goes.{Goes}
 use Rattle.beam_machine.specs.declared.process.Goes.TheVariants.{At, Enter, Nowhere}
 use Rattle.beam_machine.specs.declared.process.Slot.{Slot}
 use Rattle.beam_machine.specs.declared.process.Slot.TheVariants.{Value, Tag as TagSlot}
 use Rattle.beam_machine.specs.declared.process.Status.TheVariants.{Waiting}
+use Rattle.beam_machine.specs.Prelude.{Code, Instance, listing_of, Process, is_ended, tag_of, State}
+use Rattle.beam_machine.specs.declared.debug.DebugEvent.TheVariants.{Node as NodeEvent}
+use Rattle.beam_machine.specs.declared.event.Event.TheVariants as event
+use Rattle.beam_machine.specs.declared.process.Goes.{Goes}
 use Rattle.beam_machine.specs.declared.process.Tag.{Tag}
-use Rattle.beam_machine.specs.Code.{Code, Instance, listing_of}
-use Rattle.beam_machine.specs.Process.{Process, is_ended}
-use Rattle.beam_machine.specs.Row.{tag_of}
-use Rattle.beam_machine.specs.State.{State}
-use Rattle.beam_laws.specs.Numbers.{Ordered}
+use Rattle.beam_laws.specs.Prelude.{Ordered}
 use Rattle.beam_shape_laws.specs.Finds.{newest}
 
 -- ---- y registers

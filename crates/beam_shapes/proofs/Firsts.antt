@@ -1,10 +1,9 @@
 -- The first tag of a tree, by its halves.
-use Rattle.std.proofs.Common.{◌≡◌, ◌≢◌, ℕ, zero, suc, ◌-◌, ◌^◌, ◌<◌, ◌≤◌, Bool, true, if◌then◌else◌, List, [], ◌∷◌, ◌++◌, length, replicate, Option, Some, None, refl, ap, sym, ◌∙◌, subst, ⊎_elim, arith}
-use Rattle.std.specs.Prelude.{slice_get, is_some, unwrap_or}
-use Rattle.std.proofs.lemmas.Bool.{cases_eq, ne_eqb}
+use Rattle.std.proofs.Common.{◌≡◌, ◌≢◌, ℕ, zero, suc, ◌-◌, ◌^◌, ◌<◌, ◌≤◌, Bool, true, if◌then◌else◌, List, [], ◌∷◌, ◌++◌, length, replicate, Option, Some, None, refl, ap, sym, ◌∙◌, subst, ⊎_elim, arith, slice_get, is_some, unwrap_or, ne_eqb}
+use Rattle.std.proofs.lemmas.Bool.{cases_eq}
 use Rattle.beam_shapes.specs.declared.trees.Halves.{Halves}
-use Rattle.beam_model.specs.Framed.{first_in}
-use Rattle.beam_shapes.specs.Trees.{Parts, no_halves, part_of, halves_of, tags_of, IsTree, IsTidy}
+use Rattle.beam_model.specs.Prelude.{first_in}
+use Rattle.beam_shapes.specs.Prelude.{Parts, no_halves, part_of, halves_of, tags_of, IsTree, IsTidy}
 use Rattle.beam_shapes.proofs.Grown.{tags_none, tags_step, tree_step}
 
 none_in : (n : ℕ) → first_in (replicate n None) ≡ None
@@ -37,12 +36,12 @@ some_later [] r some = some
 some_later (None ∷ l) r some = some_later l r some
 some_later (Some n ∷ l) r some = refl
 
-there : {X : Type 0} (xs : List X) (i : ℕ) → i < length xs → (x : X) × (slice_get xs i ≡ Some x)
+pub there : {X : Type 0} (xs : List X) (i : ℕ) → i < length xs → (x : X) × (slice_get xs i ≡ Some x)
 there [] i few = absurd (omega (arith, few))
 there (x ∷ xs) zero few = (x, refl)
 there (x ∷ xs) (suc i) few = there xs i (omega (arith, few))
 
-part_there : {X : Type 0} (xs : List X) (tree : ℕ) → tree ≢ 0 → tree ≤ length xs → (x : X) × (part_of xs tree ≡ Some x) × (slice_get xs (tree - 1) ≡ Some x)
+pub part_there : {X : Type 0} (xs : List X) (tree : ℕ) → tree ≢ 0 → tree ≤ length xs → (x : X) × (part_of xs tree ≡ Some x) × (slice_get xs (tree - 1) ≡ Some x)
 part_there xs tree some within =
     let t = there xs (tree - 1) (omega (arith, some, within)) in
     (t.0, ap (λ (b : Bool). if b then None else slice_get xs (tree - 1)) (ne_eqb tree 0 some) ∙ t.1, t.1)

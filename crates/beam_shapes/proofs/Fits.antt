@@ -1,15 +1,12 @@
 -- Steps of the search for a row, as statements of assignments.
-use Rattle.std.proofs.Common.{◌≡◌, ℕ, zero, suc, ◌+◌, ◌<◌, ◌≤◌, Bool, true, false, List, length, get_or, replicate, Option, Some, None, Result, Ok, Err, refl, ap, sym, ◌∙◌, subst, ⊎_elim, arith}
-use Rattle.std.specs.Prelude.{◌&&◌, ◌||◌, not, is_some, unwrap_or, MatchResult}
+use Rattle.std.proofs.Common.{◌≡◌, ℕ, zero, suc, ◌+◌, ◌<◌, ◌≤◌, Bool, true, false, List, length, get_or, replicate, Option, Some, None, Result, Ok, Err, refl, ap, sym, ◌∙◌, subst, ⊎_elim, arith, ◌&&◌, ◌||◌, not, is_some, unwrap_or, MatchResult, true≢false}
 use Rattle.std.specs.List.{list_all}
-use Rattle.std.proofs.lemmas.Bool.{cases_lt, true≢false, and_parts, and_from, or_right, both_ways}
+use Rattle.std.proofs.lemmas.Bool.{cases_lt, and_parts, and_from, or_right, both_ways}
 use Rattle.std.proofs.lemmas.List.{get_or_past}
 use Rattle.std.proofs.lemmas.Option.{slice_get_past}
 use Rattle.beam_model.specs.declared.instruction.Instruction.{Instruction}
-use Rattle.beam_model.specs.Fetch.{end_of_code}
-use Rattle.beam_model.specs.Listing.{is_row, next_row}
-use Rattle.beam_model.specs.Framed.{Shape, Assignment, may_have, finds, shape_after, targets, may_fall_through, leads, leads_on, fits, fits_if, row_at, begins_bare, entries, AreFramed}
-use Rattle.beam_shapes.specs.Forced.{ShapeState, assigned, LiesUnder, IsBelow, Forces, Refuses, Fails, Does, NeverLeaves, MayGo, Flows, FitsAt, IsAssignment, Settles}
+use Rattle.beam_model.specs.Prelude.{end_of_code, is_row, next_row, Assignment, may_have, finds, shape_after, targets, may_fall_through, leads, leads_on, fits, fits_if, row_at, begins_bare, entries, AreFramed, Shape}
+use Rattle.beam_shapes.specs.Prelude.{ShapeState, assigned, LiesUnder, IsBelow, Forces, Refuses, Fails, Does, NeverLeaves, MayGo, Flows, FitsAt, IsAssignment, Settles}
 use Rattle.beam_shapes.specs.declared.error.FrameCheckError.{FrameCheckError}
 use Rattle.beam_shapes.specs.declared.error.FrameCheckError.TheVariants.{FrameMismatch, NoMemory}
 use Rattle.beam_shapes.proofs.Forced.{forces_both, forces_as, forces_from, fails_both, fails_as, fails_from}

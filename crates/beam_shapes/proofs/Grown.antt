@@ -1,10 +1,9 @@
 -- Trees stay as they are while parts are added.
-use Rattle.std.proofs.Common.{◌≡◌, ℕ, zero, suc, ◌+◌, ◌-◌, ◌^◌, ◌<◌, ◌≤◌, ◌==◌, Bool, true, if◌then◌else◌, List, [], ◌∷◌, ◌++◌, length, replicate, None, refl, ap, sym, ◌∙◌, subst, ⊎_elim, append_assoc, append-nil, arith}
-use Rattle.std.specs.Prelude.{slice_get, unwrap_or}
-use Rattle.std.proofs.lemmas.Bool.{cases_eq, eq-eqb}
-use Rattle.std.proofs.lemmas.List.{length-append, replicate-append-replicate}
+use Rattle.std.proofs.Common.{◌≡◌, ℕ, zero, suc, ◌+◌, ◌-◌, ◌^◌, ◌<◌, ◌≤◌, ◌==◌, Bool, true, if◌then◌else◌, List, [], ◌∷◌, ◌++◌, length, replicate, None, refl, ap, sym, ◌∙◌, subst, ⊎_elim, append_assoc, append-nil, arith, slice_get, unwrap_or, eq-eqb, length-append}
+use Rattle.std.proofs.lemmas.Bool.{cases_eq}
+use Rattle.std.proofs.lemmas.List.{replicate-append-replicate}
 use Rattle.beam_shapes.specs.declared.trees.Halves.{Halves}
-use Rattle.beam_shapes.specs.Trees.{Parts, no_halves, part_of, halves_of, tags_of, IsTree, Grows}
+use Rattle.beam_shapes.specs.Prelude.{Parts, no_halves, part_of, halves_of, tags_of, IsTree, Grows}
 
 pub grows_none : (p : Parts) → Grows p p
 grows_none p = (([], sym (append-nil p.labels)), ([], sym (append-nil p.halves)))

@@ -1,18 +1,15 @@
 -- A key that is added to a list once.
-use Rattle.std.proofs.Common.{◌≡◌, ℕ, zero, suc, ◌+◌, ◌-◌, ◌<◌, ◌==◌, ◌&&◌, Bool, true, false, if◌then◌else◌, List, [], ◌∷◌, ◌++◌, length, Some, inl, inr, refl, ap, sym, ◌∙◌, ⊎_elim, arith}
-use Rattle.std.specs.Prelude.{slice_get, ◌||◌}
+use Rattle.std.proofs.Common.{◌≡◌, ℕ, zero, suc, ◌+◌, ◌-◌, ◌<◌, ◌==◌, ◌&&◌, Bool, true, false, if◌then◌else◌, List, [], ◌∷◌, ◌++◌, length, Some, inl, inr, refl, ap, sym, ◌∙◌, ⊎_elim, arith, slice_get, ◌||◌, eqb-true, eq-eqb}
 use Rattle.std.specs.List.{list_any}
-use Rattle.std.proofs.lemmas.Bool.{cases_Bool, both_ways, and_parts, eqb-true, eq-eqb}
+use Rattle.std.proofs.lemmas.Bool.{cases_Bool, both_ways, and_parts}
+use Rattle.std.proofs.lemmas.Option.{same_Some}
 use Rattle.indexmap.specs.IndexSet.{insert_key}
 use Rattle.beam_shapes.specs.declared.trees.Halves.{Halves}
-use Rattle.beam_shapes.specs.Trees.{IsInterned}
-
-some_inj : {X : Type 0} (x y : X) → Some x ≡ Some y → x ≡ y
-some_inj x y e = cc
+use Rattle.beam_shapes.specs.Prelude.{IsInterned}
 
 any_at : {X : Type 0} (f : X → Bool) (xs : List X) (i : ℕ) (x : X) → slice_get xs i ≡ Some x → f x ≡ true → list_any f xs ≡ true
 any_at f [] i x at holds = absurd (cc at)
-any_at f (y ∷ ys) zero x at holds = ap (λ (b : Bool). b || list_any f ys) (ap f (some_inj y x at) ∙ holds)
+any_at f (y ∷ ys) zero x at holds = ap (λ (b : Bool). b || list_any f ys) (ap f (same_Some y x at) ∙ holds)
 any_at f (y ∷ ys) (suc i) x at holds = or_right (f y) (any_at f ys i x at holds) where
   or_right : (a : Bool) {b : Bool} → b ≡ true → (a || b) ≡ true
   or_right true e = refl

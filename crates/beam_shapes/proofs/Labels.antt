@@ -1,11 +1,10 @@
 -- Where labels lead to.
-use Rattle.std.proofs.Common.{◌≡◌, ℕ, ◌+◌, ◌≤◌, Bool, true, false, if◌then◌else◌, List, [], ◌∷◌, length, get_or, drop, Option, Some, None, refl, ap, sym, ◌∙◌, ap₂, subst, arith}
-use Rattle.std.specs.Prelude.{◌<◌, ◌==◌, IfSome}
+use Rattle.std.proofs.Common.{◌≡◌, ℕ, ◌+◌, ◌≤◌, Bool, true, false, if◌then◌else◌, List, [], ◌∷◌, length, get_or, drop, Option, Some, None, refl, ap, sym, ◌∙◌, ap₂, subst, arith, ◌<◌, ◌==◌, IfSome}
 use Rattle.std.proofs.lemmas.List.{at_drop_more}
 use Rattle.beam_model.specs.declared.instruction.Instruction.{Instruction}
+use Rattle.beam_model.specs.Prelude.{label_of, is_row, is_this_number, gap_before_row, row_of_label}
 use Rattle.beam_shapes.specs.declared.label_rows.LabelRows.{LabelRows}
-use Rattle.beam_shapes.specs.Tabled.{row_after_label, HasRows}
-use Rattle.beam_model.specs.Listing.{label_of, is_row, is_this_number, gap_before_row, row_of_label}
+use Rattle.beam_shapes.specs.Prelude.{row_after_label, HasRows}
 
 few : (b : Bool) (n m : ℕ) → n ≤ m → (if b then 0 else n + 1) ≤ m + 1
 few true n m h = omega arith

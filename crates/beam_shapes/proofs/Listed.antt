@@ -3,8 +3,8 @@ use Rattle.std.proofs.Common.{◌≡◌, ℕ, Bool, true, List, ◌∷◌, ◌++
 use Rattle.std.specs.List.{list_all}
 use Rattle.std.proofs.lemmas.Bool.{and_parts, and_from}
 use Rattle.std.proofs.lemmas.List.Folds.{list_all-append}
-use Rattle.beam_model.specs.Framed.{Assignment}
-use Rattle.beam_shapes.specs.Forced.{ShapeState, IsBelow, assigned, Forces, Fails, Does}
+use Rattle.beam_model.specs.Prelude.{Assignment}
+use Rattle.beam_shapes.specs.Prelude.{ShapeState, IsBelow, assigned, Forces, Fails, Does}
 use Rattle.beam_shapes.specs.declared.error.FrameCheckError.{FrameCheckError}
 use Rattle.beam_shapes.proofs.Forced.{forces_both, fails_both, forces_as, fails_as}
 

@@ -1,15 +1,12 @@
 -- Rows that the search looks at as shapes come to their places.
-use Rattle.std.proofs.Common.{◌≡◌, ℕ, ◌+◌, ◌<◌, ◌≤◌, Bool, true, false, List, [], ◌∷◌, ◌++◌, length, Option, Some, None, Result, Ok, Err, inl, inr, refl, ap, sym, ◌∙◌, subst, ⊎_elim, arith}
-use Rattle.std.specs.Prelude.{◌&&◌, ◌||◌, not, nat_eq, unwrap_or, option_and_then, is_some, IfOk, ◌⊎◌}
+use Rattle.std.proofs.Common.{◌≡◌, ℕ, ◌+◌, ◌<◌, ◌≤◌, Bool, true, false, List, [], ◌∷◌, ◌++◌, length, Option, Some, None, Result, Ok, Err, inl, inr, refl, ap, sym, ◌∙◌, subst, ⊎_elim, arith, ◌&&◌, ◌||◌, not, nat_eq, unwrap_or, option_and_then, is_some, IfOk, ◌⊎◌, true≢false, eqb-true}
 use Rattle.std.specs.List.{list_all, list_any}
-use Rattle.std.proofs.lemmas.Bool.{cases_Bool, cases_lt, true≢false, and_parts, and_from, or_cases, or_left, or_right, eqb-true}
+use Rattle.std.proofs.lemmas.Bool.{cases_Bool, cases_lt, and_parts, and_from, or_cases, or_left, or_right}
 use Rattle.std.proofs.lemmas.List.Folds.{list_any-append}
 use Rattle.std.proofs.lemmas.Option.{slice_get_past}
 use Rattle.beam_model.specs.declared.instruction.Instruction.{Instruction}
-use Rattle.beam_model.specs.Fetch.{end_of_code}
-use Rattle.beam_model.specs.Listing.{is_row, row_of_label, next_row}
-use Rattle.beam_model.specs.Framed.{Shape, Assignment, may_have, shape_of_label, in_list, called, targets, finds, shape_after, may_fall_through, leads, leads_on, fits, fits_if, row_at, begins_bare, AreFramed}
-use Rattle.beam_shapes.specs.Forced.{ShapeState, assigned, Waits, Rises, Spreads, Forces, Fails, IsAssignment, MayGo, Flows, FlowsIf, FlowsAt, AreLookedAt, BeginsIf, BeginsAt, BeginBelow, BeginBare}
+use Rattle.beam_model.specs.Prelude.{end_of_code, is_row, row_of_label, next_row, Assignment, may_have, shape_of_label, in_list, called, targets, finds, shape_after, may_fall_through, leads, leads_on, fits, fits_if, row_at, begins_bare, AreFramed, Shape}
+use Rattle.beam_shapes.specs.Prelude.{ShapeState, assigned, Waits, Rises, Spreads, Forces, Fails, IsAssignment, MayGo, Flows, FlowsIf, FlowsAt, AreLookedAt, BeginsIf, BeginsAt, BeginBelow, BeginBare}
 use Rattle.beam_shapes.specs.declared.error.FrameCheckError.{FrameCheckError}
 use Rattle.beam_shapes.proofs.Forced.{spreads_none, spreads_from, forces_both, forces_as, fails_both, fails_as}
 use Rattle.beam_shapes.proofs.Lower.{all_up}

@@ -1,16 +1,14 @@
 -- A row that fits with a shape fits with each shape below it.
-use Rattle.std.proofs.Common.{◌≡◌, ℕ, ◌<◌, Bool, true, false, if◌then◌else◌, List, [], ◌∷◌, ◌++◌, Option, Some, None, refl, ap, sym, ◌∙◌, subst, arith}
-use Rattle.std.specs.Prelude.{◌&&◌, ◌||◌, not, is_some, nat_eq, option_map}
+use Rattle.std.proofs.Common.{◌≡◌, ℕ, ◌<◌, Bool, true, false, if◌then◌else◌, List, [], ◌∷◌, ◌++◌, Option, Some, None, refl, ap, sym, ◌∙◌, subst, arith, ◌&&◌, ◌||◌, not, is_some, nat_eq, option_map, true≢false, eqb-true, eq-eqb}
 use Rattle.std.specs.List.{list_all}
 use Rattle.std.specs.Option.{option_eq}
 use Rattle.std.specs.Cmp.Lexicographic.{pointwise, pointwise_decides}
-use Rattle.std.proofs.lemmas.Bool.{true≢false, and_parts, and_from, eqb-true, eq-eqb}
+use Rattle.std.proofs.lemmas.Bool.{and_parts, and_from}
+use Rattle.std.proofs.lemmas.Option.{same_Some}
 use Rattle.beam_model.specs.declared.instruction.Instruction.{Instruction}
-use Rattle.beam_model.specs.Framed.{Shape, bare, sized, any, Assignment, first_tag, same_shape, may_have, is_value, is_there, put_all, FrameEffect, keeps, wants_bare, allocates, drops, trims, after_effect, frame_effect, tag, tags_a_y, read_ys, written_ys, may_raise, in_list, jumps, called, targets, may_fall_through, begins_bare, shape_of_label, finds, shape_after, leads, leads_on, fits}
-use Rattle.beam_shapes.specs.Forced.{room_of}
-
-some_inj : (x y : ℕ) → Some x ≡ Some y → x ≡ y
-some_inj x y e = cc
+use Rattle.beam_model.specs.Prelude.{bare, sized, any, Assignment, first_tag, same_shape, may_have, is_value, is_there, put_all, FrameEffect, keeps, wants_bare, allocates, drops, trims, after_effect, frame_effect, tag, tags_a_y, read_ys, written_ys, may_raise, in_list, jumps, called, targets, may_fall_through, begins_bare, shape_of_label, finds, shape_after, leads, leads_on, fits, Shape}
+use Rattle.beam_shapes.specs.Prelude.{room_of}
+use Rattle.beam_shapes.proofs.Unnamed.{put_none}
 
 abbrev Decide : Bool → Type 0 → Type 0
 Decide b P = (b ≡ true → P) × (P → b ≡ true)
@@ -19,7 +17,7 @@ tag_decides : (x y : Option ℕ) → Decide (option_eq nat_eq x y) (x ≡ y)
 tag_decides None None = (λ e. refl, λ e. refl)
 tag_decides None (Some y) = (λ e. absurd (true≢false (sym e)), λ e. absurd (cc e))
 tag_decides (Some x) None = (λ e. absurd (true≢false (sym e)), λ e. absurd (cc e))
-tag_decides (Some x) (Some y) = (λ e. ap (λ n. Some n) (eqb-true x y e), λ e. eq-eqb x y (some_inj x y e))
+tag_decides (Some x) (Some y) = (λ e. ap (λ n. Some n) (eqb-true x y e), λ e. eq-eqb x y (same_Some x y e))
 
 pub tags_decide : (xs ys : List (Option ℕ)) → Decide (pointwise (option_eq nat_eq) xs ys) (xs ≡ ys)
 tags_decide xs ys = pointwise_decides tag_decides xs ys
@@ -100,11 +98,6 @@ leads_any a code i s none e =
     (list_all g (targets i s))
     p.0
     (ap (list_all g) (sym same) ∙ all_up f g (λ label. any_up s (shape_of_label a code label) none) (targets i any) p.1)
-
-put_none : (t : Option ℕ) (s : Shape) → put_all t [] s ≡ s
-put_none t bare = refl
-put_none t (sized y) = refl
-put_none t any = refl
 
 goes_up : (g : Bool) (s : Shape) (o : Option Shape) → first_tag s ≡ None → (g || may_have any o) ≡ true → (g || may_have s o) ≡ true
 goes_up true s o none e = refl

@@ -1,18 +1,15 @@
 -- Operands that name nothing, whatever their kinds are.
-use Rattle.std.proofs.Common.{◌≡◌, ℕ, Bool, true, false, List, [], ◌∷◌, ◌++◌, refl, ap, ap₂, sym, ◌∙◌}
-use Rattle.std.specs.Prelude.{if◌then◌else◌}
-use Rattle.std.specs.List.{flat_map, list_any, zip}
+use Rattle.std.proofs.Common.{◌≡◌, ℕ, Bool, true, false, List, [], ◌∷◌, ◌++◌, refl, ap, ap₂, sym, ◌∙◌, if◌then◌else◌, append-nil}
+use Rattle.std.specs.List.{list_any, flat_map, zip}
 use Rattle.std.proofs.lemmas.Bool.{or_parts}
-use Rattle.std.proofs.lemmas.List.{append-nil}
 use Rattle.beam_model.specs.declared.instruction.Instruction.{Instruction}
 use Rattle.beam_model.specs.declared.instruction.Operand.{Operand}
-use Rattle.beam_model.specs.declared.instruction.Operand.TheVariants as operand
 use Rattle.beam_model.specs.declared.opcode.Kind.{Kind}
-use Rattle.beam_model.specs.Framed.{ys_in, is_read, is_written, read_ys, written_ys, never_jumps, jumps}
-use Rattle.beam_model.specs.Opcodes.{kinds_of}
+use Rattle.beam_model.specs.Prelude.{ys_in, is_read, is_written, read_ys, written_ys, never_jumps, jumps, kinds_of}
+use Rattle.beam_model.specs.declared.instruction.Operand.TheVariants as operand
 use Rattle.beam_shapes.specs.declared.named.OperandRole.{OperandRole}
 use Rattle.beam_shapes.specs.declared.named.OperandRole.TheVariants as part
-use Rattle.beam_shapes.specs.OperandRoles.{is_of, numbers_of, numbers_in, is_some_of, may_name, may_name_some, named}
+use Rattle.beam_shapes.specs.Prelude.{is_of, numbers_of, numbers_in, is_some_of, may_name, may_name_some, named}
 
 none_of : (ns : List ℕ) → is_some_of ns ≡ false → ns ≡ []
 none_of [] e = refl

@@ -1,8 +1,8 @@
 -- The tags at the places of a tree, by its halves.
-use Rattle.std.proofs.Common.{◌≡◌, ◌≢◌, ℕ, ◌+◌, ◌-◌, ◌^◌, ◌<◌, ◌≤◌, List, [], ◌∷◌, ◌++◌, length, set, drop, replicate, get_or, Option, None, refl, ap, sym, ◌∙◌, subst, append_assoc, arith}
-use Rattle.std.proofs.lemmas.List.{set-append_left, set-append_right, get_or_append_left, get_or-append_right, replicate-append-replicate, drop-append-le, drop-drop, drop_at}
+use Rattle.std.proofs.Common.{◌≡◌, ◌≢◌, ℕ, ◌+◌, ◌-◌, ◌^◌, ◌<◌, ◌≤◌, List, [], ◌∷◌, ◌++◌, length, set, drop, replicate, get_or, Option, None, refl, ap, sym, ◌∙◌, subst, append_assoc, arith, drop-drop, drop_at}
+use Rattle.std.proofs.lemmas.List.{set-append_left, set-append_right, get_or_append_left, get_or-append_right, replicate-append-replicate, drop-append-le}
 use Rattle.beam_shapes.specs.declared.trees.Halves.{Halves}
-use Rattle.beam_shapes.specs.Trees.{Parts, part_of, halves_of, tags_of, IsTree, Grows}
+use Rattle.beam_shapes.specs.Prelude.{Parts, part_of, halves_of, tags_of, IsTree, Grows}
 use Rattle.beam_shapes.proofs.Grown.{tags_stay, tree_stays, tags_none, tree_none, tags_long, tags_step, tree_step, tree_made}
 
 pub tag_left : (p : Parts) (h tree at : ℕ) → 0 < h → at < 2 ^ (h - 1) → get_or (tags_of p (h - 1) (halves_of p.halves tree).left) at None ≡ get_or (tags_of p h tree) at None

@@ -1,17 +1,10 @@
 -- A shape is put in one place.
-use Rattle.std.proofs.Common.{◌≡◌, ℕ, ◌<◌, true, List, [], ◌∷◌, ◌++◌, length, get_or, set, map, Option, Some, None, refl, ap, sym, ◌∙◌, subst, arith}
-use Rattle.std.specs.Prelude.{option_map, is_some, false}
-use Rattle.std.proofs.lemmas.List.{length-map, map-set, get_or-map, get_or_read, get_or-set_same}
-use Rattle.beam_model.specs.Framed.{Shape, Assignment, may_have}
-use Rattle.beam_shapes.specs.Forced.{ShapeState, LiesUnder, room_of, Rises, Forces}
-use Rattle.beam_shapes.specs.Shown.{shown}
-use Rattle.beam_shapes.specs.Trees.{Parts}
+use Rattle.std.proofs.Common.{◌≡◌, ℕ, ◌<◌, true, List, [], ◌∷◌, ◌++◌, length, get_or, set, map, Option, Some, None, ap, sym, ◌∙◌, subst, arith, option_map, get_or-set_same}
+use Rattle.std.proofs.lemmas.List.{length-map, map-set, get_or-map, get_or_read}
+use Rattle.beam_model.specs.Prelude.{Assignment, may_have, Shape}
+use Rattle.beam_shapes.specs.Prelude.{ShapeState, LiesUnder, room_of, Rises, Forces, shown, Parts}
 use Rattle.beam_shapes.specs.declared.shape.Shape.{Shape as Kept}
 use Rattle.beam_shapes.proofs.Forced.{forces_put}
-
-pub not_some : (o : Option ℕ) → is_some o ≡ false → o ≡ None
-not_some None e = refl
-not_some (Some n) e = absurd (cc e)
 
 module _ (p : Parts) (shapes : List (Option Kept)) (waiting : List ℕ) (old : ShapeState) (is : (record { parts = p; known = map (option_map (shown p)) shapes; waiting = waiting }) ≡ old) where
   pub put_known : (holds : Parts → Assignment → Type 0) (place : ℕ) (before : Option Kept) (after : Kept) → place < length old.known → before ≡ get_or shapes place before

@@ -1,15 +1,13 @@
 -- y registers that stand in a tree from a place on.
-use Rattle.std.proofs.Common.{◌≡◌, ℕ, zero, suc, ◌+◌, ◌-◌, ◌<◌, ◌≤◌, ◌==◌, Bool, true, false, if◌then◌else◌, List, [], ◌∷◌, ◌++◌, length, get_or, set, take, drop, replicate, map, Option, Some, None, refl, ap, sym, ◌∙◌, subst, arith}
-use Rattle.std.specs.Prelude.{slice_get, nat_lt, IsTrue, ◌↔◌, nat_eq, option_map}
+use Rattle.std.proofs.Common.{◌≡◌, ℕ, zero, suc, ◌+◌, ◌-◌, ◌<◌, ◌≤◌, ◌==◌, Bool, true, false, if◌then◌else◌, List, [], ◌∷◌, ◌++◌, length, get_or, set, take, drop, replicate, map, Option, Some, None, refl, ap, sym, ◌∙◌, subst, arith, slice_get, nat_lt, IsTrue, ◌↔◌, nat_eq, option_map, eq-eqb, ne_eqb, le-ltb, length-drop, take-append-drop, get_or-drop}
 use Rattle.std.specs.Cmp.Lexicographic.{pointwise}
 use Rattle.std.specs.Option.{option_eq}
-use Rattle.std.proofs.lemmas.Bool.{false_from_ne_true, eq-eqb, ne_eqb, le-ltb}
-use Rattle.std.proofs.lemmas.List.{length-drop, take-append-drop, get_or-drop, drop-set-add, take-set-le, set_past, drop-replicate, take-replicate}
+use Rattle.std.proofs.lemmas.Bool.{false_from_ne_true}
+use Rattle.std.proofs.lemmas.List.{drop-set-add, take-set-le, set_past, drop-replicate, take-replicate}
 use Rattle.std.proofs.lemmas.Option.{slice_get-get_or, slice_get_past}
-use Rattle.beam_model.specs.Framed.{first_in, is_there, is_value, is_value_in}
+use Rattle.beam_model.specs.Prelude.{first_in, is_there, is_value, is_value_in}
 use Rattle.beam_model.specs.Framed as book
-use Rattle.beam_shapes.specs.Shown.{shown_effect, shown_registers, shown, AreRegisters, IsShape, IsKnown}
-use Rattle.beam_shapes.specs.Trees.{Parts, tags_of, IsTree, Grows}
+use Rattle.beam_shapes.specs.Prelude.{shown_effect, shown_registers, shown, AreRegisters, IsShape, IsKnown, Parts, tags_of, IsTree, Grows}
 use Rattle.beam_shapes.specs.declared.row.Effect.{Effect}
 use Rattle.beam_shapes.specs.declared.row.Effect.TheVariants as effect
 use Rattle.beam_shapes.specs.declared.shape.YRegisters.{YRegisters}

@@ -1,20 +1,17 @@
 -- Within the limits of operands no row allocates more registers than a frame may have.
-use Rattle.std.proofs.Common.{◌≡◌, ℕ, zero, suc, ◌≤◌, List, [], ◌∷◌, length, sym, arith}
-use Rattle.std.specs.Prelude.{◌==◌, Bool, true, false, if◌then◌else◌}
+use Rattle.std.proofs.Common.{◌≡◌, ℕ, zero, suc, ◌≤◌, List, [], ◌∷◌, length, sym, arith, ◌==◌, Bool, true, false, if◌then◌else◌, leb-true, true≢false}
 use Rattle.std.specs.List.{list_all, zip}
-use Rattle.std.proofs.lemmas.Bool.{and_parts, leb-true, true≢false}
+use Rattle.std.proofs.lemmas.Bool.{and_parts}
 use Rattle.beam_model.specs.declared.instruction.Argument.TheVariants as argument
 use Rattle.beam_model.specs.declared.instruction.Instruction.{Instruction}
 use Rattle.beam_model.specs.declared.instruction.Operand.{Operand}
-use Rattle.beam_model.specs.declared.instruction.Operand.TheVariants as operand
 use Rattle.beam_model.specs.declared.opcode.Kind.{Kind}
-use Rattle.beam_model.specs.declared.opcode.Kind.TheVariants as kind
 use Rattle.beam_model.specs.declared.opcode.Opcode.{Opcode}
+use Rattle.beam_model.specs.Prelude.{all_operands, is_within, is_frame_size, kinds_of, number, calls_exit, keeps, drops, frame_effect, frame_effect_by, row_at}
+use Rattle.beam_model.specs.declared.instruction.Operand.TheVariants as operand
+use Rattle.beam_model.specs.declared.opcode.Kind.TheVariants as kind
 use Rattle.beam_model.specs.declared.opcode.Opcode.TheVariants as op
-use Rattle.beam_model.specs.Loadable.{all_operands, is_within, is_frame_size}
-use Rattle.beam_model.specs.Opcodes.{kinds_of}
-use Rattle.beam_model.specs.Framed.{number, calls_exit, keeps, drops, frame_effect, frame_effect_by, row_at}
-use Rattle.beam_shapes.specs.Shown.{IsSmall}
+use Rattle.beam_shapes.specs.Prelude.{IsSmall}
 
 size_few : (o : Operand) → is_frame_size o ≡ true → number o ≤ 1024
 size_few (operand.One (argument.Number n)) e = let h = leb-true n 1023 e in omega (arith, h)

@@ -1,16 +1,12 @@
 -- Parts stay tidy.
-use Rattle.std.proofs.Common.{◌≡◌, ◌≢◌, ℕ, zero, suc, ◌-◌, ◌<◌, ◌==◌, ◌⊎◌, Bool, false, if◌then◌else◌, List, [], ◌∷◌, ◌++◌, length, Some, None, inl, inr, refl, ap, sym, ◌∙◌, subst, ⊎_elim, append-nil, arith}
-use Rattle.std.specs.Prelude.{slice_get}
-use Rattle.std.proofs.lemmas.Bool.{ne_eqb}
+use Rattle.std.proofs.Common.{◌≡◌, ◌≢◌, ℕ, zero, suc, ◌-◌, ◌<◌, ◌==◌, ◌⊎◌, Bool, false, if◌then◌else◌, List, [], ◌∷◌, ◌++◌, length, Some, None, inl, inr, refl, ap, sym, ◌∙◌, subst, ⊎_elim, append-nil, arith, slice_get, ne_eqb}
+use Rattle.std.proofs.lemmas.Option.{same_Some}
 use Rattle.beam_shapes.specs.declared.trees.Halves.{Halves}
-use Rattle.beam_shapes.specs.Trees.{Parts, no_halves, part_of, Grows, IsInterned, IsAbsent, AreDistinct}
-
-some_inj : {X : Type 0} (x y : X) → Some x ≡ Some y → x ≡ y
-some_inj x y e = cc
+use Rattle.beam_shapes.specs.Prelude.{Parts, no_halves, part_of, Grows, IsInterned, IsAbsent, AreDistinct}
 
 -- an item of a list with one more is an old one, or that one at its end
 at_push : {X : Type 0} (xs : List X) (y x : X) (i : ℕ) → slice_get (xs ++ y ∷ []) i ≡ Some x → ((i < length xs) × (slice_get xs i ≡ Some x)) ⊎ ((i ≡ length xs) × (y ≡ x))
-at_push [] y x zero e = inr (refl, some_inj y x e)
+at_push [] y x zero e = inr (refl, same_Some y x e)
 at_push [] y x (suc i) e = absurd (cc e)
 at_push (z ∷ zs) y x zero e = inl (omega arith, e)
 at_push (z ∷ zs) y x (suc i) e =

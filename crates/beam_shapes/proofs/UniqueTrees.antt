@@ -1,24 +1,11 @@
 -- Trees that hold equal tags have one number.
-use Rattle.std.proofs.Common.{◌≡◌, ◌≢◌, ℕ, zero, suc, ◌-◌, ◌<◌, ◌≤◌, Bool, if◌then◌else◌, List, [], ◌∷◌, ◌++◌, length, take, drop, Option, Some, None, refl, ap, sym, ◌∙◌, ⊎_elim, arith}
-use Rattle.std.specs.Prelude.{slice_get, unwrap_or}
+use Rattle.std.proofs.Common.{◌≡◌, ◌≢◌, ℕ, zero, suc, ◌-◌, ◌≤◌, List, [], ◌∷◌, ◌++◌, length, take, drop, Option, Some, None, ap, sym, ◌∙◌, ⊎_elim, arith, slice_get, unwrap_or}
 use Rattle.std.proofs.Math.Seq.{drop-append_seam, take-append_seam}
-use Rattle.std.proofs.lemmas.Bool.{cases_eq, ne_eqb}
+use Rattle.std.proofs.lemmas.Bool.{cases_eq}
 use Rattle.beam_shapes.specs.declared.trees.Halves.{Halves}
-use Rattle.beam_shapes.specs.Trees.{Parts, no_halves, part_of, halves_of, tags_of, IsTree, IsTidy, IsAbsent, AreDistinct}
+use Rattle.beam_shapes.specs.Prelude.{Parts, no_halves, part_of, halves_of, tags_of, IsTree, IsTidy, IsAbsent, AreDistinct}
 use Rattle.beam_shapes.proofs.Grown.{tags_long}
-
-there : {X : Type 0} (xs : List X) (i : ℕ) → i < length xs → (x : X) × (slice_get xs i ≡ Some x)
-there [] i few = absurd (omega (arith, few))
-there (x ∷ xs) zero few = (x, refl)
-there (x ∷ xs) (suc i) few = there xs i (omega (arith, few))
-
--- a part with a number is there
-part_there : {X : Type 0} (xs : List X) (n : ℕ) → n ≢ 0 → n ≤ length xs → (x : X) × (part_of xs n ≡ Some x) × (slice_get xs (n - 1) ≡ Some x)
-part_there xs n some within =
-    let t = there xs (n - 1) (omega (arith, some, within)) in (t.0, ap (λ (b : Bool). if b then None else slice_get xs (n - 1)) (ne_eqb n 0 some) ∙ t.1, t.1)
-
-some_inj : {X : Type 0} (x y : X) → Some x ≡ Some y → x ≡ y
-some_inj x y e = cc
+use Rattle.beam_shapes.proofs.Firsts.{part_there}
 
 pred_same : (m n : ℕ) → m ≢ 0 → n ≢ 0 → m - 1 ≡ n - 1 → m ≡ n
 pred_same m n a b e = omega (arith, a, b, e)

@@ -1,13 +1,12 @@
 -- A row that names no y registers.
-use Rattle.std.proofs.Common.{◌≡◌, ℕ, Bool, true, false, List, [], ◌∷◌, Option, Some, None, refl, ap, ◌∙◌}
-use Rattle.std.specs.Prelude.{◌&&◌, is_some, option_map}
+use Rattle.std.proofs.Common.{◌≡◌, ℕ, Bool, true, false, List, [], ◌∷◌, Option, Some, None, refl, ap, ◌∙◌, ◌&&◌, is_some, option_map}
 use Rattle.std.specs.List.{list_all}
 use Rattle.std.proofs.lemmas.Bool.{and_right}
 use Rattle.beam_model.specs.declared.instruction.Instruction.{Instruction}
-use Rattle.beam_model.specs.Framed.{Shape, bare, sized, any, is_value, is_there, put_all, tags_a_y, read_ys, written_ys, tag, frame_effect, after_effect, finds, shape_after}
-use Rattle.beam_shapes.specs.Forced.{Leaves}
+use Rattle.beam_model.specs.Prelude.{bare, sized, any, is_value, is_there, put_all, tags_a_y, read_ys, written_ys, tag, frame_effect, after_effect, finds, shape_after, Shape}
+use Rattle.beam_shapes.specs.Prelude.{Leaves}
 
-put_none : (t : Option ℕ) (s : Shape) → put_all t [] s ≡ s
+pub put_none : (t : Option ℕ) (s : Shape) → put_all t [] s ≡ s
 put_none t bare = refl
 put_none t (sized y) = refl
 put_none t any = refl

@@ -2,9 +2,8 @@
 -- shapes lie below every assignment, and a step that puts nothing shows that its rows fit. (This crate's own.)
 use Rattle.std.specs.Prelude.{◌≡◌, ℕ, ◌+◌, ◌<◌, ◌≤◌, ◌⊎◌, ◌&&◌, nat_eq, true, false, is_some, List, [], length, sum_by, slice_index_or, Option, Some, None, Result, Ok, Err}
 use Rattle.std.specs.List.{list_all, list_any}
-use Rattle.beam_model.specs.Listing.{is_row, next_row}
+use Rattle.beam_model.specs.Prelude.{is_row, next_row, any, Assignment, may_have, shape_of_label, frame_effect, row_at, begins_bare, entries, in_list, called, targets, finds, shape_after, leads_on, fits_at, Shape}
 use Rattle.beam_model.specs.declared.instruction.Instruction.{Instruction}
-use Rattle.beam_model.specs.Framed.{Shape, any, Assignment, may_have, shape_of_label, frame_effect, row_at, begins_bare, entries, in_list, called, targets, finds, shape_after, leads_on, fits_at}
 use Rattle.beam_shapes.specs.Shown.{IsSmall}
 use Rattle.beam_shapes.specs.Trees.{Parts}
 use Rattle.beam_shapes.specs.declared.error.FrameCheckError.{FrameCheckError}

@@ -3,3 +3,4 @@ pub mod OperandRoles
 pub mod Shown
 pub mod Tabled
 pub mod Trees
+pub mod Prelude

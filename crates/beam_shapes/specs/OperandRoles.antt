@@ -3,13 +3,13 @@ use Rattle.std.specs.Prelude.{ℕ, Bool, true, false, List, [], ◌∷◌}
 use Rattle.std.specs.List.{list_any}
 use Rattle.beam_model.specs.declared.instruction.Argument.{Argument}
 use Rattle.beam_model.specs.declared.instruction.Operand.{Operand}
-use Rattle.beam_model.specs.declared.instruction.Operand.TheVariants as operand
 use Rattle.beam_model.specs.declared.instruction.Instruction.{Instruction}
 use Rattle.beam_model.specs.declared.opcode.Kind.{Kind}
 use Rattle.beam_model.specs.declared.opcode.Opcode.{Opcode}
+use Rattle.beam_model.specs.Prelude.{y_in, ys_in, label_of_argument, labels_in, is_read, is_written, is_jump, named_by}
+use Rattle.beam_model.specs.declared.instruction.Operand.TheVariants as operand
 use Rattle.beam_shapes.specs.declared.named.OperandRole.{OperandRole}
 use Rattle.beam_shapes.specs.declared.named.OperandRole.TheVariants as part
-use Rattle.beam_model.specs.Framed.{y_in, ys_in, label_of_argument, labels_in, is_read, is_written, is_jump, named_by}
 
 abbrev pub is_of : OperandRole → Opcode → Kind → Bool
 is_of part.Reads = is_read

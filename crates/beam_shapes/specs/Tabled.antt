@@ -3,7 +3,7 @@ use Rattle.std.specs.Prelude.{◌≡◌, ℕ, nat_lt, if◌then◌else◌, List,
 use Rattle.std.specs.BTreeMap.{get}
 use Rattle.std.specs.Ordering.{nat_cmp}
 use Rattle.beam_model.specs.declared.instruction.Instruction.{Instruction}
-use Rattle.beam_model.specs.Listing.{row_of_label}
+use Rattle.beam_model.specs.Prelude.{row_of_label}
 use Rattle.beam_shapes.specs.declared.label_rows.LabelRows.{LabelRows}
 
 -- the row to which a label leads

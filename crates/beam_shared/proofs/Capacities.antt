@@ -1,12 +1,9 @@
 -- The processes that are checked out can be held without memory.
-use Rattle.std.proofs.Common.{◌≡◌, ℕ, ◌==◌, ◌<◌, ◌≤◌, not, Bool, true, false, cond, List, [], ◌∷◌, ◌++◌, map, Some, refl, arith}
+use Rattle.std.proofs.Common.{◌≡◌, ℕ, ◌==◌, ◌<◌, ◌≤◌, not, Bool, true, false, cond, List, [], ◌∷◌, ◌++◌, map, Some, refl, arith, is_some}
 use Rattle.std.proofs.lemmas.Bool.Decides.{nat_tests}
-use Rattle.std.specs.Prelude.{is_some}
-use Rattle.beam_debug.specs.Debugger.{Debugger}
+use Rattle.beam_debug.specs.Prelude.{Debugger}
 use Rattle.beam_shared.specs.declared.checked_out.CheckoutEntry.{CheckoutEntry}
-use Rattle.beam_shared.specs.Invariant.{checked_out_of, HasCapacityFor}
-use Rattle.beam_shared.specs.Node.{serial_of}
-use Rattle.beam_shared.specs.Returned.{without_entry}
+use Rattle.beam_shared.specs.Prelude.{checked_out_of, HasCapacityFor, serial_of, without_entry}
 
 pub more_capacity : (d x : Debugger) (checked_out : List CheckoutEntry) → d.capacity ≤ x.capacity → HasCapacityFor d checked_out → HasCapacityFor x checked_out
 more_capacity d x [] more h = tt

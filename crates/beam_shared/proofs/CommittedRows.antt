@@ -1,43 +1,30 @@
 -- Rows that are to be committed are those of a slice which can be committed.
-use Rattle.std.proofs.Common.{◌≡◌, ◌≢◌, ℕ, zero, suc, ◌+◌, ◌<◌, ◌≤◌, ◌==◌, ◌&&◌, ◌||◌, Bool, true, false, cond, nat_lt, List, [], ◌∷◌, Option, Some, None, Ok, refl, sym, ap, subst, ◌∙◌, arith}
+use Rattle.std.proofs.Common.{◌≡◌, ◌≢◌, ℕ, zero, suc, ◌+◌, ◌<◌, ◌≤◌, ◌==◌, ◌&&◌, ◌||◌, Bool, true, false, cond, nat_lt, List, [], ◌∷◌, Option, Some, None, Ok, refl, sym, ap, subst, ◌∙◌, arith, is_some, length, nat_eq, slice_get}
 use Rattle.std.proofs.lemmas.Bool.Decides.{nat_tests}
-use Rattle.std.specs.Prelude.{is_some, length, nat_eq, slice_get}
 use Rattle.std.specs.Option.{option_eq}
-use Rattle.beam_model.specs.Place.{Place, is_same_place}
-use Rattle.beam_model.specs.SameText.{same_text}
+use Rattle.std.proofs.lemmas.Bool.{and_parts}
+use Rattle.beam_lemmas.proofs.Tests.{itself}
+use Rattle.beam_model.specs.Prelude.{Place, is_same_place, same_text}
 use Rattle.beam_machine.specs.declared.debug.DebugEvent.TheVariants.{Node as NodeEvent}
 use Rattle.beam_machine.specs.declared.debug.DebugReply.{DebugReply}
-use Rattle.beam_machine.specs.declared.debug.DebugReply.TheVariants.{Node as NodeReply, Held}
+use Rattle.beam_machine.specs.declared.debug.DebugReply.TheVariants.{Held, Node as NodeReply}
 use Rattle.beam_machine.specs.declared.event.Event.TheVariants.{Steps}
 use Rattle.beam_machine.specs.declared.event.Reply.TheVariants.{Ran}
 use Rattle.beam_machine.specs.declared.event.Then.{Then}
 use Rattle.beam_machine.specs.declared.event.Then.TheVariants.{GoesOn, Waits, Ended}
-use Rattle.beam_machine.specs.Code.{Code, Instance}
-use Rattle.beam_machine.specs.Debug.{Debugged, DebugAnswer, DebugNext, debug_next}
-use Rattle.beam_machine.specs.DebugRun.{debug_cut_event, DebugAnswers}
-use Rattle.beam_machine.specs.Private.{Private, End, at_limit, after_row, before_node_row, at_spot, stops}
-use Rattle.beam_machine.specs.Process.{Process, is_running, then_of}
-use Rattle.beam_machine.specs.Run.{effective_rows}
-use Rattle.beam_machine.specs.State.{live_process, process_of}
-use Rattle.beam_machine.specs.View.{View}
+use Rattle.beam_machine.specs.Prelude.{Code, Instance, Debugged, DebugAnswer, DebugNext, debug_next, debug_cut_event, DebugAnswers, Private, End, at_limit, after_row, before_node_row, at_spot, stops, Process, is_running, then_of, effective_rows, live_process, process_of, View}
 use Rattle.beam_laws.proofs.Ending.{alive_is}
 use Rattle.beam_codesrv.specs.Homes.{number_of}
 use Rattle.beam_codesrv.specs.Numbers as codesrv
-use Rattle.beam_laws.specs.EarlierCode.{IsEarlierCode, same_number, same_numbers}
-use Rattle.beam_laws.specs.Origin.{Origin}
-use Rattle.beam_laws.specs.Out.{IsOut}
-use Rattle.beam_laws.specs.Slice.{slice_of, rows_at_end, rows_of_event}
+use Rattle.beam_laws.specs.Prelude.{IsEarlierCode, same_number, same_numbers, Origin, IsOut, slice_of, rows_at_end, rows_of_event}
 use Rattle.beam_laws.proofs.CanCommit.{can_commit}
 use Rattle.beam_laws.proofs.Committing.{slice_rows, slice_at_spot, slice_node_row}
 use Rattle.beam_laws.proofs.Kinship.{is_same, same_itself}
 use Rattle.beam_laws.proofs.SpotEnds.{ends_at_limit, ends_after_row, ends_before_node_row, ends_at_spot}
-use Rattle.beam_debug.specs.Installing.{AreSlices}
+use Rattle.beam_debug.specs.Prelude.{AreSlices}
 use Rattle.beam_step.specs.Slices.{RowsComeTo, capped}
 use Rattle.beam_shared.specs.declared.checked_out.CheckoutEntry.{CheckoutEntry}
-use Rattle.beam_shared.specs.Committing.{event_of}
-use Rattle.beam_shared.specs.FinishedSlice.{CodeContext, FinishedSlice, IsFinishedSlice, context_of}
-use Rattle.beam_shared.specs.Invariant.{context_in, IsHanded}
-use Rattle.beam_shared.specs.Returned.{is_alike, same_places}
+use Rattle.beam_shared.specs.Prelude.{event_of, CodeContext, FinishedSlice, IsFinishedSlice, context_of, context_in, IsHanded, is_alike, same_places}
 
 -- ---- a slice's rows
 
@@ -113,13 +100,9 @@ same_code (v ∷ code) (w ∷ others) =
     ∙ (ap (λ b. same_text v.name w.name && (same_number v.current w.current && (b && codesrv.same_numbers code others))) (same_one v.old w.old)
     ∙ ap (λ b. same_text v.name w.name && (same_number v.current w.current && (same_number v.old w.old && b))) (same_code code others)))
 
-both : (a b : Bool) → (a && b) ≡ true → (a ≡ true) × (b ≡ true)
-both true b e = (refl, e)
-both false b e = absurd (cc e)
-
 place_is : (a b : Place) → is_same_place a b ≡ true → a ≡ b
 place_is a b e =
-    let parts = both (a.instance == b.instance) (a.at == b.at) e in
+    let parts = and_parts (a.instance == b.instance) (a.at == b.at) e in
     let instance : a.instance ≡ b.instance = grind (arith, nat_tests, parts.0) in
     let at : a.at ≡ b.at = grind (arith, nat_tests, parts.1) in
     ap (λ n. record { instance = n; at = a.at }) instance ∙ ap (λ n. record { instance = b.instance; at = n }) at
@@ -129,14 +112,11 @@ places_are [] [] e = refl
 places_are [] (b ∷ others) e = absurd (cc e)
 places_are (a ∷ spots) [] e = absurd (cc e)
 places_are (a ∷ spots) (b ∷ others) e =
-    let parts = both (is_same_place a b) (same_places spots others) e in
+    let parts = and_parts (is_same_place a b) (same_places spots others) e in
     ap (λ p. p ∷ spots) (place_is a b parts.0) ∙ ap (λ ps. b ∷ ps) (places_are spots others parts.1)
 
-same_number_itself : (n : ℕ) → (n == n) ≡ true
-same_number_itself n = grind (arith, nat_tests)
-
 place_itself : (a : Place) → is_same_place a a ≡ true
-place_itself a = ap (λ b. b && (a.at == a.at)) (same_number_itself a.instance) ∙ same_number_itself a.at
+place_itself a = ap (λ b. b && (a.at == a.at)) (itself a.instance) ∙ itself a.at
 
 places_itself : (spots : List Place) → same_places spots spots ≡ true
 places_itself [] = refl
@@ -149,7 +129,7 @@ ended_places (a ∷ rest) others r none left = absurd (omega (arith, none))
 
 alike_is : (d : Debugged) (context : CodeContext) → IsEarlierCode context.code d.node → is_alike d context ≡ true → context_in d ≡ context
 alike_is d context kin e =
-    let parts = both (codesrv.same_numbers context.code d.node.code) (same_places context.spots d.spots) e in
+    let parts = and_parts (codesrv.same_numbers context.code d.node.code) (same_places context.spots d.spots) e in
     let code : context.code ≡ d.node.code = is_same context.code d.node kin (sym (same_code context.code d.node.code) ∙ parts.0) in
     let spots : context.spots ≡ d.spots = places_are context.spots d.spots parts.1 in
     ap (λ c. record { code = c; spots = d.spots }) (sym code) ∙ ap (λ ps. record { code = context.code; spots = ps }) (sym spots)

@@ -1,11 +1,9 @@
 -- The list of the processes that are checked out.
-use Rattle.std.proofs.Common.{◌≡◌, ℕ, ◌==◌, ◌||◌, Bool, true, false, cond, List, [], ◌∷◌, map, Option, Some, None, refl, ap, ◌∙◌, arith}
-use Rattle.std.specs.Prelude.{is_some}
+use Rattle.std.proofs.Common.{◌≡◌, ℕ, ◌==◌, ◌||◌, Bool, true, false, cond, List, [], ◌∷◌, map, Option, Some, None, refl, ap, ◌∙◌, arith, is_some}
 use Rattle.std.proofs.lemmas.Bool.Decides.{nat_tests}
 use Rattle.std.specs.List.{list_any}
 use Rattle.beam_shared.specs.declared.checked_out.CheckoutEntry.{CheckoutEntry}
-use Rattle.beam_shared.specs.Node.{CheckedOut, serial_of}
-use Rattle.beam_shared.specs.Invariant.{checked_out_of, entry_of}
+use Rattle.beam_shared.specs.Prelude.{CheckedOut, serial_of, checked_out_of, entry_of}
 
 abbrev pub serial_in : Option CheckoutEntry → Option ℕ
 serial_in None = None

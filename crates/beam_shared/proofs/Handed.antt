@@ -1,20 +1,14 @@
 -- Processes that are checked out stay as they were at their checkout, whatever others do.
-use Rattle.std.proofs.Common.{◌≡◌, ℕ, zero, suc, ◌≤◌, ◌||◌, Bool, true, false, List, [], ◌∷◌, ◌++◌, length, map, Some, refl, ap, ◌∙◌, arith}
-use Rattle.std.specs.Prelude.{slice_get}
+use Rattle.std.proofs.Common.{◌≡◌, ℕ, ◌≤◌, false, List, [], ◌∷◌, ◌++◌, map, ap, ◌∙◌, arith}
+use Rattle.std.proofs.lemmas.Bool.{or_parts}
+use Rattle.beam_model.specs.Prelude.{Listing}
 use Rattle.beam_machine.specs.declared.debug.DebugEvent.{DebugEvent}
-use Rattle.beam_model.specs.Listing.{Listing}
-use Rattle.beam_machine.specs.Debug.{Debugged, DebugAnswer}
-use Rattle.beam_machine.specs.DebugRun.{DebugAnswers}
-use Rattle.beam_laws.specs.Origin.{Origin}
-use Rattle.beam_laws.specs.Out.{is_busy}
+use Rattle.beam_machine.specs.Prelude.{Debugged, DebugAnswer, DebugAnswers}
+use Rattle.beam_laws.specs.Prelude.{Origin, is_busy}
 use Rattle.beam_laws.proofs.PreservedByAnswers.{answered_out, answered_kin}
+use Rattle.beam_receipts.proofs.Moves.{slice_get_front}
 use Rattle.beam_shared.specs.declared.checked_out.CheckoutEntry.{CheckoutEntry}
-use Rattle.beam_shared.specs.Refusals.{must_wait}
-use Rattle.beam_shared.specs.Invariant.{checked_out_of, context_in, IsHanded, AreHanded}
-
-either : (a b : Bool) → (a || b) ≡ false → (a ≡ false) × (b ≡ false)
-either false b e = (refl, e)
-either true b e = absurd (cc (e))
+use Rattle.beam_shared.specs.Prelude.{must_wait, checked_out_of, context_in, IsHanded, AreHanded}
 
 -- ---- an event of others
 
@@ -40,26 +34,17 @@ pub still_all : (d x : Debugged) (changes later : ℕ) (handed : List Origin) (e
     → AreHanded d changes handed entries → AreHanded x later handed entries
 still_all d x changes later handed [] e a answers more same free h = tt
 still_all d x changes later handed (entry ∷ rest) e a answers more same free h =
-    let both = either (is_busy entry.pid e) (must_wait (map checked_out_of rest) e) free in (
+    let both = or_parts (is_busy entry.pid e) (must_wait (map checked_out_of rest) e) free in (
       still_handed d x changes later handed entry e a answers more same both.0 h.0,
       still_all d x changes later handed rest e a answers more same both.1 h.1,
     )
 
 -- ---- one more process is checked out
 
-pub got_more : {X : Type 0} (xs ys : List X) (k : ℕ) (x : X) → slice_get xs k ≡ Some x → slice_get (xs ++ ys) k ≡ Some x
-got_more [] ys k x e = absurd (cc e)
-got_more (y ∷ xs) ys zero x e = e
-got_more (y ∷ xs) ys (suc k) x e = got_more xs ys k x e
-
-pub got_last : {X : Type 0} (xs : List X) (x : X) → slice_get (xs ++ x ∷ []) (length xs) ≡ Some x
-got_last [] x = refl
-got_last (y ∷ xs) x = got_last xs x
-
 known_still : (d : Debugged) (changes : ℕ) (handed : List Origin) (o : Origin) (entry : CheckoutEntry) → IsHanded d changes handed entry → IsHanded d changes (handed ++ o ∷ []) entry
 known_still d changes handed o entry i = record {
   origin = i.origin;
-  handed_out = got_more handed (o ∷ []) entry.serial i.origin i.handed_out;
+  handed_out = slice_get_front handed (o ∷ []) entry.serial i.origin i.handed_out;
   own = i.own;
   is_out = i.is_out;
   kin = i.kin;

@@ -1,33 +1,26 @@
 -- The checkout of a process, with all signals in transit to it delivered.
-use Rattle.std.proofs.Common.{◌≡◌, ℕ, ◌==◌, ◌||◌, Bool, true, false, cond, List, [], ◌∷◌, Option, Some, None, Ok, refl, sym, ap, subst, ◌∙◌, ◌⊎◌, inl, inr, arith, true≢false}
+use Rattle.std.proofs.Common.{◌≡◌, ℕ, ◌==◌, ◌||◌, Bool, true, false, cond, List, [], ◌∷◌, Option, Some, None, Ok, refl, sym, ap, subst, ◌∙◌, ◌⊎◌, inl, inr, arith, true≢false, filter, is_some}
 use Rattle.std.proofs.lemmas.Bool.Decides.{nat_tests}
-use Rattle.std.specs.Prelude.{filter, is_some}
+use Rattle.std.proofs.lemmas.Option.{same_Some}
 use Rattle.beam_machine.specs.declared.debug.DebugEvent.TheVariants.{Node as NodeEvent}
 use Rattle.beam_machine.specs.declared.debug.DebugReply.{DebugReply}
-use Rattle.beam_machine.specs.declared.debug.DebugReply.TheVariants.{Node as NodeReply}
 use Rattle.beam_machine.specs.declared.event.Event.TheVariants.{Deliver}
 use Rattle.beam_machine.specs.declared.event.Reply.TheVariants.{Done}
 use Rattle.beam_machine.specs.declared.event.Refused.TheVariants.{NotReady}
 use Rattle.beam_machine.specs.declared.process.Signal.{Signal}
-use Rattle.beam_machine.specs.Debug.{Debugged, DebugAnswer, DebugNext, is_among, is_live_process, replies, pruned, of_node, debug_next}
-use Rattle.beam_machine.specs.Next.{Next, made_process, refused, replied, delivered, is_nothing, next_deliver}
-use Rattle.beam_machine.specs.Process.{Process, is_ended, is_running}
-use Rattle.beam_machine.specs.View.{View}
-use Rattle.beam_machine.specs.State.{State, alive, process_of, live_process, with_process, with_made}
-use Rattle.beam_laws.specs.Private.{IsStill}
+use Rattle.beam_machine.specs.Prelude.{Debugged, DebugAnswer, DebugNext, is_among, is_live_process, replies, pruned, of_node, debug_next, Next, made_process, refused, replied, delivered, is_nothing, next_deliver, Process, is_ended, is_running, View, State, alive, process_of, live_process, with_process, with_made}
+use Rattle.beam_machine.specs.declared.debug.DebugReply.TheVariants.{Node as NodeReply}
+use Rattle.beam_laws.specs.Prelude.{IsStill, Origin, IsAsItWas, IsOut}
 use Rattle.beam_laws.proofs.Ending.{alive_is}
 use Rattle.beam_laws.proofs.Hearing.{hearing_here}
 use Rattle.beam_laws.proofs.Numbered.{alive_of, put_here}
 use Rattle.beam_laws.proofs.Private.{having_own}
-use Rattle.beam_laws.specs.Origin.{Origin}
-use Rattle.beam_laws.specs.Out.{IsAsItWas, IsOut}
 use Rattle.beam_laws.proofs.StayingOut.{comes_out}
-use Rattle.beam_rows.specs.Finds.{AlwaysFinds}
+use Rattle.beam_rows.specs.Prelude.{AlwaysFinds}
 use Rattle.beam_rows.proofs.Finding.{framed_finds}
 use Rattle.beam_shape_laws.specs.Shaped.{IsFramedNode}
 use Rattle.beam_shape_laws.proofs.Nodes.{debug_framed}
-use Rattle.beam_shared.specs.Node.{CheckedOut, has_any, all_arrived, process_has_incoming, delivered_if, origin_in, serial_of}
-use Rattle.beam_shared.specs.Refusals.{refusal_in, refusal_of}
+use Rattle.beam_shared.specs.Prelude.{CheckedOut, has_any, all_arrived, process_has_incoming, delivered_if, origin_in, serial_of, refusal_in, refusal_of}
 use Rattle.beam_shared.proofs.Refusing.{by_tests}
 
 none_nothing : (signals : List Signal) → has_any signals ≡ true → is_nothing signals ≡ false
@@ -142,15 +135,12 @@ may_be_checked_out d checked_out pid (Some p) e = may_by d checked_out pid p (is
 pub not_out : (d : Debugged) (checked_out : List CheckedOut) (pid : ℕ) → refusal_of d checked_out pid ≡ None → is_some (serial_of pid checked_out) ≡ false
 not_out d checked_out pid e = (may_be_checked_out d checked_out pid (live_process d.node.processes pid) e).0
 
-some_is : (a b : Origin) → Some a ≡ Some b → a ≡ b
-some_is a b e = cc e
-
 out_in : (d : Debugged) (checked_out : List CheckedOut) (pid : ℕ) (o : Origin) (q : Option Process) → live_process d.node.processes pid ≡ q → origin_in d pid q ≡ Some o
     → refusal_of d checked_out pid ≡ None → IsOut (delivered_if d pid (process_has_incoming q)) o
 out_in d checked_out pid o None there is may = absurd (cc is)
 out_in d checked_out pid o (Some p) there is may =
     let own : Origin = record { pid = pid; process = all_arrived p (has_any p.transit); passes = is_among pid d.passing; code = d.node.code; spots = d.spots } in
-    subst (IsOut (delivered_if d pid (has_any p.transit))) (some_is own o is)
+    subst (IsOut (delivered_if d pid (has_any p.transit))) (same_Some own o is)
     (is_out d pid p there own refl refl refl (may_be_checked_out d checked_out pid (live_process d.node.processes pid) may).1)
 
 pub handed_out : (d x : Debugged) (checked_out : List CheckedOut) (pid : ℕ) (o : Origin) (b : Bool) → origin_in d pid (live_process d.node.processes pid) ≡ Some o → refusal_of d checked_out pid ≡ None
@@ -165,7 +155,7 @@ finds_in : (d : Debugged) (pid : ℕ) (o : Origin) (q : Option Process) → live
 finds_in d pid o None there is framed = absurd (cc is)
 finds_in d pid o (Some p) there is framed =
     let own : Origin = record { pid = pid; process = all_arrived p (has_any p.transit); passes = is_among pid d.passing; code = d.node.code; spots = d.spots } in
-    subst (λ (z : Origin). AlwaysFinds z.code z.process) (some_is own o is) (arrived_or_not d pid p there (has_any p.transit) refl framed)
+    subst (λ (z : Origin). AlwaysFinds z.code z.process) (same_Some own o is) (arrived_or_not d pid p there (has_any p.transit) refl framed)
 
 pub origin_finds : (d : Debugged) (pid : ℕ) (o : Origin) → origin_in d pid (live_process d.node.processes pid) ≡ Some o → IsFramedNode d.node
     → AlwaysFinds o.code o.process

@@ -1,34 +1,21 @@
 -- The parts of a shared node still agree after each change.
-use Rattle.std.proofs.Common.{◌≡◌, ℕ, zero, suc, ◌+◌, ◌≤◌, ◌<◌, ◌-◌, ◌^◌, Bool, true, false, cond, List, [], ◌∷◌, ◌++◌, length, map, Option, Some, None, Ok, refl, sym, ap, subst, ◌∙◌, arith}
-use Rattle.std.specs.Prelude.{IfSome, min, slice_get}
-use Rattle.std.proofs.lemmas.List.{append-nil, length-append}
+use Rattle.std.proofs.Common.{◌≡◌, ℕ, zero, suc, ◌+◌, ◌≤◌, ◌<◌, ◌-◌, ◌^◌, Bool, true, false, cond, List, [], ◌∷◌, ◌++◌, length, map, Option, Some, None, Ok, refl, sym, ap, subst, ◌∙◌, arith, IfSome, min, slice_get, append-nil, length-append}
 use Rattle.std.proofs.lemmas.List.Elements.{All-append}
 use Rattle.beam_machine.specs.declared.debug.DebugEvent.{DebugEvent}
-use Rattle.beam_machine.specs.declared.debug.DebugEvent.TheVariants.{Node as NodeEvent}
 use Rattle.beam_machine.specs.declared.debug.DebugReply.{DebugReply}
-use Rattle.beam_machine.specs.declared.debug.DebugReply.TheVariants.{Node as NodeReply}
 use Rattle.beam_machine.specs.declared.event.Event.TheVariants.{Deliver}
 use Rattle.beam_machine.specs.declared.event.Reply.TheVariants.{Done}
-use Rattle.beam_model.specs.Listing.{Listing}
-use Rattle.beam_machine.specs.Debug.{Debugged, DebugNext, debug_next}
-use Rattle.beam_machine.specs.DebugRun.{debug_after, DebugAnswers}
-use Rattle.beam_machine.specs.Journal.{Entry, replay}
-use Rattle.beam_machine.specs.State.{live_process}
-use Rattle.beam_machine.specs.View.{View}
-use Rattle.beam_laws.specs.Debugger.{AreSpotsLive}
+use Rattle.beam_machine.specs.Prelude.{Debugged, DebugNext, debug_next, debug_after, DebugAnswers, Entry, replay, live_process, View}
+use Rattle.beam_machine.specs.declared.debug.DebugEvent.TheVariants.{Node as NodeEvent}
+use Rattle.beam_machine.specs.declared.debug.DebugReply.TheVariants.{Node as NodeReply}
+use Rattle.beam_model.specs.Prelude.{Listing}
+use Rattle.beam_laws.specs.Prelude.{AreSpotsLive, may_change, IsEarlierCode, Origin, IsOut}
 use Rattle.beam_journal.specs.Entering.{Journal, entry_of}
-use Rattle.beam_laws.specs.Changes.{may_change}
-use Rattle.beam_laws.specs.EarlierCode.{IsEarlierCode}
-use Rattle.beam_laws.specs.Origin.{Origin}
-use Rattle.beam_laws.specs.Out.{IsOut}
 use Rattle.beam_receipts.specs.Receipts.{History, AreOfGiven}
+use Rattle.beam_receipts.proofs.Moves.{slice_get_end}
 use Rattle.beam_shared.specs.declared.checked_out.CheckoutEntry.{CheckoutEntry}
-use Rattle.beam_shared.specs.Commands.{changes_after, context_after}
-use Rattle.beam_shared.specs.FinishedSlice.{CodeContext, context_of}
-use Rattle.beam_shared.specs.Node.{process_has_incoming, deliveries, delivered_if}
-use Rattle.beam_shared.specs.Refusals.{must_wait}
-use Rattle.beam_shared.specs.Invariant.{checked_out_of, node_of, context_in, IsHanded, AreHanded, NodeInvariant}
-use Rattle.beam_shared.proofs.Handed.{still_all, known_all, and_one, got_last}
+use Rattle.beam_shared.specs.Prelude.{changes_after, context_after, CodeContext, context_of, process_has_incoming, deliveries, delivered_if, must_wait, checked_out_of, node_of, context_in, IsHanded, AreHanded, NodeInvariant}
+use Rattle.beam_shared.proofs.Handed.{still_all, known_all, and_one}
 use Rattle.beam_shared.proofs.HandedOut.{done_now}
 use Rattle.beam_shared.proofs.Unchanged.{context_stays}
 
@@ -122,7 +109,7 @@ pub handed_entry : (x : Debugged) (changes : ℕ) (checkouts : List Origin) (ent
     → entry.changes ≡ changes → context_in x ≡ context_of o → IsHanded x changes (checkouts ++ o ∷ []) entry
 handed_entry x changes checkouts entry o serial own checked_out kin now context = record {
   origin = o;
-  handed_out = ap (slice_get (checkouts ++ o ∷ [])) serial ∙ got_last checkouts o;
+  handed_out = ap (slice_get (checkouts ++ o ∷ [])) serial ∙ slice_get_end checkouts o;
   own = own;
   is_out = checked_out;
   kin = kin;

@@ -1,17 +1,11 @@
 -- Numbers of instances in a state to which a journal leads.
-use Rattle.std.proofs.Common.{◌≡◌, List, [], ◌∷◌, refl, subst, arith}
-use Rattle.std.specs.Prelude.{map}
+use Rattle.std.proofs.Common.{◌≡◌, List, [], ◌∷◌, refl, subst, arith, map}
+use Rattle.beam_model.specs.Prelude.{Listing}
 use Rattle.beam_machine.specs.declared.event.Event.{Event}
-use Rattle.beam_model.specs.Listing.{Listing}
-use Rattle.beam_machine.specs.Debug.{Debugged, debug_run, erase, undisturbed}
-use Rattle.beam_machine.specs.Journal.{Entry, replay}
-use Rattle.beam_machine.specs.Next.{next}
-use Rattle.beam_machine.specs.Run.{run}
-use Rattle.beam_machine.specs.State.{State, empty}
-use Rattle.beam_laws.specs.Numbers.{Ordered}
+use Rattle.beam_machine.specs.Prelude.{Debugged, debug_run, erase, undisturbed, Entry, replay, next, run, State, empty}
+use Rattle.beam_laws.specs.Prelude.{Ordered, IsEarlierCode}
 use Rattle.beam_laws.proofs.Debugging.{run_erased}
 use Rattle.beam_laws.proofs.Numbering.{ordered_next}
-use Rattle.beam_laws.specs.EarlierCode.{IsEarlierCode}
 use Rattle.beam_laws.proofs.Kinship.{own_kin}
 
 abbrev IsOrdered : State → Type 0

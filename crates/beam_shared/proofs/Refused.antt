@@ -1,22 +1,16 @@
 -- Events that are refused change nothing, those of the debugger included.
 use Rattle.std.proofs.Common.{◌≡◌, ◌≢◌, ℕ, ◌&&◌, not, Bool, true, false, cond, Option, Some, None, Ok, Err, length, refl, sym, ap, ◌∙◌}
 use Rattle.beam_machine.specs.declared.debug.DebugEvent.{DebugEvent}
-use Rattle.beam_machine.specs.declared.debug.DebugEvent.TheVariants.{Node as NodeEvent, SetBreak, ClearBreak, Resume, StepOne, Inspect}
+use Rattle.beam_machine.specs.declared.debug.DebugEvent.TheVariants.{SetBreak, ClearBreak, Resume, StepOne, Inspect, Node as NodeEvent}
 use Rattle.beam_machine.specs.declared.debug.DebugReply.{DebugReply}
-use Rattle.beam_machine.specs.declared.event.Event.TheVariants as event
 use Rattle.beam_machine.specs.declared.event.Refused.{Refused}
 use Rattle.beam_machine.specs.declared.event.Refused.TheVariants.{NoMemory, NoProcess, NotReady, Stopped, BadSpot}
-use Rattle.beam_model.specs.Listing.{Listing}
-use Rattle.beam_model.specs.Place.{Place}
-use Rattle.beam_machine.specs.Debug.{Debugged, DebugNext, Halting, halting, halted, debug_steps, stepped, debug_step_one, debug_resume, debug_set, debug_clear, debug_inspect, place_named, refuses, replies, answered, is_among, debug_next}
-use Rattle.beam_machine.specs.DebugRun.{debug_cut_event, DebugAnswers}
-use Rattle.beam_machine.specs.Next.{Answer, Rows, next, steps}
-use Rattle.beam_machine.specs.Process.{Process, is_waiting}
-use Rattle.beam_machine.specs.State.{State, process_of, live_process}
-use Rattle.beam_machine.specs.View.{View}
+use Rattle.beam_machine.specs.Prelude.{Debugged, DebugNext, Halting, halting, halted, debug_steps, stepped, debug_step_one, debug_resume, debug_set, debug_clear, debug_inspect, place_named, refuses, replies, answered, is_among, debug_next, debug_cut_event, DebugAnswers, Answer, Rows, next, Process, is_waiting, State, process_of, live_process, View}
+use Rattle.beam_machine.specs.declared.event.Event.TheVariants as event
+use Rattle.beam_model.specs.Prelude.{Listing, Place}
+use Rattle.beam_machine.specs.Next.{steps}
 use Rattle.beam_shared.specs.declared.refusal.Refusal.TheVariants.{Node as OfNode}
-use Rattle.beam_shared.specs.Node.{Node}
-use Rattle.beam_shared.specs.Refusals.{must_wait, RefusesCommand}
+use Rattle.beam_shared.specs.Prelude.{Node, must_wait, RefusesCommand}
 
 abbrev Keeps : Debugged → DebugNext → Type 0
 Keeps d n = (r : Refused) → n.answer ≡ Err r → n.state ≡ d

@@ -1,16 +1,11 @@
 -- Why a process can't be checked out.
-use Rattle.std.proofs.Common.{◌≡◌, ℕ, ◌||◌, Bool, cond, List, map, Option, Some, None, ap, ◌∙◌}
-use Rattle.std.specs.Prelude.{is_some}
+use Rattle.std.proofs.Common.{◌≡◌, ℕ, ◌||◌, Bool, cond, List, map, Option, Some, None, ap, ◌∙◌, is_some}
 use Rattle.beam_machine.specs.declared.event.Refused.TheVariants.{NotReady, Stopped}
-use Rattle.beam_machine.specs.Debug.{Debugged, is_among}
-use Rattle.beam_machine.specs.Process.{Process, is_running}
-use Rattle.beam_machine.specs.State.{live_process}
+use Rattle.beam_machine.specs.Prelude.{Debugged, is_among, Process, is_running, live_process}
 use Rattle.beam_shared.specs.declared.checked_out.CheckoutEntry.{CheckoutEntry}
 use Rattle.beam_shared.specs.declared.refusal.Refusal.{Refusal}
 use Rattle.beam_shared.specs.declared.refusal.Refusal.TheVariants.{Node as OfNode, Busy}
-use Rattle.beam_shared.specs.Node.{has_any}
-use Rattle.beam_shared.specs.Refusals.{refusal_in, refusal_of}
-use Rattle.beam_shared.specs.Invariant.{checked_out_of, entry_of}
+use Rattle.beam_shared.specs.Prelude.{has_any, refusal_in, refusal_of, checked_out_of, entry_of}
 use Rattle.beam_shared.proofs.Entries.{is_found}
 
 abbrev pub by_tests : Bool → Bool → Bool → Option Refusal

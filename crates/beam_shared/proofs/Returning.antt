@@ -1,24 +1,14 @@
 -- A process that is checked in leaves the list of the processes that are checked out.
-use Rattle.std.proofs.Common.{◌≡◌, ◌≢◌, ℕ, zero, suc, ◌+◌, ◌-◌, ◌^◌, ◌<◌, ◌≤◌, ◌==◌, not, Bool, true, false, cond, List, [], ◌∷◌, ◌++◌, length, map, Option, Some, None, Ok, refl, sym, ap, subst, ◌∙◌, arith}
+use Rattle.std.proofs.Common.{◌≡◌, ◌≢◌, ℕ, zero, suc, ◌+◌, ◌-◌, ◌^◌, ◌<◌, ◌≤◌, ◌==◌, not, Bool, true, false, cond, List, [], ◌∷◌, ◌++◌, length, map, Option, Some, None, Ok, refl, sym, ap, subst, ◌∙◌, arith, is_some, min, option_map, slice_get}
 use Rattle.std.proofs.lemmas.Bool.Decides.{nat_tests}
-use Rattle.std.specs.Prelude.{is_some, min, option_map, slice_get}
 use Rattle.std.specs.List.{list_any}
 use Rattle.beam_machine.specs.declared.debug.DebugReply.{DebugReply}
-use Rattle.beam_machine.specs.Debug.{Debugged, DebugNext, debug_next}
-use Rattle.beam_machine.specs.DebugRun.{debug_after, debug_cut_event, DebugAnswers}
-use Rattle.beam_machine.specs.Journal.{replay}
-use Rattle.beam_machine.specs.Private.{Private}
-use Rattle.beam_machine.specs.View.{View}
-use Rattle.beam_laws.specs.Debugger.{AreSpotsLive}
+use Rattle.beam_machine.specs.Prelude.{Debugged, DebugNext, debug_next, debug_after, debug_cut_event, DebugAnswers, replay, Private, View}
+use Rattle.beam_laws.specs.Prelude.{AreSpotsLive, Origin}
 use Rattle.beam_journal.specs.Entering.{Journal, entry_of as entry_by}
-use Rattle.beam_laws.specs.Origin.{Origin}
 use Rattle.beam_receipts.specs.Receipts.{History}
 use Rattle.beam_shared.specs.declared.checked_out.CheckoutEntry.{CheckoutEntry}
-use Rattle.beam_shared.specs.Committing.{advanced, event_of, is_serial, checked_in, without_checkout}
-use Rattle.beam_shared.specs.FinishedSlice.{CodeContext}
-use Rattle.beam_shared.specs.Invariant.{checked_out_of, entry_of, node_of, AreHanded, IsHanded, NodeInvariant}
-use Rattle.beam_shared.specs.Node.{CheckedOut, serial_of}
-use Rattle.beam_shared.specs.Returned.{without_entry}
+use Rattle.beam_shared.specs.Prelude.{advanced, event_of, is_serial, checked_in, without_checkout, CodeContext, checked_out_of, entry_of, node_of, AreHanded, IsHanded, NodeInvariant, CheckedOut, serial_of, without_entry}
 use Rattle.beam_shared.proofs.Entries.{serial_in, serial_found, is_free}
 use Rattle.beam_shared.proofs.Keeping.{kept_after}
 

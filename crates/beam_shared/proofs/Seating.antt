@@ -1,13 +1,12 @@
 -- Seats whose numbers are noted one after another.
-use Rattle.std.proofs.Common.{◌≡◌, ℕ, zero, suc, ◌+◌, ◌≤◌, ◌<◌, nat_lt, Bool, true, false, List, length, Some, refl, sym, ap, subst, ◌∙◌, arith, get_or-set_other, ◌⊎◌, inl, inr, true≢false}
-use Rattle.std.specs.Prelude.{slice_get, replicate, slice_index_or as get_or, slice_set as set}
+use Rattle.std.proofs.Common.{◌≡◌, ℕ, zero, suc, ◌+◌, ◌≤◌, ◌<◌, nat_lt, Bool, true, false, List, length, Some, refl, sym, ap, subst, ◌∙◌, arith, get_or-set_other, ◌⊎◌, inl, inr, true≢false, slice_get, replicate, slice_index_or as get_or, slice_set as set, length-set}
 use Rattle.std.proofs.lemmas.Grind.{get_or-set_at}
-use Rattle.std.proofs.lemmas.Option.{slice_get_within, slice_get_read}
+use Rattle.std.proofs.lemmas.Option.{slice_get_within, slice_get_read, same_Some}
 use Rattle.std.proofs.lemmas.Bool.Decides.{nat_tests}
-use Rattle.std.proofs.lemmas.List.{length-set, length-replicate, set-get_or}
-use Rattle.beam_machine.specs.Journal.{Entry}
+use Rattle.std.proofs.lemmas.List.{length-replicate, set-get_or}
+use Rattle.beam_machine.specs.Prelude.{Entry}
 use Rattle.beam_receipts.specs.Receipts.{SeatHistory, of_seat}
-use Rattle.beam_shared.specs.Seats.{Agree, AreBelow, AreDistinct}
+use Rattle.beam_shared.specs.Prelude.{Agree, AreBelow, AreDistinct}
 
 -- the numbers of the first seats are noted; each is there once, was given, and its seat keeps exactly the journal's entries of that number
 pub record AreNoted (given : ℕ) (journal : List Entry) (seats : List SeatHistory) (seen : List Bool) (at : ℕ) : Type 0 where
@@ -39,15 +38,12 @@ compared m n = by (nat_lt m n) (nat_lt n m) refl refl
     by false true e f = other (grind (arith, nat_tests, f))
     by false false e f = same (grind (arith, nat_tests, e, f))
 
-some_is : (t s : SeatHistory) → Some t ≡ Some s → t ≡ s
-some_is t s e = cc e
-
 -- ---- one more seat
 
 module _ (given : ℕ) (journal : List Entry) (seats : List SeatHistory) (seen : List Bool) (at : ℕ) (s : SeatHistory) (h : AreNoted given journal seats seen at) (here : slice_get seats at ≡ Some s)
     (few : s.number < 4096) (free : get_or seen s.number false ≡ false) where
   is_one : (t : SeatHistory) (i : ℕ) → i ≡ at → slice_get seats i ≡ Some t → t ≡ s
-  is_one t i e found = some_is t s (sym found ∙ (ap (slice_get seats) e ∙ here))
+  is_one t i e found = same_Some t s (sym found ∙ (ap (slice_get seats) e ∙ here))
 
   own_noted : (n : ℕ) → n ≡ s.number → get_or (set seen s.number true) n false ≡ true
   own_noted n one =

@@ -1,13 +1,11 @@
 -- If all seats are there, each once, together they keep as many commands as the journal has.
-use Rattle.std.proofs.Common.{◌≡◌, ◌≢◌, ℕ, zero, suc, ◌+◌, ◌≤◌, ◌<◌, List, [], ◌∷◌, length, Bool, true, false, cond, eqb, eq-eqb, ne_eqb, Some, refl, sym, ap, subst, ◌∙◌, arith}
-use Rattle.std.specs.Prelude.{slice_get, sum_by}
+use Rattle.std.proofs.Common.{◌≡◌, ◌≢◌, ℕ, zero, suc, ◌+◌, ◌≤◌, ◌<◌, List, [], ◌∷◌, length, Bool, true, false, cond, eqb, eq-eqb, ne_eqb, Some, refl, sym, ap, subst, ◌∙◌, arith, slice_get, sum_by}
 use Rattle.std.proofs.lemmas.List.Sums.{sum_by-cons}
 use mathlib.Core.Logic.{dite}
 use native.Mathlib.Decide.{ℕ_discrete}
 use Rattle.beam_receipts.specs.Receipts.{AreOfGiven, SeatHistory, sum_below}
-use Rattle.beam_receipts.proofs.Counts.{counts}
-use Rattle.beam_shared.specs.Node.{Node}
-use Rattle.beam_shared.specs.Seats.{Agree, AreAll, AreBelow, AreDistinct, commands_in, commands_kept, commands_of}
+use Rattle.beam_receipts.proofs.Counts.{counts, zeros}
+use Rattle.beam_shared.specs.Prelude.{Node, Agree, AreAll, AreBelow, AreDistinct, commands_in, commands_kept, commands_of}
 
 -- ---- sums over the first numbers
 
@@ -29,10 +27,6 @@ each_is_one f (suc n) few all k less =
     dite (ℕ_discrete k n)
     (λ (same : k ≡ n). ap f same ∙ omega (arith, all, few n, no_more f n few))
     (λ (apart : k ≢ n). each_is_one f n few (omega (arith, all, few n, no_more f n few)) k (omega (arith, less, apart)))
-
-nothing : (n : ℕ) → sum_below (λ _. 0) n ≡ 0
-nothing zero = refl
-nothing (suc n) = omega (arith, nothing n)
 
 two_sums : (f g : ℕ → ℕ) (n : ℕ) → sum_below (λ k. f k + g k) n ≡ sum_below f n + sum_below g n
 two_sums f g zero = refl
@@ -79,7 +73,7 @@ once w m (suc n) less =
 
 -- the weights of all seats, summed by their numbers
 spread : (w : ℕ → ℕ) (n : ℕ) (seats : List SeatHistory) → AreBelow n seats → sum_below (λ k. weight_at w k seats) n ≡ sum_by (λ s. w s.number) seats
-spread w n [] below = nothing n
+spread w n [] below = zeros n
 spread w n (s ∷ rest) below =
     let cons : sum_below (λ k. weight_at w k (s ∷ rest)) n ≡ sum_below (λ k. cond (eqb s.number k) (w k) 0 + weight_at w k rest) n
     = same_below (λ k. weight_at w k (s ∷ rest)) (λ k. cond (eqb s.number k) (w k) 0 + weight_at w k rest) n (λ k _. weight_cons w k s rest) in

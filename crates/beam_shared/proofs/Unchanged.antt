@@ -1,19 +1,16 @@
 -- Events that are of neither code nor break spots leave both.
 use Rattle.std.proofs.Common.{◌≡◌, false, Ok, refl, sym, ap, ◌∙◌}
 use Rattle.beam_machine.specs.declared.debug.DebugEvent.{DebugEvent}
-use Rattle.beam_machine.specs.declared.debug.DebugEvent.TheVariants.{Node as NodeEvent}
 use Rattle.beam_machine.specs.declared.debug.DebugReply.{DebugReply}
+use Rattle.beam_machine.specs.declared.event.Reply.TheVariants.{Ran}
+use Rattle.beam_machine.specs.Prelude.{Debugged, DebugNext, debug_next, debug_cut_event, DebugAnswers, View}
+use Rattle.beam_machine.specs.declared.debug.DebugEvent.TheVariants.{Node as NodeEvent}
 use Rattle.beam_machine.specs.declared.debug.DebugReply.TheVariants.{Node}
 use Rattle.beam_machine.specs.declared.event.Event.TheVariants as event
-use Rattle.beam_machine.specs.declared.event.Reply.TheVariants.{Ran}
-use Rattle.beam_model.specs.Listing.{Listing}
-use Rattle.beam_machine.specs.Debug.{Debugged, DebugNext, debug_next}
-use Rattle.beam_machine.specs.DebugRun.{debug_cut_event, DebugAnswers}
-use Rattle.beam_machine.specs.View.{View}
-use Rattle.beam_laws.specs.Debugger.{AreSpotsLive}
-use Rattle.beam_laws.specs.Changes.{may_change}
+use Rattle.beam_model.specs.Prelude.{Listing}
+use Rattle.beam_laws.specs.Prelude.{AreSpotsLive, may_change}
 use Rattle.beam_laws.proofs.Unchanging.{code_stays, spots_stay}
-use Rattle.beam_shared.specs.Invariant.{context_in}
+use Rattle.beam_shared.specs.Prelude.{context_in}
 
 cut_changes : (e : DebugEvent Listing) (reply : DebugReply View) → may_change (debug_cut_event e (Ok reply)) ≡ may_change e
 cut_changes (NodeEvent (event.Steps at n)) (Node (Ran count after)) = refl

@@ -1,10 +1,10 @@
 -- Which events of the node change code, and what they do to the shared copy of it. (This node's own.)
 use Rattle.std.specs.Prelude.{ℕ, ◌+◌, Bool, if◌then◌else◌, Option, None}
 use Rattle.beam_machine.specs.declared.debug.DebugEvent.TheVariants.{Node as NodeEvent}
+use Rattle.beam_model.specs.Prelude.{Listing}
 use Rattle.beam_machine.specs.declared.debug.DebugEvent.{DebugEvent}
 use Rattle.beam_machine.specs.declared.event.Event.{Event}
-use Rattle.beam_model.specs.Listing.{Listing}
-use Rattle.beam_laws.specs.Changes.{may_change}
+use Rattle.beam_laws.specs.Prelude.{may_change}
 use Rattle.beam_shared.specs.FinishedSlice.{CodeContext}
 
 abbrev pub is_of_code : Event Listing → Bool

@@ -1,16 +1,12 @@
 -- Rows of a process that was checked out are committed: they take effect in the node, as one event of its journal. (This node's own.)
 use Rattle.std.specs.Prelude.{◌≡◌, ◌≢◌, ◌≤◌, ℕ, ◌==◌, not, Bool, true, false, List, [], ◌∷◌, ◌++◌, filter, length, slice_get, Option, Some, None, is_some, Ok}
 use Rattle.beam_machine.specs.declared.debug.DebugEvent.{DebugEvent}
-use Rattle.beam_machine.specs.declared.debug.DebugEvent.TheVariants.{Node as NodeEvent}
 use Rattle.beam_machine.specs.declared.debug.DebugReply.{DebugReply}
 use Rattle.beam_machine.specs.declared.event.Event.TheVariants.{Steps}
-use Rattle.beam_machine.specs.Debug.{debug_next}
-use Rattle.beam_machine.specs.Private.{Private}
-use Rattle.beam_machine.specs.State.{live_process}
-use Rattle.beam_machine.specs.View.{View}
-use Rattle.beam_model.specs.Listing.{Listing}
-use Rattle.beam_laws.specs.Origin.{Origin}
-use Rattle.beam_laws.specs.Slice.{slice_of, rows_of_event}
+use Rattle.beam_machine.specs.Prelude.{debug_next, Private, live_process, View}
+use Rattle.beam_machine.specs.declared.debug.DebugEvent.TheVariants.{Node as NodeEvent}
+use Rattle.beam_model.specs.Prelude.{Listing}
+use Rattle.beam_laws.specs.Prelude.{Origin, slice_of, rows_of_event}
 use Rattle.beam_core.specs.Installing.{AreQuiet}
 use Rattle.beam_shared.specs.declared.drop_reason.DropReason.{DropReason}
 use Rattle.beam_shared.specs.declared.drop_reason.DropReason.TheVariants.{Stranger, Gone, StaleCode, JournalFull, NoMemory}

@@ -1,17 +1,15 @@
 -- Rows of a process that is checked out, which are to be committed. (This node's own.)
 use Rattle.std.specs.Prelude.{◌≡◌, ◌≢◌, ℕ, Bool, true, false, List, Option, Some, None}
-use Rattle.beam_model.specs.Place.{Place}
 use Rattle.beam_machine.specs.declared.action.Action.{Action}
-use Rattle.beam_machine.specs.declared.action.Action.TheVariants.{Messaging}
-use Rattle.beam_machine.specs.declared.action.Messaging.{Messaging as TheMessaging}
 use Rattle.beam_machine.specs.declared.action.Messaging.TheVariants.{WaitTimeout}
 use Rattle.beam_machine.specs.declared.action.Step.{Step}
-use Rattle.beam_machine.specs.declared.process.Goes.{Goes}
 use Rattle.beam_machine.specs.declared.process.Goes.TheVariants.{At}
-use Rattle.beam_machine.specs.Code.{Code, step_of}
-use Rattle.beam_machine.specs.Private.{Private, End, before_node_row}
-use Rattle.beam_machine.specs.Process.{Process, is_ended}
-use Rattle.beam_laws.specs.Origin.{Origin}
+use Rattle.beam_machine.specs.Prelude.{Code, step_of, Private, End, before_node_row, Process, is_ended}
+use Rattle.beam_model.specs.Prelude.{Place}
+use Rattle.beam_machine.specs.declared.action.Action.TheVariants.{Messaging}
+use Rattle.beam_machine.specs.declared.action.Messaging.{Messaging as TheMessaging}
+use Rattle.beam_machine.specs.declared.process.Goes.{Goes}
+use Rattle.beam_laws.specs.Prelude.{Origin}
 use Rattle.beam_receipts.specs.Receipts.{Checkout}
 use Rattle.beam_step.specs.Slices.{Slice, RowsComeTo, capped}
 

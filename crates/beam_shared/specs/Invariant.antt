@@ -1,13 +1,10 @@
 -- What a shared node keeps, and how its parts agree. (This node's own.)
 use Rattle.std.specs.Prelude.{◌≡◌, ◌<◌, ◌≤◌, ℕ, ◌==◌, List, [], ◌∷◌, length, map, slice_get, Option, Some, None, IfSome, if◌then◌else◌}
 use Rattle.std.specs.List.{AllByRecursion}
-use Rattle.beam_machine.specs.Debug.{Debugged}
-use Rattle.beam_machine.specs.Journal.{replay}
-use Rattle.beam_debug.specs.Debugger.{Debugger}
+use Rattle.beam_machine.specs.Prelude.{Debugged, replay}
+use Rattle.beam_debug.specs.Prelude.{Debugger}
 use Rattle.beam_journal.specs.Entering.{Journal}
-use Rattle.beam_laws.specs.EarlierCode.{IsEarlierCode}
-use Rattle.beam_laws.specs.Origin.{Origin}
-use Rattle.beam_laws.specs.Out.{IsOut}
+use Rattle.beam_laws.specs.Prelude.{IsEarlierCode, Origin, IsOut}
 use Rattle.beam_receipts.specs.Receipts.{History, AreOfGiven}
 use Rattle.beam_step.specs.Slices.{Work}
 use Rattle.beam_shared.specs.declared.checked_out.CheckoutEntry.{CheckoutEntry}

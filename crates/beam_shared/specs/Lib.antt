@@ -6,3 +6,4 @@ pub mod Seats
 pub mod Commands
 pub mod Returned
 pub mod Committing
+pub mod Prelude

@@ -1,21 +1,15 @@
 -- A node that threads share, as it is under its lock. (This node's own.)
 use Rattle.std.specs.Prelude.{ℕ, ◌==◌, not, if◌then◌else◌, Bool, true, false, List, [], ◌∷◌, ◌++◌, length, Option, Some, None, Ok}
 use Rattle.beam_machine.specs.declared.debug.DebugEvent.{DebugEvent}
-use Rattle.beam_machine.specs.declared.debug.DebugEvent.TheVariants.{Node as NodeEvent}
 use Rattle.beam_machine.specs.declared.debug.DebugReply.{DebugReply}
-use Rattle.beam_machine.specs.declared.debug.DebugReply.TheVariants.{Node as NodeReply}
 use Rattle.beam_machine.specs.declared.event.Event.TheVariants.{Deliver}
 use Rattle.beam_machine.specs.declared.event.Reply.TheVariants.{Done}
 use Rattle.beam_machine.specs.declared.process.Signal.{Signal}
-use Rattle.beam_machine.specs.Debug.{Debugged, is_among, debug_next, undisturbed}
-use Rattle.beam_machine.specs.DebugRun.{debug_after}
-use Rattle.beam_machine.specs.Journal.{Entry}
-use Rattle.beam_machine.specs.Next.{delivered}
-use Rattle.beam_machine.specs.Process.{Process}
-use Rattle.beam_machine.specs.State.{empty, live_process}
-use Rattle.beam_machine.specs.View.{View}
-use Rattle.beam_model.specs.Listing.{Listing}
-use Rattle.beam_laws.specs.Origin.{Origin}
+use Rattle.beam_machine.specs.Prelude.{Debugged, is_among, debug_next, undisturbed, debug_after, Entry, delivered, Process, empty, live_process, View}
+use Rattle.beam_machine.specs.declared.debug.DebugEvent.TheVariants.{Node as NodeEvent}
+use Rattle.beam_machine.specs.declared.debug.DebugReply.TheVariants.{Node as NodeReply}
+use Rattle.beam_model.specs.Prelude.{Listing}
+use Rattle.beam_laws.specs.Prelude.{Origin}
 use Rattle.beam_journal.specs.Entering.{entry_of}
 
 -- a process that is checked out, to be run apart from the node, and the number of its checkout

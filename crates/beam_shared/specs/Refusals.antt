@@ -1,14 +1,11 @@
 -- Which calls of a shared node are refused, and why. (This node's own.)
 use Rattle.std.specs.Prelude.{◌≡◌, ◌≢◌, ℕ, ◌-◌, ◌^◌, ◌||◌, Bool, true, false, if◌then◌else◌, List, length, Option, Some, None, is_some, Err}
 use Rattle.std.specs.List.{list_any}
+use Rattle.beam_model.specs.Prelude.{Listing}
 use Rattle.beam_machine.specs.declared.debug.DebugEvent.{DebugEvent}
 use Rattle.beam_machine.specs.declared.event.Refused.TheVariants.{NoMemory, NoProcess, NotReady, Stopped, TooMany}
-use Rattle.beam_model.specs.Listing.{Listing}
-use Rattle.beam_machine.specs.Debug.{Debugged, debug_next, is_among}
-use Rattle.beam_machine.specs.Process.{Process, is_running}
-use Rattle.beam_machine.specs.Refusal.{number_of_refusal as number_of_refused}
-use Rattle.beam_machine.specs.State.{live_process}
-use Rattle.beam_laws.specs.Out.{is_busy}
+use Rattle.beam_machine.specs.Prelude.{Debugged, debug_next, is_among, Process, is_running, number_of_refusal as number_of_refused, live_process}
+use Rattle.beam_laws.specs.Prelude.{is_busy}
 use Rattle.beam_shared.specs.declared.refusal.Refusal.{Refusal}
 use Rattle.beam_shared.specs.declared.refusal.Refusal.TheVariants.{Node as OfNode, Busy, JournalFull}
 use Rattle.beam_shared.specs.Node.{Node, CheckedOut, serial_of, has_any, has_incoming}

@@ -1,8 +1,8 @@
 -- What the node's code compares and keeps when a process is checked in. (This node's own.)
 use Rattle.std.specs.Prelude.{ℕ, ◌==◌, not, ◌&&◌, Bool, List, filter}
 use Rattle.std.specs.Cmp.Lexicographic.{pointwise}
-use Rattle.beam_model.specs.Place.{Place, is_same_place}
-use Rattle.beam_machine.specs.Debug.{Debugged}
+use Rattle.beam_machine.specs.Prelude.{Debugged}
+use Rattle.beam_model.specs.Prelude.{Place, is_same_place}
 use Rattle.beam_codesrv.specs.Numbers.{same_numbers}
 use Rattle.beam_shared.specs.declared.checked_out.CheckoutEntry.{CheckoutEntry}
 use Rattle.beam_shared.specs.FinishedSlice.{CodeContext}

@@ -1,6 +1,6 @@
 -- The seats of a shared node, and what they add up to. (This node's own.)
 use Rattle.std.specs.Prelude.{◌≡◌, ◌<◌, ℕ, List, length, count_by, is_some, slice_get, sum_by, Some}
-use Rattle.beam_machine.specs.Journal.{Entry}
+use Rattle.beam_machine.specs.Prelude.{Entry}
 use Rattle.beam_receipts.specs.Receipts.{AreOfGiven, SeatHistory, of_seat, sum_below}
 use Rattle.beam_shared.specs.Node.{Node}
 

@@ -2,14 +2,11 @@
 use Rattle.std.proofs.Common.{◌≡◌, ℕ, ◌+◌, true, false, List, [], ◌∷◌, length, take, Option, Some, None, option_map, refl, ap, sym, ◌∙◌, arith}
 use Rattle.beam_machine.specs.declared.process.Frame.{Frame}
 use Rattle.beam_machine.specs.declared.process.Slot.{Slot}
+use Rattle.beam_machine.specs.Prelude.{words_in, words_of, tag_in, tag_of}
 use Rattle.beam_machine.specs.declared.process.Slot.TheVariants as slot
 use Rattle.beam_machine.specs.declared.process.Tag.{Tag}
-use Rattle.beam_machine.specs.Process.{words_in, words_of}
-use Rattle.beam_machine.specs.Row.{tag_in, tag_of}
-use Rattle.beam_stack.specs.Word.{Word}
+use Rattle.beam_stack.specs.Prelude.{Word, older_than, first_tag, this_or, with_one, grown, grown_by, frames_of, IsStack, tag_of_word, slots_with}
 use Rattle.beam_stack.specs.Word as word
-use Rattle.beam_stack.specs.Frames.{older_than, first_tag, this_or}
-use Rattle.beam_stack.specs.Words.{with_one, grown, grown_by, frames_of, IsStack, tag_of_word, slots_with}
 use Rattle.beam_stack.proofs.Grown.{by_words, grown_words}
 use Rattle.beam_stack.proofs.Tops.{IsPopped, popped}
 

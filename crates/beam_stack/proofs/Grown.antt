@@ -3,13 +3,10 @@ use Rattle.std.proofs.Common.{◌≡◌, ℕ, ◌+◌, ◌-◌, ◌≤◌, Bool,
 use Rattle.std.specs.List.{list_any}
 use Rattle.beam_machine.specs.declared.process.Frame.{Frame}
 use Rattle.beam_machine.specs.declared.process.Slot.{Slot}
+use Rattle.beam_machine.specs.Prelude.{is_place_in, is_tag_in, has_tag_in, is_frame_in, words_in, words_of, with_y}
 use Rattle.beam_machine.specs.declared.process.Slot.TheVariants as slot
-use Rattle.beam_machine.specs.Change.{is_place_in, is_tag_in, has_tag_in, is_frame_in}
-use Rattle.beam_machine.specs.Process.{words_in, words_of, with_y}
-use Rattle.beam_stack.specs.Word.{Word}
+use Rattle.beam_stack.specs.Prelude.{Word, newest_y, count_in, y_count, with_slot, older_than, with_one, grown, grown_by, frames_of, is_linked, are_linked, word_of, is_word_in}
 use Rattle.beam_stack.specs.Word as word
-use Rattle.beam_stack.specs.Frames.{newest_y, count_in, y_count, with_slot, older_than}
-use Rattle.beam_stack.specs.Words.{with_one, grown, grown_by, frames_of, is_linked, are_linked, word_of, is_word_in}
 
 -- ---- one more word
 

@@ -1,19 +1,15 @@
 -- Changes of the newest frame's head, and new heads.
-use Rattle.std.proofs.Common.{◌≡◌, ℕ, zero, suc, ◌+◌, ◌-◌, ◌<◌, Bool, true, false, ◌==◌, List, [], ◌∷◌, ◌++◌, length, take, drop, replicate, Option, Some, None, refl, ap, sym, ◌∙◌, subst, arith, take_at, drop_at, append_assoc, length-append}
-use Rattle.std.proofs.lemmas.Bool.{false≢true, eq-eqb}
-use Rattle.std.proofs.lemmas.List.{same_from_push, length_push, take_rest, length-replicate, length-append}
-use Rattle.beam_model.specs.Place.{Place}
-use Rattle.beam_term.specs.TermValue.{TermValue}
+use Rattle.std.proofs.Common.{◌≡◌, ℕ, zero, suc, ◌+◌, ◌-◌, ◌<◌, Bool, true, false, ◌==◌, List, [], ◌∷◌, ◌++◌, length, take, drop, replicate, Option, Some, None, refl, ap, sym, ◌∙◌, subst, arith, take_at, drop_at, append_assoc, length-append, eq-eqb}
+use Rattle.std.proofs.lemmas.Bool.{false≢true}
+use Rattle.std.proofs.lemmas.List.{same_from_push, length_push, take_rest, length-replicate}
 use Rattle.beam_machine.specs.declared.process.Frame.{Frame}
 use Rattle.beam_machine.specs.declared.process.Slot.{Slot}
+use Rattle.beam_machine.specs.Prelude.{words_of, with_y, tag_in, tag_of, slots_of}
+use Rattle.beam_term.specs.Prelude.{TermValue}
+use Rattle.beam_model.specs.Prelude.{Place}
 use Rattle.beam_machine.specs.declared.process.Slot.TheVariants as slot
-use Rattle.beam_machine.specs.Process.{words_of, with_y}
-use Rattle.beam_machine.specs.Row.{tag_in, tag_of}
-use Rattle.beam_machine.specs.View.{slots_of}
-use Rattle.beam_stack.specs.Word.{Word}
+use Rattle.beam_stack.specs.Prelude.{Word, newest_y, y_count, is_bare, frames_of, are_linked, IsStack, slots_with, marked}
 use Rattle.beam_stack.specs.Word as word
-use Rattle.beam_stack.specs.Frames.{newest_y, y_count, is_bare}
-use Rattle.beam_stack.specs.Words.{frames_of, are_linked, IsStack, slots_with, marked}
 use Rattle.beam_stack.proofs.Grown.{one_more}
 use Rattle.beam_stack.proofs.Tops.{are_y, frame_with, frames_top, by_top, stack_of, none_after, linked_parts}
 

@@ -1,11 +1,10 @@
 -- Lists of words.
-use Rattle.std.proofs.Common.{◌≡◌, ◌==◌, ℕ, zero, suc, false, ◌+◌, ◌-◌, ◌<◌, ◌≤◌, List, [], ◌∷◌, ◌++◌, length, replicate, take, length-take, Option, Some, None, get_or, slice_set, refl, ap, ◌∙◌, arith}
-use Rattle.std.proofs.lemmas.List.{replicate_more, append_assoc, length_push}
+use Rattle.std.proofs.Common.{◌≡◌, ◌==◌, ℕ, zero, suc, false, ◌+◌, ◌-◌, ◌<◌, ◌≤◌, List, [], ◌∷◌, ◌++◌, length, replicate, take, length-take, Option, Some, None, get_or, slice_set, refl, ap, ◌∙◌, arith, append_assoc}
+use Rattle.std.proofs.lemmas.List.{replicate_more, length_push}
 use Rattle.beam_machine.specs.declared.process.Slot.{Slot}
 use Rattle.beam_machine.specs.declared.process.Slot.TheVariants as slot
-use Rattle.beam_stack.specs.Word.{Word}
+use Rattle.beam_stack.specs.Prelude.{Word, slots_with, slot_in}
 use Rattle.beam_stack.specs.Word as word
-use Rattle.beam_stack.specs.Words.{slots_with, slot_in}
 
 -- one more equal word at the end
 pub one_more_of : (words : List Word) (n : ℕ) (w : Word) → (words ++ replicate n w) ++ w ∷ [] ≡ words ++ replicate (n + 1) w

@@ -1,17 +1,14 @@
 -- The facts that the newest frame's head holds.
-use Rattle.std.proofs.Common.{◌≡◌, ℕ, zero, suc, Bool, true, false, not, ◌==◌, ◌&&◌, ◌||◌, nat_lt, if◌then◌else◌, List, [], ◌∷◌, ◌++◌, length, Option, Some, None, is_some, slice_get, refl, ap, sym, ◌∙◌, rules}
-use Rattle.std.proofs.lemmas.Bool.{eqb-true}
+use Rattle.std.proofs.Common.{◌≡◌, ℕ, zero, suc, Bool, true, false, not, ◌==◌, ◌&&◌, ◌||◌, nat_lt, if◌then◌else◌, List, [], ◌∷◌, ◌++◌, length, Option, Some, None, is_some, slice_get, refl, ap, sym, ◌∙◌, rules, eqb-true}
 use Rattle.std.proofs.lemmas.Option.{none-some}
 use Rattle.std.proofs.Math.Bool.{and-true}
-use Rattle.beam_model.specs.Place.{Place}
 use Rattle.beam_machine.specs.declared.process.Frame.{Frame}
 use Rattle.beam_machine.specs.declared.process.Slot.{Slot}
-use Rattle.beam_machine.specs.Process.{words_of}
+use Rattle.beam_machine.specs.Prelude.{words_of}
+use Rattle.beam_model.specs.Prelude.{Place}
 use Rattle.beam_stack.specs.declared.word.Head.{Head}
-use Rattle.beam_stack.specs.Word.{Word}
+use Rattle.beam_stack.specs.Prelude.{Word, newest_y, count_in, y_count, drops, is_bare, back_of, newest_back, head_of, frames_of, are_linked, IsStack, slots_with, head_in}
 use Rattle.beam_stack.specs.Word as word
-use Rattle.beam_stack.specs.Frames.{newest_y, count_in, y_count, drops, is_bare, back_of, newest_back, head_of}
-use Rattle.beam_stack.specs.Words.{frames_of, are_linked, IsStack, slots_with, head_in}
 use Rattle.beam_stack.proofs.Tops.{are_y, by_top, frame_with, frames_top, get_at, linked_parts}
 
 abbrev pub flag_in : Option Head → Bool

@@ -5,12 +5,10 @@ use Rattle.std.proofs.lemmas.Option.{none-some}
 use Rattle.std.proofs.lemmas.List.{set_at, set-append_left, take-append-le}
 use Rattle.beam_machine.specs.declared.process.Frame.{Frame}
 use Rattle.beam_machine.specs.declared.process.Slot.{Slot}
+use Rattle.beam_machine.specs.Prelude.{words_of, value_in, read_slots, with_y}
 use Rattle.beam_machine.specs.declared.process.Slot.TheVariants as slot
-use Rattle.beam_machine.specs.Process.{words_of, value_in, read_slots, with_y}
-use Rattle.beam_stack.specs.Word.{Word}
+use Rattle.beam_stack.specs.Prelude.{Word, newest_y, count_in, y_count, slot_at, with_slot, older_than, with_one, grown, frames_of, is_linked, are_linked, IsStack, word_of, slot_in}
 use Rattle.beam_stack.specs.Word as word
-use Rattle.beam_stack.specs.Frames.{newest_y, count_in, y_count, slot_at, with_slot, older_than}
-use Rattle.beam_stack.specs.Words.{with_one, grown, frames_of, is_linked, are_linked, IsStack, word_of, slot_in}
 use Rattle.beam_stack.proofs.Grown.{one_more, grown_slot, by_words, count_frames, older_with, words_dropped, words_set, linked_append}
 use Rattle.beam_stack.proofs.Tops.{get_at}
 

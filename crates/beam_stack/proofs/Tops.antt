@@ -1,16 +1,14 @@
 -- The newest frame of a stack: its head, and the words after it.
-use Rattle.std.proofs.Common.{◌≡◌, ℕ, suc, ◌+◌, ◌-◌, Bool, true, false, ◌&&◌, ◌==◌, if◌then◌else◌, ◌⊎◌, inl, inr, List, [], ◌∷◌, ◌++◌, length, take, Option, Some, None, slice_get, refl, ap, sym, ◌∙◌, subst, arith, length-append, take_at}
-use Rattle.std.proofs.lemmas.Bool.{false≢true, and_parts, and_from, eqb-true}
+use Rattle.std.proofs.Common.{◌≡◌, ℕ, suc, ◌+◌, ◌-◌, Bool, true, false, ◌&&◌, ◌==◌, if◌then◌else◌, ◌⊎◌, inl, inr, List, [], ◌∷◌, ◌++◌, length, take, Option, Some, None, slice_get, refl, ap, sym, ◌∙◌, subst, arith, length-append, take_at, eqb-true}
+use Rattle.std.proofs.lemmas.Bool.{false≢true, and_parts, and_from}
 use Rattle.std.proofs.lemmas.List.{nil_from_length}
-use Rattle.beam_model.specs.Place.{Place}
 use Rattle.beam_machine.specs.declared.process.Frame.{Frame}
 use Rattle.beam_machine.specs.declared.process.Slot.{Slot}
+use Rattle.beam_machine.specs.Prelude.{words_in, words_of}
+use Rattle.beam_model.specs.Prelude.{Place}
 use Rattle.beam_machine.specs.declared.process.Slot.TheVariants as slot
-use Rattle.beam_machine.specs.Process.{words_in, words_of}
-use Rattle.beam_stack.specs.Word.{Word}
+use Rattle.beam_stack.specs.Prelude.{Word, y_count, older_than, grown, grown_by, frames_of, are_linked, IsStack, slots_with, below_in}
 use Rattle.beam_stack.specs.Word as word
-use Rattle.beam_stack.specs.Frames.{y_count, older_than}
-use Rattle.beam_stack.specs.Words.{grown, grown_by, frames_of, are_linked, IsStack, slots_with, below_in}
 use Rattle.beam_stack.proofs.Grown.{by_append, by_words, linked_append, older_words}
 
 -- ---- the words of one frame

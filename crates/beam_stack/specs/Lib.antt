@@ -1,3 +1,4 @@
 pub mod Frames
 pub mod Word
 pub mod Words
+pub mod Prelude

@@ -1,7 +1,7 @@
 -- A word of a stack.
 use Rattle.std.specs.Prelude.{ℕ, Bool, Option, Some, None}
-use Rattle.beam_term.specs.TermValue.{TermValue}
-use Rattle.beam_model.specs.Place.{Place}
+use Rattle.beam_model.specs.Prelude.{Place}
+use Rattle.beam_term.specs.Prelude.{TermValue}
 use Rattle.beam_machine.specs.declared.process.Tag.{Tag as CatchTag}
 use Rattle.beam_stack.specs.declared.word.PackedWord.{PackedWord}
 use Rattle.beam_stack.specs.declared.word.PackedWord.TheVariants as inside

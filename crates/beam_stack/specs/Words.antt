@@ -2,11 +2,10 @@
 use Rattle.std.specs.Prelude.{◌≡◌, ◌==◌, ◌&&◌, ℕ, Bool, true, false, if◌then◌else◌, List, [], ◌∷◌, length, Option, Some, None, option_map}
 use Rattle.beam_machine.specs.declared.process.Frame.{Frame}
 use Rattle.beam_machine.specs.declared.process.Slot.{Slot}
+use Rattle.beam_machine.specs.Prelude.{is_in, is_place_in, words_of, with_y}
 use Rattle.beam_machine.specs.declared.process.Slot.TheVariants as slot
 use Rattle.beam_machine.specs.declared.process.Tag.{Tag as CatchTag}
-use Rattle.beam_machine.specs.Change.{is_in, is_place_in}
-use Rattle.beam_machine.specs.Process.{words_of, with_y}
-use Rattle.beam_term.specs.TermValue.{int_term, nil_term}
+use Rattle.beam_term.specs.Prelude.{int_term, nil_term}
 use Rattle.beam_stack.specs.declared.word.Head.{Head}
 use Rattle.beam_stack.specs.Word.{Word}
 use Rattle.beam_stack.specs.Word as word

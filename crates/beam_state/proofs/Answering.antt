@@ -1,28 +1,22 @@
 -- The node's answers to a message and to a native for which a process asks.
-use Rattle.std.proofs.Common.{◌≡◌, ℕ, zero, suc, ◌+◌, ◌-◌, ◌<◌, true, false, cond, nat_lt, List, [], ◌∷◌, length, slice_get, get_or, refl, sym, ap, ◌∙◌, arith, Result, Ok}
+use Rattle.std.proofs.Common.{◌≡◌, ℕ, zero, suc, ◌+◌, ◌-◌, ◌<◌, false, List, [], ◌∷◌, length, slice_get, get_or, refl, sym, ap, ◌∙◌, arith, Result, Ok, Option, Some, None, option_map, unwrap_or}
 use Rattle.std.proofs.Math.ListN.{set}
-use Rattle.std.proofs.lemmas.Bool.Decides.{nat_tests}
-use Rattle.std.proofs.lemmas.Option.{slice_get_within}
-use Rattle.std.specs.Prelude.{Option, Some, None, option_map, unwrap_or}
-use Rattle.beam_term.specs.TermValue.{TermValue}
+use Rattle.std.proofs.lemmas.Option.{slice_get_within, same_Some}
+use Rattle.beam_model.specs.declared.exception.Fault.{Fault}
+use Rattle.beam_model.specs.declared.native.NodeNative.{NodeNative}
+use Rattle.beam_model.specs.Prelude.{Place}
 use Rattle.beam_machine.specs.declared.callee.After.{After}
 use Rattle.beam_machine.specs.declared.event.Then.{Then}
 use Rattle.beam_machine.specs.declared.event.Then.TheVariants.{GoesOn}
 use Rattle.beam_machine.specs.declared.process.Signal.TheVariants.{Message}
 use Rattle.beam_machine.specs.declared.process.Status.TheVariants.{Running}
-use Rattle.beam_model.specs.declared.exception.Fault.{Fault}
-use Rattle.beam_model.specs.declared.native.NodeNative.{NodeNative}
-use Rattle.beam_model.specs.Place.{Place}
-use Rattle.beam_machine.specs.Process.{Process, is_ended, then_of, read_x, put_x}
-use Rattle.beam_machine.specs.Row.{Outcome, sends, goes_on, answers}
-use Rattle.beam_machine.specs.State.{State, process_of, with_process, posted, hearing_by, with_made}
-use Rattle.beam_machine.specs.NodeNative.{answer_of}
-use Rattle.beam_machine.specs.Next.{done_by, goes_on_with, continues, raised}
+use Rattle.beam_machine.specs.Prelude.{Process, is_ended, then_of, read_x, put_x, Outcome, sends, goes_on, answers, State, process_of, with_process, posted, hearing_by, with_made, answer_of, done_by, goes_on_with, continues, raised}
+use Rattle.beam_term.specs.Prelude.{TermValue}
 use Rattle.beam_laws.proofs.Hearing.{hearing_here, none_hear}
-use Rattle.beam_state.specs.Asking.{RespondsBy, AnswersNative, bare_if, sending}
-use Rattle.beam_state.specs.Parts.{node, parts, then_at}
+use Rattle.beam_codesrv.proofs.Gathered.{at_pid}
+use Rattle.beam_state.specs.Prelude.{RespondsBy, AnswersNative, bare_if, sending, node, parts, then_at}
 use Rattle.beam_state.proofs.Located.{pid_found, put_back}
-use Rattle.beam_state.proofs.Leaving.{Kept, kept, kept_at, is_there, posted_stay}
+use Rattle.beam_state.proofs.Leaving.{Kept, kept, kept_at, posted_stay}
 use Rattle.beam_state.proofs.Reframed.{at_one, here, set_one, set_again, answer_reframed}
 use Rattle.beam_state.proofs.Seen.{each, get_each, moved}
 
@@ -30,7 +24,7 @@ use Rattle.beam_state.proofs.Seen.{each, get_each, moved}
 
 pub set_same : (ps : List Process) (at : ℕ) (p : Process) → slice_get ps at ≡ Some p → set ps at p ≡ ps
 set_same [] at p e = refl
-set_same (q ∷ ps) zero p e = ap (λ r. r ∷ ps) (sym (is_there q p e))
+set_same (q ∷ ps) zero p e = ap (λ r. r ∷ ps) (sym (same_Some q p e))
 set_same (q ∷ ps) (suc at) p e = ap (λ l. q ∷ l) (set_same ps at p e)
 
 pub get_set : (ps : List Process) (at : ℕ) (q : Process) → at < length ps → slice_get (set ps at q) at ≡ Some q
@@ -38,14 +32,8 @@ get_set [] at q h = absurd (omega arith)
 get_set (p ∷ ps) zero q h = refl
 get_set (p ∷ ps) (suc at) q h = get_set ps at q (omega arith)
 
-pub process_at : (ps : List Process) (at pid : ℕ) → pid ≡ at + 1 → process_of ps pid ≡ slice_get ps at
-process_at ps at pid e =
-    let positive : nat_lt 0 pid ≡ true = grind (arith, nat_tests) in
-    let same : pid - 1 ≡ at = omega arith in
-    ap (λ b. cond b (slice_get ps (pid - 1)) None) positive ∙ ap (λ k. slice_get ps k) same
-
 pub process_set : (ps : List Process) (at pid : ℕ) (q : Process) → pid ≡ at + 1 → at < length ps → process_of (set ps at q) pid ≡ Some q
-process_set ps at pid q e l = process_at (set ps at q) at pid e ∙ get_set ps at q l
+process_set ps at pid q e l = at_pid (set ps at q) at pid e ∙ get_set ps at q l
 
 pub set_process : (ps : List Process) (at pid : ℕ) (q : Process) → pid ≡ at + 1 → with_process ps pid q ≡ set ps at q
 set_process ps at pid q e =
@@ -100,11 +88,11 @@ answered references pid at slots native arguments after old mid new p q value co
 
     bare : (p' : Process) → process_of old pid ≡ Some p' → with_process old pid (h p') ≡ each (at_one (bare_if slots) at) old
     bare p' found =
-        ap (λ p. with_process old pid (h p)) (is_there p' p (sym found ∙ (process_at old at pid e ∙ there)))
+        ap (λ p. with_process old pid (h p)) (same_Some p' p (sym found ∙ (at_pid old at pid e ∙ there)))
         ∙ (set_process old at pid (h p) e ∙ set_one (bare_if slots) old at p there)
 
     asker : process_of (each (at_one (bare_if slots) at) mid) pid ≡ Some (bare_if slots q)
-    asker = process_at (each g mid) at pid e ∙ (get_each g mid at ∙ (ap (option_map (g at)) got ∙ ap Some (here (bare_if slots) at q)))
+    asker = at_pid (each g mid) at pid e ∙ (get_each g mid at ∙ (ap (option_map (g at)) got ∙ ap Some (here (bare_if slots) at q)))
 
     again : with_process (each (at_one (bare_if slots) at) mid) pid r ≡ with_process mid pid r
     again = ap (λ k. set (each g mid) k r) same ∙ (set_again (bare_if slots) mid at r ∙ ap (λ k. set mid k r) (sym same))
@@ -132,10 +120,10 @@ pub message_sent : (clock references pid at to : ℕ) (next : Place) (old new : 
     → q ≡ goes_on (put_x p 0 (read_x p.x 1)) next → new ≡ posted (set old at q) to (Message (read_x p.x 1)) → RespondsBy clock pid (sending to next) references old (Ok GoesOn) references new
 message_sent clock references pid at to next old new p q e l g runs is sent = (
   (λ code i p' found.
-      ap (λ p. done_by (node code (parts old clock i references)) pid (sends_of p)) (is_there p' p (sym found ∙ pid_found old at pid p e l g))
+      ap (λ p. done_by (node code (parts old clock i references)) pid (sends_of p)) (same_Some p' p (sym found ∙ pid_found old at pid p e l g))
       ∙ ap (λ (ps : List Process). node code (parts ps clock i references)) (ap (λ ps. posted ps to (Message (read_x p.x 1))) (set_process old at pid (goes_on (put_x p 0 (read_x p.x 1)) next) e ∙ ap (λ q. set old at q) (sym is)) ∙ sym sent)),
   stands_at new pid q
-      (ap (option_map kept) (process_at new at pid e) ∙ (ap (λ ps. kept_at ps at) sent ∙ posted_stay (set old at q) to (Message (read_x p.x 1)) at (kept q) (ap (option_map kept) (get_set old at q l))))
+      (ap (option_map kept) (at_pid new at pid e) ∙ (ap (λ ps. kept_at ps at) sent ∙ posted_stay (set old at q) to (Message (read_x p.x 1)) at (kept q) (ap (option_map kept) (get_set old at q l))))
       (ap (λ (q : Process). q.status) is ∙ runs),
 )
   where

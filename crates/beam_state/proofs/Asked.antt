@@ -1,21 +1,17 @@
 -- The requests of a process that runs, where the process is given by its index.
-use Rattle.std.proofs.Common.{◌≡◌, ℕ, ◌+◌, ◌-◌, ◌<◌, List, length, slice_get, get_or, unwrap_or, refl, sym, ap, subst, ◌∙◌, arith, Some, Ok}
+use Rattle.std.proofs.Common.{◌≡◌, ℕ, ◌+◌, ◌-◌, ◌<◌, List, length, slice_get, get_or, unwrap_or, refl, sym, ap, subst, ◌∙◌, arith, Some, Ok, IfSome}
 use Rattle.std.proofs.Math.ListN.{set}
 use Rattle.std.proofs.lemmas.Option.{get_or_from_slice_get, slice_get_within}
-use Rattle.std.specs.Prelude.{IfSome}
-use Rattle.beam_term.specs.TermValue.{TermValue}
-use Rattle.beam_model.specs.Place.{Place}
 use Rattle.beam_machine.specs.declared.event.Then.TheVariants.{GoesOn}
 use Rattle.beam_machine.specs.declared.process.Signal.TheVariants.{Message}
 use Rattle.beam_machine.specs.declared.process.Status.TheVariants.{Running}
-use Rattle.beam_machine.specs.Process.{Process, read_x, put_x}
-use Rattle.beam_machine.specs.Row.{goes_on}
-use Rattle.beam_machine.specs.State.{process_of, posted}
+use Rattle.beam_machine.specs.Prelude.{Process, read_x, put_x, goes_on, process_of, posted}
+use Rattle.beam_model.specs.Prelude.{Place}
+use Rattle.beam_term.specs.Prelude.{TermValue}
 use Rattle.beam_laws.proofs.Ending.{at_index}
-use Rattle.beam_proc.specs.Undoing.{stepped_back}
+use Rattle.beam_proc.specs.Prelude.{stepped_back}
 use Rattle.beam_proc.specs.declared.undoing.Stepped.{Stepped}
-use Rattle.beam_state.specs.Asking.{RespondsBy, sending}
-use Rattle.beam_state.specs.Parts.{then_at}
+use Rattle.beam_state.specs.Prelude.{RespondsBy, sending, then_at}
 use Rattle.beam_state.proofs.Answering.{get_set, undone, message_sent}
 use Rattle.beam_state.proofs.Responding.{runs_there}
 

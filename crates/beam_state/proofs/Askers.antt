@@ -1,35 +1,28 @@
 -- A process that asks for a native, and what the native left of it.
-use Rattle.std.proofs.Common.{◌≡◌, ℕ, ◌<◌, false, List, length, slice_get, refl, sym, ap, subst, ◌∙◌, Option, Some, None, Result, Ok, Err}
+use Rattle.std.proofs.Common.{◌≡◌, ℕ, ◌<◌, false, List, length, slice_get, refl, sym, ap, subst, ◌∙◌, Option, Some, None, Result, Ok, Err, IfSome, is_some, option_map, unwrap_or}
 use Rattle.std.proofs.Math.ListN.{set}
-use Rattle.std.specs.Prelude.{IfSome, is_some, option_map, unwrap_or}
 use Rattle.std.specs.declared.alloc.AllocError.{AllocError}
-use Rattle.beam_term.specs.TermValue.{TermValue, nil_term}
+use Rattle.std.proofs.lemmas.Option.{same_Some}
 use Rattle.beam_model.specs.declared.exception.Exception.{Exception}
-use Rattle.beam_model.specs.declared.exception.Exception.TheVariants as exception
 use Rattle.beam_model.specs.declared.exception.Fault.{Fault}
 use Rattle.beam_model.specs.declared.native.NodeNative.{NodeNative}
+use Rattle.beam_term.specs.Prelude.{TermValue, nil_term}
+use Rattle.beam_model.specs.declared.exception.Exception.TheVariants as exception
 use Rattle.beam_machine.specs.declared.callee.After.{After}
 use Rattle.beam_machine.specs.declared.event.Then.{Then}
 use Rattle.beam_machine.specs.declared.event.Then.TheVariants.{GoesOn, Waits, Ended as EndedThen}
 use Rattle.beam_machine.specs.declared.process.Status.{Status}
 use Rattle.beam_machine.specs.declared.process.Status.TheVariants.{Running, Waiting, Ended}
-use Rattle.beam_machine.specs.NodeNative.{Answered as TheAnswered, answer_of}
-use Rattle.beam_machine.specs.Next.{raised}
-use Rattle.beam_machine.specs.Process.{Process, dropped, ended, then_of, is_ended, with_y, bared}
-use Rattle.beam_machine.specs.Row.{answers}
-use Rattle.beam_machine.specs.State.{process_of, with_process, with_made}
+use Rattle.beam_machine.specs.Prelude.{Answered as TheAnswered, answer_of, raised, Process, dropped, ended, then_of, is_ended, with_y, bared, answers, process_of, with_process, with_made}
 use Rattle.beam_laws.proofs.Hearing.{hears}
-use Rattle.beam_proc.specs.Does.{Does}
-use Rattle.beam_proc.specs.Continuation.{reason_of}
+use Rattle.beam_proc.specs.Prelude.{Does, reason_of}
 use Rattle.beam_proc.proofs.Lasting.{end_if, ends_after}
 use Rattle.beam_proc.proofs.UndoneSteps.{drops_alike}
-use Rattle.beam_stack.specs.Frames.{back_of, first_tag}
-use Rattle.beam_state.specs.Asking.{IsAsking, AreRead, EndsAfter, AnswersNative, MadeBy, CanDrop, bare_if}
-use Rattle.beam_state.specs.Returns.{ReturnsCounting, is_make_ref}
-use Rattle.beam_state.specs.Parts.{then_at}
+use Rattle.beam_stack.specs.Prelude.{back_of, first_tag}
+use Rattle.beam_state.specs.Prelude.{IsAsking, AreRead, EndsAfter, AnswersNative, MadeBy, CanDrop, bare_if, ReturnsCounting, is_make_ref, then_at}
 use Rattle.beam_state.proofs.Answering.{Answered, answered, made_stands, made_quietly, set_process, set_same}
 use Rattle.beam_state.proofs.Asked.{Runs, runs_found, read_runs, says, said, within}
-use Rattle.beam_state.proofs.Leaving.{Kept, kept, kept_at, is_there, kept_has, fault_leaves, value_stays, value_written}
+use Rattle.beam_state.proofs.Leaving.{Kept, kept, kept_at, kept_has, fault_leaves, value_stays, value_written}
 use Rattle.beam_state.proofs.Telling.{but_one, told_ends}
 use Rattle.beam_state.proofs.Seen.{each}
 
@@ -66,7 +59,7 @@ module _ {at pid : ℕ} {slots : Option ℕ} {after : After} {ps : List Process}
       let p : Process = asker.0 in
       let d = said ps at p (λ p. (q : Process) × Does p (answers (bare_if slots p) after value) (Ok (EndedThen reason v)) q × (new ≡ set ps at q)) asker.1.1.0 h in (
         d.2 ∙ (ap (λ q. set ps at q) d.1.1 ∙ set_same ps at p asker.1.1.0),
-        λ r found. subst (λ r. answers (bare_if slots r) after value ≡ ended r reason v) (is_there p r (sym asker.1.0 ∙ found)) d.1.0,
+        λ r found. subst (λ r. answers (bare_if slots r) after value ≡ ended r reason v) (same_Some p r (sym asker.1.0 ∙ found)) d.1.0,
       )
 
   -- an end that was answered is then carried out: the node comes to what the asker's value or exception makes of it
@@ -82,7 +75,7 @@ module _ {at pid : ℕ} {slots : Option ℕ} {after : After} {ps : List Process}
       → MadeBy pid f ps (Ok then) new
   quiet_made f q then new is stands lives put =
       let made : new ≡ with_made ps pid (f asker.0) = put ∙ (ap (λ q. set ps at q) is ∙ sym (made_quietly ps at pid (f asker.0) a.located lives)) in (
-        λ p found. made ∙ ap (λ p. with_made ps pid (f p)) (is_there asker.0 p (sym asker.1.0 ∙ found)),
+        λ p found. made ∙ ap (λ p. with_made ps pid (f p)) (same_Some asker.0 p (sym asker.1.0 ∙ found)),
         ap (λ qs. then_at qs pid) made ∙ (made_stands ps at pid asker.0 (f asker.0) a.located asker.1.1.0 ∙ ap Some (sym stands)),
       )
 
@@ -144,7 +137,7 @@ module _ {at pid : ℕ} {slots : Option ℕ} {after : After} {ps : List Process}
       left = kept_has mid at (kept asker.0) (ap (λ qs. kept_at qs at) (sym is) ∙ value_stays references ps pid native arguments value v at (kept asker.0) (ap (option_map kept) asker.1.1.0))
 
       pub left_kept : (q : Process) → slice_get mid at ≡ Some q → kept q ≡ kept asker.0
-      left_kept q there = ap kept (is_there q left.0 (sym there ∙ left.1.0)) ∙ left.1.1
+      left_kept q there = ap kept (same_Some q left.0 (sym there ∙ left.1.0)) ∙ left.1.1
 
       pub left_runs : (q : Process) → slice_get mid at ≡ Some q → q.status ≡ Running
       left_runs q there = ap (λ (k : Kept). k.1) (left_kept q there) ∙ asker.1.1.1

@@ -1,18 +1,16 @@
 -- The signals in transit to a process arrive, and all that monitor it hear of its end.
-use Rattle.std.proofs.Common.{◌≡◌, ℕ, ◌+◌, ◌<◌, false, List, [], ◌∷◌, length, slice_get, refl, sym, ap, ◌∙◌, Option, Some, None, Result, Ok, Err, rules}
+use Rattle.std.proofs.Common.{◌≡◌, ℕ, ◌+◌, ◌<◌, false, List, [], ◌∷◌, length, slice_get, refl, sym, ap, ◌∙◌, Option, Some, None, Result, Ok, Err, rules, IfSome, OnOk}
 use Rattle.std.proofs.Math.ListN.{set}
-use Rattle.std.specs.Prelude.{IfSome, OnOk}
 use Rattle.std.specs.declared.alloc.AllocError.{AllocError}
-use Rattle.beam_term.specs.TermValue.{TermValue, nil_term}
 use Rattle.beam_machine.specs.declared.event.Then.{Then}
 use Rattle.beam_machine.specs.declared.process.Status.{Status}
-use Rattle.beam_machine.specs.Next.{delivered}
-use Rattle.beam_machine.specs.Process.{Process, is_ended, ended}
-use Rattle.beam_machine.specs.State.{with_made}
-use Rattle.beam_proc.specs.Deliveries.{ending, woken, arriving, received_all}
+use Rattle.beam_machine.specs.Prelude.{delivered, Process, is_ended, ended, with_made}
+use Rattle.beam_term.specs.Prelude.{TermValue, nil_term}
+use Rattle.beam_proc.specs.Prelude.{ending, woken, arriving, received_all}
 use Rattle.beam_proc.proofs.Deliveries.{delivered_is}
-use Rattle.beam_state.specs.Asking.{MadeBy}
-use Rattle.beam_state.proofs.Answering.{process_at, made_quietly}
+use Rattle.beam_codesrv.proofs.Gathered.{at_pid}
+use Rattle.beam_state.specs.Prelude.{MadeBy}
+use Rattle.beam_state.proofs.Answering.{made_quietly}
 use Rattle.beam_state.proofs.Asked.{said, says}
 use Rattle.beam_state.proofs.Ended.{some_there}
 
@@ -42,7 +40,7 @@ module _ (ps new : List Process) (at pid : ℕ) (e : pid ≡ at + 1) (l : at < l
   pub ends : (reason : TermValue) (then : Then) → IfSome (slice_get ps at) (λ p. Some reason ≡ ending p.pid p.transit) → MadeBy pid (λ p. ended p reason nil_term) ps (Ok then) new → Arrives ps at pid new
   ends reason then end h =
       says ps at p (λ p. new ≡ with_made ps pid (delivered (record p { transit = [] }) p.transit)) there
-      (h.0 p (process_at ps at pid e ∙ there) ∙ ap (with_made ps pid) (sym (is (Some reason) end)))
+      (h.0 p (at_pid ps at pid e ∙ there) ∙ ap (with_made ps pid) (sym (is (Some reason) end)))
 
   pub goes_on : IfSome (slice_get ps at) (λ p. None ≡ ending p.pid p.transit) → IfSome (slice_get ps at) (λ p. new ≡ set ps at (delivered (record p { transit = [] }) p.transit)) → Arrives ps at pid new
   goes_on end h =

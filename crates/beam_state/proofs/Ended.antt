@@ -1,32 +1,26 @@
 -- A process ends once the DOWNs of its end have been posted.
-use Rattle.std.proofs.Common.{◌≡◌, ℕ, zero, suc, ◌+◌, ◌<◌, List, [], ◌∷◌, ◌++◌, length, slice_get, refl, sym, ap, subst, ◌∙◌, arith, Some, None, Result, Ok, Err}
+use Rattle.std.proofs.Common.{◌≡◌, ℕ, zero, suc, ◌+◌, ◌<◌, List, [], ◌∷◌, ◌++◌, length, slice_get, refl, sym, ap, subst, ◌∙◌, arith, Some, None, Result, Ok, Err, IfSome}
 use Rattle.std.proofs.Math.ListN.{set}
-use Rattle.std.specs.Prelude.{IfSome}
 use Rattle.std.specs.declared.alloc.AllocError.{AllocError}
-use Rattle.beam_term.specs.TermValue.{TermValue, nil_term}
+use Rattle.std.proofs.lemmas.Option.{same_Some}
 use Rattle.beam_machine.specs.declared.event.Then.{Then}
+use Rattle.beam_machine.specs.Prelude.{Sent, Process, ended, with_process, with_made}
+use Rattle.beam_term.specs.Prelude.{TermValue, nil_term}
 use Rattle.beam_machine.specs.declared.process.Status.TheVariants.{Ended}
-use Rattle.beam_machine.specs.Private.{Sent}
-use Rattle.beam_machine.specs.Process.{Process, ended}
-use Rattle.beam_machine.specs.State.{with_process, with_made}
-use Rattle.beam_laws.specs.Private.{posted_all}
+use Rattle.beam_laws.specs.Prelude.{posted_all}
 use Rattle.beam_laws.proofs.Hearing.{hears}
 use Rattle.beam_laws.proofs.Orderly.{Orderly}
-use Rattle.beam_proc.specs.Does.{DoesAtOnce}
-use Rattle.beam_state.specs.Asking.{MadeBy}
-use Rattle.beam_state.specs.Indexed.{GoesOnFrom}
-use Rattle.beam_state.specs.MonitorKeys.{MonitorNoMore}
+use Rattle.beam_proc.specs.Prelude.{DoesAtOnce}
+use Rattle.beam_state.specs.Prelude.{MadeBy, GoesOnFrom, MonitorNoMore, then_at, notices_of}
 use Rattle.beam_state.proofs.Keeping.{stays_on}
 use Rattle.beam_state.proofs.MonitorKeys.{none_more}
-use Rattle.beam_state.specs.Parts.{then_at}
 use Rattle.beam_codesrv.specs.Posting.{all_taken}
-use Rattle.beam_state.specs.Posting.{notices_of}
-use Rattle.beam_state.proofs.Answering.{process_at, set_process, set_same, made_stands}
+use Rattle.beam_state.proofs.Answering.{set_process, set_same, made_stands}
 use Rattle.beam_state.proofs.Asked.{said}
-use Rattle.beam_state.proofs.Leaving.{is_there}
 use Rattle.beam_state.proofs.Seen.{length_each}
 use Rattle.beam_state.proofs.Telling.{but_one, told, told_stays, notices_make}
 use Rattle.beam_codesrv.proofs.Untaken.{all_untaken}
+use Rattle.beam_codesrv.proofs.Gathered.{at_pid}
 
 pub ended_keeps : (p q : Process) (reason value : TermValue) (result : Result Then AllocError) → DoesAtOnce p (ended p reason value) result q → GoesOnFrom p q
 ended_keeps p q reason value (Ok said) h = (
@@ -71,7 +65,7 @@ module _ (ps mid : List Process) (at pid : ℕ) (reason : TermValue) (first sent
       let made : new ≡ with_made ps pid (ended p reason value) =
       d.2 ∙ (ap (λ q. set mid at q) d.1.0 ∙ (sym (set_process mid at pid (ended p reason value) e)
       ∙ (ap (λ qs. with_process qs pid (ended p reason value)) mid_is ∙ notices_make ps at pid (ended p reason value) reason value e refl o))) in (
-        λ p' found. made ∙ ap (λ p. with_made ps pid (ended p reason value)) (is_there p p' (sym there.1 ∙ (sym (process_at ps at pid e) ∙ found))),
+        λ p' found. made ∙ ap (λ p. with_made ps pid (ended p reason value)) (same_Some p p' (sym there.1 ∙ (sym (at_pid ps at pid e) ∙ found))),
         ap (λ qs. then_at qs pid) made ∙ (made_stands ps at pid p (ended p reason value) e there.1 ∙ ap Some (sym d.1.1)),
       )
 

@@ -1,24 +1,17 @@
 -- What the indexes find.
-use Rattle.std.proofs.Common.{◌≡◌, ℕ, zero, suc, ◌+◌, ◌<◌, nat_le, Bool, true, false, cond, List, [], ◌∷◌, length, map, drop, slice_get, get_or, refl, sym, ap, ◌∙◌, add-one, arith}
+use Rattle.std.proofs.Common.{◌≡◌, ℕ, zero, suc, ◌+◌, ◌<◌, nat_le, Bool, true, false, cond, List, [], ◌∷◌, length, map, drop, slice_get, get_or, refl, sym, ap, ◌∙◌, add-one, arith, Option, Some, None, option_map, option_and_then}
 use Rattle.std.proofs.lemmas.List.{drop-map}
 use Rattle.std.proofs.lemmas.Bool.Decides.{nat_tests}
-use Rattle.std.proofs.lemmas.Option.{slice_get-get_or}
-use Rattle.std.specs.Prelude.{Option, Some, None, option_map, option_and_then, unwrap_or}
+use Rattle.std.proofs.lemmas.Option.{slice_get-get_or, same_Some}
 use Rattle.std.specs.Cmp.Lexicographic.{nat_list_eq_equiv}
 use Rattle.std.proofs.lemmas.Slice.Eq.{bytes_eq-Decides}
 use Rattle.beam_agenda.specs.declared.entry.AgendaEntry.{AgendaEntry}
-use Rattle.beam_agenda.specs.Entries.{earlier, is_due_by}
-use Rattle.beam_agenda.specs.First.{first_of, first_ready as first_entry, least_time, with_position, least_due}
+use Rattle.beam_agenda.specs.Prelude.{earlier, is_due_by, first_of, first_ready as first_entry, least_time, with_position, least_due}
 use Rattle.beam_machine.specs.declared.process.Deadline.{Deadline}
-use Rattle.beam_machine.specs.Process.{Process, is_waiting}
-use Rattle.beam_machine.specs.Ready.{is_ready, first_ready, ready_after, due_at, due_of, sooner, next_deadline}
-use Rattle.beam_machine.specs.State.{has_name, registered}
-use Rattle.beam_state.specs.Indexed.{due_time, entry_of, if_named, IsIndexed}
+use Rattle.beam_machine.specs.Prelude.{Process, is_waiting, is_ready, first_ready, ready_after, due_at, due_of, sooner, next_deadline, has_name, registered}
+use Rattle.beam_state.specs.Prelude.{due_time, entry_of, if_named, IsIndexed}
 
 -- ---- names
-
-is_there : (p q : Process) → Some p ≡ Some q → p ≡ q
-is_there p q e = ap (λ o. unwrap_or o p) e
 
 has_it : (name : List ℕ) (o : Option (List ℕ)) → has_name name o ≡ true → o ≡ Some name
 has_it name None e = cc
@@ -38,7 +31,7 @@ pub one_named : (ps : List Process) (name : List ℕ) (i : ℕ) (p : Process) �
     → ((j : ℕ) (q : Process) → slice_get ps j ≡ Some q → q.name ≡ Some name → j ≡ i) → registered ps name ≡ Some p.pid
 one_named [] name i p e named h = cc
 one_named (q ∷ ps) name zero p e named h =
-    let is : q ≡ p = is_there q p e in
+    let is : q ≡ p = same_Some q p e in
     let found : has_name name q.name ≡ true = ap (has_name name) (ap (λ q. q.name) is ∙ named) ∙ nat_list_eq_equiv.refl name in
     ap (λ b. cond b (Some q.pid) (registered ps name)) found ∙ ap (λ q. Some q.pid) is
 one_named (q ∷ ps) name (suc i) p e named h =
@@ -47,9 +40,6 @@ one_named (q ∷ ps) name (suc i) p e named h =
     at : registered ps name ≡ Some p.pid → (b : Bool) → has_name name q.name ≡ b → cond b (Some q.pid) (registered ps name) ≡ Some p.pid
     at rest true f = let far : 0 ≡ suc i = h 0 q refl (has_it name q.name f) in absurd (omega arith)
     at rest false f = rest
-
-same_index : (i j : ℕ) → Some i ≡ Some j → i ≡ j
-same_index i j e = ap (λ o. unwrap_or o i) e
 
 pub none_found : (find : List ℕ → Option ℕ) (agenda : List AgendaEntry) (ps : List Process) (name : List ℕ) → IsIndexed find agenda ps → None ≡ find name → None ≡ registered ps name
 unfolding IsIndexed
@@ -64,12 +54,12 @@ unfolding IsIndexed
 one_found find agenda ps name i h e = at (slice_get ps i) refl
   where
     only : (j : ℕ) (q : Process) → slice_get ps j ≡ Some q → q.name ≡ Some name → j ≡ i
-    only j q there named = same_index j i (sym (h.1 j q name there named) ∙ sym e)
+    only j q there named = same_Some j i (sym (h.1 j q name there named) ∙ sym e)
 
     tests : (p : Process) → slice_get ps i ≡ Some p → (b : Bool) → has_name name p.name ≡ b → cond b (Some p.pid) None ≡ registered ps name
     tests p there true f = sym (one_named ps name i p there (has_it name p.name f) only)
     tests p there false f = sym (none_named ps name (λ j q other named.
-        let same : q ≡ p = is_there q p (sym other ∙ (ap (slice_get ps) (only j q other named) ∙ there)) in
+        let same : q ≡ p = same_Some q p (sym other ∙ (ap (slice_get ps) (only j q other named) ∙ there)) in
         lacks (sym f ∙ (ap (λ p. has_name name p.name) (sym same) ∙ (ap (has_name name) named ∙ nat_list_eq_equiv.refl name)))))
       where
         lacks : false ≡ true → ⊥

@@ -1,31 +1,24 @@
 -- What keeps the indexes of the processes right.
-use Rattle.std.proofs.Common.{◌≡◌, ℕ, zero, suc, Bool, true, false, cond, List, [], ◌∷◌, ◌++◌, length, map, slice_get, refl, sym, ap, subst, ◌∙◌, rules}
+use Rattle.std.proofs.Common.{◌≡◌, ℕ, zero, suc, Bool, true, false, cond, List, [], ◌∷◌, ◌++◌, length, map, slice_get, refl, sym, ap, subst, ◌∙◌, rules, Option, Some, None, Result, Ok, Err, IfOk, OnErr, option_map, slice_set, unwrap_or, flat_map}
 use Rattle.std.proofs.lemmas.List.{map-set, length-map, map-append}
-use Rattle.std.proofs.lemmas.Option.{slice_get-map}
-use Rattle.std.specs.Prelude.{Option, Some, None, Result, Ok, Err, IfOk, OnErr, option_map, slice_set, unwrap_or, flat_map}
+use Rattle.std.proofs.lemmas.Option.{slice_get-map, same_Some}
 use Rattle.std.specs.Cmp.Lexicographic.{nat_list_eq_equiv}
 use Rattle.std.proofs.lemmas.Slice.Eq.{bytes_eq-Decides}
 use Rattle.beam_agenda.specs.declared.entry.AgendaEntry.{AgendaEntry}
 use Rattle.beam_machine.specs.declared.event.Event.{Event}
-use Rattle.beam_machine.specs.declared.event.Event.TheVariants as event
 use Rattle.beam_machine.specs.declared.event.UpgradeMode.{UpgradeMode}
-use Rattle.std.specs.declared.alloc.AllocError.{AllocError}
 use Rattle.beam_machine.specs.declared.event.Reply.TheVariants.{Changed}
 use Rattle.beam_machine.specs.declared.event.Refused.TheVariants.{NoMemory, Sticky, TooMany}
-use Rattle.beam_machine.specs.Change.{lingers_in_old, lingers_in_olds, pids_of, ends_or_hears, killing}
-use Rattle.beam_machine.specs.Next.{Answer, refused, replied, end_old, load_new, has_instances_left, next_load, next_purge, next}
-use Rattle.beam_machine.specs.Process.{Process, ended, killed}
-use Rattle.beam_machine.specs.Run.{Answers, cut_event}
-use Rattle.beam_model.specs.Listing.{Listing}
-use Rattle.beam_model.specs.NativeNames.{is_erlang}
-use Rattle.beam_term.specs.TermValue.{nil_term}
-use Rattle.beam_machine.specs.State.{State, has_name, registered, with_signals, downs}
+use Rattle.beam_machine.specs.Prelude.{lingers_in_old, lingers_in_olds, pids_of, ends_or_hears, killing, Answer, refused, replied, end_old, load_new, has_instances_left, next_load, next_purge, next, Process, ended, killed, Answers, cut_event, State, registered, with_signals, downs}
 use Rattle.beam_machine.specs.declared.process.Signal.{Signal}
+use Rattle.beam_machine.specs.declared.event.Event.TheVariants as event
+use Rattle.std.specs.declared.alloc.AllocError.{AllocError}
+use Rattle.beam_term.specs.Prelude.{nil_term}
+use Rattle.beam_model.specs.Prelude.{Listing, is_erlang, same_text}
 use Rattle.beam_laws.proofs.Hearing.{as_before}
-use Rattle.beam_model.specs.SameText.{same_text}
 use Rattle.beam_laws.proofs.Loads.{kept as loads_keep}
-use Rattle.beam_state.specs.Indexed.{entry_of, IsIndexed, KeepsName, GoesOnFrom}
-use Rattle.beam_state.specs.MonitorKeys.{is_monitored_by, AreMonitorsKeyedIf}
+use Rattle.beam_laws.proofs.Orderly.{got, unregistered, nameless}
+use Rattle.beam_state.specs.Prelude.{entry_of, IsIndexed, KeepsName, GoesOnFrom, is_monitored_by, AreMonitorsKeyedIf}
 use Rattle.beam_state.proofs.MonitorKeys.{no_more, none_more, all_monitored, monitored_if}
 
 abbrev pub Find : Type 0
@@ -42,17 +35,7 @@ entries_are find agenda ps h = h.0
 pub as_many : (find : Find) (agenda : List AgendaEntry) (ps : List Process) → IsIndexed find agenda ps → length agenda ≡ length ps
 as_many find agenda ps h = ap (λ (es : List AgendaEntry). length es) (entries_are find agenda ps h) ∙ length-map ps entry_of
 
-is_there : (p q : Process) → Some p ≡ Some q → p ≡ q
-is_there p q e = ap (λ o. unwrap_or o p) e
-
 -- ---- one process is changed
-
-got : {C : Type 0} (ps : List Process) (i j : ℕ) (q r : Process) → slice_get (slice_set ps i q) j ≡ Some r → (i ≡ j → q ≡ r → C) → (slice_get ps j ≡ Some r → C) → C
-got [] i j q r e f g = g e
-got (p ∷ ps) zero zero q r e f g = f refl (is_there q r e)
-got (p ∷ ps) zero (suc j) q r e f g = g e
-got (p ∷ ps) (suc i) zero q r e f g = g e
-got (p ∷ ps) (suc i) (suc j) q r e f g = got ps i j q r e (λ s. f (ap suc s)) g
 
 pub changed_indexed : (find : Find) (agenda : List AgendaEntry) (ps : List Process) (i : ℕ) (p q : Process) → IsIndexed find agenda ps → slice_get ps i ≡ Some p → KeepsName p q
     → IsIndexed find (slice_set agenda i (entry_of q)) (slice_set ps i q)
@@ -67,13 +50,10 @@ changed_indexed find agenda ps i p q h there keeps = (
 -- ---- a process is added
 
 pushed : {C : Type 0} (ps : List Process) (j : ℕ) (x r : Process) → slice_get (ps ++ x ∷ []) j ≡ Some r → (x ≡ r → C) → (slice_get ps j ≡ Some r → C) → C
-pushed [] zero x r e f g = f (is_there x r e)
+pushed [] zero x r e f g = f (same_Some x r e)
 pushed [] (suc j) x r e f g = g e
 pushed (p ∷ ps) zero x r e f g = g e
 pushed (p ∷ ps) (suc j) x r e f g = pushed ps j x r e f g
-
-nameless : {C : Type 0} (name : List ℕ) → None ≡ Some name → C
-nameless name e = cc
 
 pub pushed_indexed : (find : Find) (agenda : List AgendaEntry) (ps : List Process) (x : Process) → IsIndexed find agenda ps → x.name ≡ None
     → IsIndexed find (agenda ++ entry_of x ∷ []) (ps ++ x ∷ [])
@@ -86,18 +66,6 @@ pushed_indexed find agenda ps x h new = (
 )
 
 -- ---- a process is named
-
-unregistered : (ps : List Process) (name : List ℕ) (j : ℕ) (q : Process) → registered ps name ≡ None → slice_get ps j ≡ Some q → q.name ≡ Some name → ⊥
-unregistered [] name j q h e g = cc
-unregistered (p ∷ ps) name zero q h e g =
-    let named : p.name ≡ Some name = ap (λ p. p.name) (is_there p q e) ∙ g in
-    let found : has_name name p.name ≡ true = ap (has_name name) named ∙ nat_list_eq_equiv.refl name in
-    contradiction p.pid (sym h ∙ ap (λ b. cond b (Some p.pid) (registered ps name)) found)
-  where
-    contradiction : (n : ℕ) → None ≡ Some n → ⊥
-    contradiction n e = cc
-unregistered (p ∷ ps) name (suc j) q h e g =
-    unregistered ps name j q (elim (has_name name p.name) as (λ b. cond b (Some p.pid) (registered ps name) ≡ None → registered ps name ≡ None) [ true ↦ λ e. cc | false ↦ λ e. e ] h) e g
 
 -- the look-up by name after the process at an index was given a name
 abbrev pub Adds : Find → List ℕ → ℕ → Find → Type 0
@@ -166,7 +134,7 @@ killing_keeps test ps = λ i q e. at i q (slice_get ps i) refl (sym (slice_get-m
 
     at : (i : ℕ) (q : Process) (o : Option Process) → slice_get ps i ≡ o → option_map (ends_or_hears test (pids_of test ps)) o ≡ Some q → (p : Process) × ((slice_get ps i ≡ Some p) × GoesOnFrom p q)
     at i q None there e = cc
-    at i q (Some p) there e = (p, (there, subst (GoesOnFrom p) (is_there (f p) q e) (ending_keeps test (pids_of test ps) p)))
+    at i q (Some p) there e = (p, (there, subst (GoesOnFrom p) (same_Some (f p) q e) (ending_keeps test (pids_of test ps) p)))
 
 load_keeps : (s : State) (l : Listing) → KeepNames s.processes (next_load s l).state.processes
 load_keeps s l = elim (is_erlang l.name) as (λ b. KeepNames s.processes (cond b (refused s Sticky) (cond (has_instances_left s) (load_new (end_old s l.name) l) (refused s TooMany))).state.processes) [

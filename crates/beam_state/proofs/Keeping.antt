@@ -1,13 +1,9 @@
 -- A change of one process keeps the indexes right.
-use Rattle.std.proofs.Common.{◌≡◌, ℕ, zero, suc, take, drop, add-one, ◌+◌, ◌<◌, ◌==◌, ◌&&◌, Bool, true, false, cond, not, List, [], ◌∷◌, ◌++◌, length, map, slice_get, get_or, refl, sym, ap, subst, ◌∙◌, arith}
+use Rattle.std.proofs.Common.{◌≡◌, ℕ, zero, suc, take, drop, add-one, ◌+◌, ◌<◌, ◌==◌, ◌&&◌, Bool, true, false, cond, not, List, [], ◌∷◌, ◌++◌, length, map, slice_get, get_or, refl, sym, ap, subst, ◌∙◌, arith, option_map, Option, Some, None, Result, Ok, Err, slice_set, codes, is_ok, IfSome, OnOk, OnErr}
 use Rattle.std.proofs.lemmas.List.{length-map}
 use Rattle.std.proofs.lemmas.Option.{slice_get-map}
-use Rattle.std.specs.Prelude.{option_map, Option, Some, None, Result, Ok, Err, slice_set, codes, is_ok, IfSome, OnOk, OnErr}
 use Rattle.std.specs.declared.alloc.AllocError.{AllocError}
 use Rattle.beam_agenda.specs.declared.entry.AgendaEntry.{AgendaEntry}
-use Rattle.beam_term.specs.TermValue.{TermValue, atom_term, nil_term}
-use Rattle.beam_model.specs.declared.exception.Exception.{Exception}
-use Rattle.beam_model.specs.SameText.{same_text}
 use Rattle.beam_machine.specs.declared.callee.After.{After}
 use Rattle.beam_machine.specs.declared.event.Then.{Then}
 use Rattle.beam_machine.specs.declared.event.Then.TheVariants.{GoesOn, Waits, Ended}
@@ -15,17 +11,15 @@ use Rattle.beam_machine.specs.declared.process.Monitor.{Monitor}
 use Rattle.beam_machine.specs.declared.process.Signal.{Signal}
 use Rattle.beam_machine.specs.declared.process.Signal.TheVariants.{Message, Exit as ExitSignal, Down}
 use Rattle.beam_machine.specs.declared.process.Status.TheVariants.{Running}
-use Rattle.beam_machine.specs.Next.{received, signalled, notified, arrived, delivered}
-use Rattle.beam_machine.specs.Process.{Process, is_ended, ended, killed, monitor_of}
-use Rattle.beam_machine.specs.Row.{answers, own_number}
-use Rattle.beam_laws.specs.Monitors.{ArePart}
+use Rattle.beam_machine.specs.Prelude.{received, signalled, notified, arrived, delivered, Process, is_ended, ended, killed, monitor_of, answers, own_number}
+use Rattle.beam_model.specs.declared.exception.Exception.{Exception}
+use Rattle.beam_model.specs.Prelude.{same_text}
+use Rattle.beam_term.specs.Prelude.{TermValue, atom_term, nil_term}
+use Rattle.beam_laws.specs.Prelude.{ArePart}
 use Rattle.beam_laws.proofs.Follows.{Lives, answered_with}
 use Rattle.beam_laws.proofs.Monitoring.{all_are, none_are, fewer_are, delivered_part}
-use Rattle.beam_proc.specs.Does.{Does}
-use Rattle.beam_state.specs.Asking.{bare_if}
-use Rattle.beam_state.specs.Indexed.{entry_of, IsIndexed, KeepsName, GoesOnFrom}
-use Rattle.beam_state.specs.MonitorKeys.{MonitorNoMore, IsKeyed, AreKeyed, AreMonitorsKeyed, AreMonitorsKeyedIf, has_key}
-use Rattle.beam_state.specs.Returns.{with_monitor}
+use Rattle.beam_proc.specs.Prelude.{Does}
+use Rattle.beam_state.specs.Prelude.{bare_if, entry_of, IsIndexed, KeepsName, GoesOnFrom, MonitorNoMore, IsKeyed, AreKeyed, AreMonitorsKeyed, AreMonitorsKeyedIf, has_key, with_monitor}
 use Rattle.beam_state.proofs.MonitorKeys.{no_more, part_fewer, monitored_if, fewer_monitored, set_monitored, push_monitored, kept_monitored, more_keyed, fewer_keyed, added_if}
 use Rattle.beam_state.proofs.Indexing.{Find, as_many, changed_indexed, pushed_indexed}
 use Rattle.beam_state.proofs.Finding.{there}

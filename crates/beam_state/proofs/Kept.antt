@@ -1,16 +1,12 @@
 -- What holds of the node after an answer, if each step of the definition preserves it.
 use Rattle.std.proofs.Common.{ℕ, List, [], Err, sym, ap, subst}
+use Rattle.beam_model.specs.Prelude.{Listing}
 use Rattle.beam_machine.specs.declared.event.Event.{Event}
 use Rattle.beam_machine.specs.declared.event.Refused.TheVariants.{NoMemory}
-use Rattle.beam_model.specs.Listing.{Listing}
-use Rattle.beam_machine.specs.Process.{Process}
-use Rattle.beam_machine.specs.State.{State}
-use Rattle.beam_machine.specs.Next.{Answer, next}
-use Rattle.beam_machine.specs.Run.{Answers, cut_event}
+use Rattle.beam_machine.specs.Prelude.{Process, State, Answer, next, Answers, cut_event}
 use Rattle.beam_laws.proofs.Orderly.{next_orderly}
 use Rattle.beam_laws.proofs.Rising.{next_rises}
-use Rattle.beam_state.specs.Parts.{parts, node, AnswersByProcesses}
-use Rattle.beam_state.specs.Posting.{AreLawful}
+use Rattle.beam_state.specs.Prelude.{parts, node, AnswersByProcesses, AreLawful}
 
 -- a statement that each step of the definition preserves holds after each answer
 pub answers_keep : (P : State → Type 0) → ((s : State) (e : Event Listing) → P s → P (next s e).state)

@@ -1,13 +1,14 @@
 -- The keys of monitors: numbers in a key, keys among others, and keys that rise.
-use Rattle.std.proofs.Common.{◌≡◌, ℕ, ◌+◌, ◌*◌, ◌/◌, ◌%◌, ◌<◌, ◌≤◌, ◌==◌, ◌&&◌, Bool, true, false, cond, not, nat_lt, List, [], ◌∷◌, ◌++◌, refl, sym, ap, subst, ◌∙◌, arith, true≢false, rules}
-use Rattle.std.specs.Prelude.{filter, ◌||◌}
+use Rattle.std.proofs.Common.{◌≡◌, ℕ, ◌+◌, ◌*◌, ◌/◌, ◌%◌, ◌<◌, ◌≤◌, ◌==◌, Bool, true, false, cond, not, nat_lt, List, [], ◌∷◌, ◌++◌, refl, sym, ap, subst, ◌∙◌, arith, true≢false, rules, filter, ◌||◌, eqb-true}
+use Rattle.std.specs.declared.cmp.Ordering.TheVariants.{Less, Equal, Greater}
+use Rattle.std.specs.Ordering.{nat_cmp, is_eq}
 use Rattle.std.proofs.lemmas.Bool.Decides.{nat_tests}
 use Rattle.std.specs.List.{list_any, AllByRecursion}
 use Rattle.std.specs.List.Sorted.{IsStrictlySortedBy}
 use Rattle.std.specs.BTreeMap.{is_at}
-use Rattle.std.specs.Ordering.{nat_cmp, is_eq}
-use Rattle.std.specs.declared.cmp.Ordering.TheVariants.{Less, Equal, Greater}
-use Rattle.beam_state.specs.MonitorKeys.{monitor_key, monitored_in, receiver_in, reference_in, has_key, is_key_of}
+use Rattle.std.proofs.lemmas.Bool.{or_left, or_right}
+use Rattle.beam_lemmas.proofs.Tests.{itself}
+use Rattle.beam_state.specs.Prelude.{monitor_key, monitored_in, receiver_in, reference_in, has_key, is_key_of}
 
 -- ---- numbers in a key
 
@@ -28,27 +29,9 @@ of_monitored w r n h k = grind (arith, nat_tests)
 
 -- ---- tests
 
-pub itself : (n : ℕ) → (n == n) ≡ true
-itself n = grind (arith, nat_tests)
-
-pub same : (m n : ℕ) → (m == n) ≡ true → m ≡ n
-same m n e = grind (arith, nat_tests)
-
 pub either : {C : Type 0} (a b : Bool) → (a || b) ≡ true → (a ≡ true → C) → (b ≡ true → C) → C
 either true b e f g = f refl
 either false b e f g = g e
-
-pub both : (a b : Bool) → (a && b) ≡ true → (a ≡ true) × (b ≡ true)
-both true b e = (refl, e)
-both false b e = cc
-
-pub first_of : (a b : Bool) → a ≡ true → (a || b) ≡ true
-first_of true b e = refl
-first_of false b e = cc
-
-pub second_of : (a b : Bool) → b ≡ true → (a || b) ≡ true
-second_of true b e = refl
-second_of false b e = e
 
 pub alike : (a b : Bool) → (a ≡ true → b ≡ true) → (b ≡ true → a ≡ true) → a ≡ b
 alike true b f g = sym (f refl)
@@ -81,12 +64,12 @@ in_filter f (x ∷ ks) k h g = either (k == x) (has_key ks k) h here (λ e. ther
   where
     here : (k == x) ≡ true → has_key (cond (f x) (x ∷ filter f ks) (filter f ks)) k ≡ true
     here e =
-        let kept : true ≡ f x = sym g ∙ ap f (same k x e) in
-        subst (λ b. has_key (cond b (x ∷ filter f ks) (filter f ks)) k ≡ true) kept (first_of (k == x) (has_key (filter f ks) k) e)
+        let kept : true ≡ f x = sym g ∙ ap f (eqb-true k x e) in
+        subst (λ b. has_key (cond b (x ∷ filter f ks) (filter f ks)) k ≡ true) kept (or_left (k == x) (has_key (filter f ks) k) e)
 
     there : has_key (filter f ks) k ≡ true → has_key (cond (f x) (x ∷ filter f ks) (filter f ks)) k ≡ true
     there rest =
-        elim (f x) as (λ b. has_key (cond b (x ∷ filter f ks) (filter f ks)) k ≡ true) [ true ↦ second_of (k == x) (has_key (filter f ks) k) rest | false ↦ rest ]
+        elim (f x) as (λ b. has_key (cond b (x ∷ filter f ks) (filter f ks)) k ≡ true) [ true ↦ or_right (k == x) (has_key (filter f ks) k) rest | false ↦ rest ]
 
 pub from_filter : (f : ℕ → Bool) (ks : List ℕ) (k : ℕ) → has_key (filter f ks) k ≡ true → (has_key ks k ≡ true) × (f k ≡ true)
 from_filter f [] k h = cc
@@ -94,11 +77,11 @@ from_filter f (x ∷ ks) k h = by (λ e. from_filter f ks k e) (f x) refl h
   where
     by : (has_key (filter f ks) k ≡ true → (has_key ks k ≡ true) × (f k ≡ true)) → (b : Bool) → f x ≡ b → has_key (cond b (x ∷ filter f ks) (filter f ks)) k ≡ true
         → (((k == x) || has_key ks k) ≡ true) × (f k ≡ true)
-    by rest false is g = (second_of (k == x) (has_key ks k) (rest g).0, (rest g).1)
+    by rest false is g = (or_right (k == x) (has_key ks k) (rest g).0, (rest g).1)
     by rest true is g =
         either (k == x) (has_key (filter f ks) k) g
-        (λ e. (first_of (k == x) (has_key ks k) e, ap f (same k x e) ∙ is))
-        (λ e. (second_of (k == x) (has_key ks k) (rest e).0, (rest e).1))
+        (λ e. (or_left (k == x) (has_key ks k) e, ap f (eqb-true k x e) ∙ is))
+        (λ e. (or_right (k == x) (has_key ks k) (rest e).0, (rest e).1))
 
 -- ---- keys that rise
 
@@ -162,19 +145,19 @@ sorted_asc xs h = from_sorted 0 xs (all xs) h
 -- two rising lists that have the same keys are equal
 pub ext : (low a b : ℕ) (xs ys : List ℕ) → Asc low a xs → Asc low b ys → ((k : ℕ) → has_key xs k ≡ has_key ys k) → xs ≡ ys
 ext low a b [] [] g h e = refl
-ext low a b [] (y ∷ ys) g h e = absurd (true≢false (sym (first_of (y == y) (has_key ys y) (itself y)) ∙ sym (e y)))
-ext low a b (x ∷ xs) [] g h e = absurd (true≢false (sym (first_of (x == x) (has_key xs x) (itself x)) ∙ e x))
+ext low a b [] (y ∷ ys) g h e = absurd (true≢false (sym (or_left (y == y) (has_key ys y) (itself y)) ∙ sym (e y)))
+ext low a b (x ∷ xs) [] g h e = absurd (true≢false (sym (or_left (x == x) (has_key xs x) (itself x)) ∙ e x))
 ext low a b (x ∷ xs) (y ∷ ys) g h e = by (λ asc e. ext (x + 1) a b xs ys g.1 asc e) (nat_lt x y) (nat_lt y x) refl refl
   where
     by : (Asc (x + 1) b ys → ((k : ℕ) → has_key xs k ≡ has_key ys k) → xs ≡ ys) → (s t : Bool) → nat_lt x y ≡ s → nat_lt y x ≡ t → x ∷ xs ≡ y ∷ ys
     by tails true t is are =
         let less : x < y = grind (arith, nat_tests) in
         let le : y ≤ y = omega arith in
-        absurd (true≢false (sym (first_of (x == x) (has_key xs x) (itself x)) ∙ (e x ∙ below x y b (y ∷ ys) less (le, h.1))))
+        absurd (true≢false (sym (or_left (x == x) (has_key xs x) (itself x)) ∙ (e x ∙ below x y b (y ∷ ys) less (le, h.1))))
     by tails false true is are =
         let less : y < x = grind (arith, nat_tests) in
         let le : x ≤ x = omega arith in
-        absurd (true≢false (sym (first_of (y == y) (has_key ys y) (itself y)) ∙ (sym (e y) ∙ below y x a (x ∷ xs) less (le, g.1))))
+        absurd (true≢false (sym (or_left (y == y) (has_key ys y) (itself y)) ∙ (sym (e y) ∙ below y x a (x ∷ xs) less (le, g.1))))
     by tails false false is are =
         let one : x ≡ y = grind (arith, nat_tests) in
         let asc : Asc (x + 1) b ys = subst (λ n. Asc (n + 1) b ys) (sym one) h.1 in

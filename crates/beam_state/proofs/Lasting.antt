@@ -1,29 +1,23 @@
 -- A native after which the process that asked ends: the DOWNs of the end are posted before the native is answered.
-use Rattle.std.proofs.Common.{◌≡◌, ℕ, zero, suc, ◌+◌, ◌-◌, ◌<◌, ◌==◌, true, false, cond, List, [], ◌∷◌, ◌++◌, length, map, slice_get, refl, sym, ap, subst, ◌∙◌, Option, Some, None, Result, Ok, Err}
+use Rattle.std.proofs.Common.{◌≡◌, ℕ, zero, suc, ◌+◌, ◌-◌, ◌<◌, ◌==◌, true, false, cond, List, [], ◌∷◌, ◌++◌, length, map, slice_get, refl, sym, ap, subst, ◌∙◌, Option, Some, None, Result, Ok, Err, option_map, unwrap_or, IfSome}
 use Rattle.std.proofs.Math.ListN.{set}
-use Rattle.std.specs.Prelude.{option_map, unwrap_or, IfSome}
-use Rattle.beam_term.specs.TermValue.{TermValue, nil_term}
-use Rattle.beam_model.specs.declared.exception.Fault.{Fault}
-use Rattle.beam_model.specs.declared.native.NodeNative.{NodeNative}
+use Rattle.std.proofs.lemmas.Option.{same_Some}
 use Rattle.beam_machine.specs.declared.process.Signal.{Signal}
 use Rattle.beam_machine.specs.declared.process.Status.TheVariants.{Running, Ended}
-use Rattle.beam_machine.specs.NodeNative.{Answered, answer_of}
-use Rattle.beam_machine.specs.Private.{Sent}
-use Rattle.beam_machine.specs.Process.{Process, is_ended}
-use Rattle.beam_machine.specs.State.{process_of, live_process, posted_to, posted, downs}
-use Rattle.beam_laws.specs.Private.{posted_all}
-use Rattle.beam_laws.specs.Signals.{each_sent}
+use Rattle.beam_machine.specs.Prelude.{Answered, answer_of, Sent, Process, is_ended, process_of, live_process, posted_to, posted, downs}
+use Rattle.beam_machine.specs.declared.callee.After.{After}
+use Rattle.beam_model.specs.declared.exception.Fault.{Fault}
+use Rattle.beam_model.specs.declared.native.NodeNative.{NodeNative}
+use Rattle.beam_model.specs.declared.native.NodeNative.TheVariants.{Spawn, Register, Unregister, Whereis, IsProcessAlive, Exit, Send, MakeRef, Monitor}
+use Rattle.beam_term.specs.Prelude.{TermValue, nil_term}
+use Rattle.beam_laws.specs.Prelude.{posted_all, each_sent}
 use Rattle.beam_laws.proofs.Ending.{alive_is, at_index}
 use Rattle.beam_laws.proofs.Hearing.{hears}
-use Rattle.beam_model.specs.declared.native.NodeNative.TheVariants.{Spawn, Register, Unregister, Whereis, IsProcessAlive, Exit, Send, MakeRef, Monitor}
-use Rattle.beam_machine.specs.declared.callee.After.{After}
-use Rattle.beam_state.specs.Asking.{IsAsking, AreRead, CanDrop}
-use Rattle.beam_state.specs.Returns.{ReturnsCounting, Sends, does_send, is_make_ref, posted_if}
+use Rattle.beam_state.specs.Prelude.{IsAsking, AreRead, CanDrop, ReturnsCounting, Sends, does_send, is_make_ref, posted_if, AreLawful, notices_of}
 use Rattle.beam_state.proofs.Asked.{within}
 use Rattle.beam_state.proofs.Askers.{left, left_lives, left_runs, left_drops, left_wrote}
 use Rattle.beam_codesrv.specs.Posting.{all_taken}
-use Rattle.beam_state.specs.Posting.{AreLawful, notices_of}
-use Rattle.beam_state.proofs.Leaving.{is_there, fault_leaves}
+use Rattle.beam_state.proofs.Leaving.{fault_leaves}
 use Rattle.beam_state.proofs.Seen.{each, get_each, moved}
 use Rattle.beam_state.proofs.Telling.{but_one, itself, told, answer_told}
 use Rattle.beam_codesrv.proofs.Untaken.{all_untaken}
@@ -33,7 +27,7 @@ use Rattle.beam_state.proofs.Posted.{all_posted_more, all_posted_lawful}
 
 set_sent : (f : Process → List Signal) (at i : ℕ) (ps : List Process) (p q : Process) → slice_get ps i ≡ Some p → f q ≡ f p → each_sent at f (set ps i q) ≡ each_sent at f ps
 set_sent f at i [] p q e s = refl
-set_sent f at zero (r ∷ ps) p q e s = ap (λ xs. map (λ signal. record { to = at; signal = signal }) xs ++ each_sent (at + 1) f ps) (s ∙ ap f (sym (is_there r p e)))
+set_sent f at zero (r ∷ ps) p q e s = ap (λ xs. map (λ signal. record { to = at; signal = signal }) xs ++ each_sent (at + 1) f ps) (s ∙ ap f (sym (same_Some r p e)))
 set_sent f at (suc i) (r ∷ ps) p q e s = ap (λ xs. map (λ signal. record { to = at; signal = signal }) (f r) ++ xs) (set_sent f (at + 1) i ps p q e s)
 
 module _ (pid : ℕ) (reason : TermValue) where

@@ -1,23 +1,19 @@
 -- What a native of the node keeps of each process.
-use Rattle.std.proofs.Common.{◌≡◌, ℕ, zero, suc, ◌+◌, ◌-◌, ◌<◌, Bool, true, false, cond, not, nat_lt, List, [], ◌∷◌, ◌++◌, length, slice_get, get_or, refl, sym, ap, subst, ◌∙◌, arith}
-use Rattle.std.proofs.lemmas.Option.{slice_get-get_or}
-use Rattle.std.specs.Prelude.{is_some, ◌&&◌, Option, Some, None, Result, Ok, Err, option_map, unwrap_or, slice_set, codes}
-use Rattle.beam_term.specs.TermValue.{TermValue, atom_term, pid_term}
-use Rattle.beam_model.specs.declared.exception.Fault.{Fault}
-use Rattle.beam_model.specs.declared.exception.Fault.TheVariants.{Badarg, SystemLimit}
-use Rattle.beam_model.specs.declared.native.NodeNative.{NodeNative}
-use Rattle.beam_model.specs.declared.native.NodeNative.TheVariants.{Spawn, Register, Unregister, Whereis, IsProcessAlive, Exit, Send, MakeRef, Monitor}
+use Rattle.std.proofs.Common.{◌≡◌, ℕ, zero, suc, ◌+◌, ◌-◌, ◌<◌, Bool, true, false, cond, not, nat_lt, List, [], ◌∷◌, ◌++◌, length, slice_get, get_or, refl, sym, ap, subst, ◌∙◌, arith, is_some, ◌&&◌, Option, Some, None, Result, Ok, Err, option_map, slice_set, codes}
+use Rattle.std.proofs.lemmas.Option.{slice_get-get_or, same_Some}
 use Rattle.beam_machine.specs.declared.process.Frame.{Frame}
 use Rattle.beam_machine.specs.declared.process.Signal.{Signal}
 use Rattle.beam_machine.specs.declared.process.Signal.TheVariants.{Message, Exit as ExitSignal, Down}
 use Rattle.beam_machine.specs.declared.process.Status.{Status}
-use Rattle.beam_model.specs.Native.{truth, elements_in}
-use Rattle.beam_machine.specs.Process.{Process, is_ended, started, own_pid, own_reference}
-use Rattle.beam_machine.specs.Row.{own_number, arguments_from}
-use Rattle.beam_machine.specs.State.{process_of, with_process, alive, live_process, registered, posted_to, posted}
-use Rattle.beam_machine.specs.NodeNative.{Answered, answer, fault, most_processes, spawns_with, is_free, names, registers, unnames, unregisters, is_alive, posted_if_own, sends_named, most_references, makes_reference, or_noproc, put_monitor, monitored, monitors_by, answer_of}
-use Rattle.beam_model.specs.SameText.{same_text}
-use Rattle.beam_state.specs.Returns.{is_make_ref}
+use Rattle.beam_machine.specs.Prelude.{Process, is_ended, started, own_pid, own_reference, own_number, arguments_from, process_of, with_process, alive, live_process, registered, posted_to, posted, Answered, answer, fault, most_processes, spawns_with, is_free, names, registers, unnames, unregisters, is_alive, posted_if_own, sends_named, most_references, makes_reference, or_noproc, put_monitor, monitored, monitors_by, answer_of}
+use Rattle.beam_model.specs.declared.exception.Fault.{Fault}
+use Rattle.beam_model.specs.declared.exception.Fault.TheVariants.{Badarg, SystemLimit}
+use Rattle.beam_model.specs.declared.native.NodeNative.{NodeNative}
+use Rattle.beam_model.specs.declared.native.NodeNative.TheVariants.{Spawn, Register, Unregister, Whereis, IsProcessAlive, Exit, Send, MakeRef, Monitor}
+use Rattle.beam_model.specs.Prelude.{truth, elements_in, same_text}
+use Rattle.beam_term.specs.Prelude.{TermValue, atom_term, pid_term}
+use Rattle.beam_laws.proofs.Ending.{at_index}
+use Rattle.beam_state.specs.Prelude.{is_make_ref}
 
 -- ---- the parts of a process that natives keep
 
@@ -34,12 +30,9 @@ kept_at ps at = option_map kept (slice_get ps at)
 abbrev pub Stay : List Process → List Process → Type 0
 Stay ps qs = (at : ℕ) (k : Kept) → kept_at ps at ≡ Some k → kept_at qs at ≡ Some k
 
-pub is_there : (p q : Process) → Some p ≡ Some q → p ≡ q
-is_there p q e = ap (λ o. unwrap_or o p) e
-
 set_keeps : (ps : List Process) (j at : ℕ) (p q : Process) → slice_get ps j ≡ Some p → kept q ≡ kept p → kept_at (slice_set ps j q) at ≡ kept_at ps at
 set_keeps [] j at p q e s = refl
-set_keeps (r ∷ ps) zero zero p q e s = ap Some (s ∙ ap kept (sym (is_there r p e)))
+set_keeps (r ∷ ps) zero zero p q e s = ap Some (s ∙ ap kept (sym (same_Some r p e)))
 set_keeps (r ∷ ps) zero (suc at) p q e s = refl
 set_keeps (r ∷ ps) (suc j) zero p q e s = refl
 set_keeps (r ∷ ps) (suc j) (suc at) p q e s = set_keeps ps j at p q e s
@@ -66,12 +59,6 @@ alive_is (Some q) p e = by (is_ended q.status) e
     by : (b : Bool) → cond b None (Some q) ≡ Some p → Some q ≡ Some p
     by true e = cc
     by false e = e
-
-pub at_index : (ps : List Process) (pid : ℕ) (p : Process) → process_of ps pid ≡ Some p → slice_get ps (pid - 1) ≡ Some p
-at_index ps pid p = elim (nat_lt 0 pid) as (λ b. cond b (slice_get ps (pid - 1)) None ≡ Some p → slice_get ps (pid - 1) ≡ Some p) [
-  | true ↦ λ e. e
-  | false ↦ λ e. cc
-]
 
 pub live_at : (ps : List Process) (pid : ℕ) (p : Process) → live_process ps pid ≡ Some p → slice_get ps (pid - 1) ≡ Some p
 live_at ps pid p e = at_index ps pid p (alive_is (process_of ps pid) p e)

@@ -1,11 +1,9 @@
 -- The process of a number.
-use Rattle.std.proofs.Common.{◌≡◌, ℕ, zero, suc, ◌+◌, ◌-◌, ◌<◌, true, cond, nat_lt, List, [], ◌∷◌, length, slice_get, get_or, sym, ap, ◌∙◌, arith}
+use Rattle.std.proofs.Common.{◌≡◌, ℕ, zero, suc, ◌+◌, ◌-◌, ◌<◌, true, cond, nat_lt, List, [], ◌∷◌, length, slice_get, get_or, sym, ap, ◌∙◌, arith, Some, None}
 use Rattle.std.proofs.Math.ListN.{set}
 use Rattle.std.proofs.lemmas.Bool.Decides.{nat_tests}
 use Rattle.std.proofs.lemmas.Option.{slice_get-get_or}
-use Rattle.std.specs.Prelude.{Some, None}
-use Rattle.beam_machine.specs.Process.{Process}
-use Rattle.beam_machine.specs.State.{process_of}
+use Rattle.beam_machine.specs.Prelude.{Process, process_of}
 
 pub pid_found : (ps : List Process) (at pid : ℕ) (p : Process) → pid ≡ at + 1 → at < length ps → p ≡ get_or ps at p → process_of ps pid ≡ Some p
 pid_found ps at pid p e l g =

@@ -1,39 +1,27 @@
 -- The DOWNs made by the keys of monitors are those that all others are sent at an end.
-use Rattle.std.proofs.Common.{◌≡◌, ℕ, zero, suc, ◌+◌, ◌-◌, ◌*◌, ◌/◌, ◌%◌, ◌<◌, ◌≤◌, ◌==◌, ◌&&◌, Bool, true, false, cond, not, nat_lt, List, [], ◌∷◌, ◌++◌, length, map, slice_get, append_assoc, append-nil, Option, Some, None, refl, sym, ap, subst, ◌∙◌, arith, true≢false, rules}
+use Rattle.std.proofs.Common.{◌≡◌, ℕ, zero, suc, ◌+◌, ◌-◌, ◌*◌, ◌/◌, ◌%◌, ◌<◌, ◌≤◌, ◌==◌, ◌&&◌, Bool, true, false, cond, not, nat_lt, List, [], ◌∷◌, ◌++◌, length, map, slice_get, append_assoc, append-nil, Option, Some, None, refl, sym, ap, subst, ◌∙◌, arith, true≢false, rules, filter, ◌||◌, option_map, slice_set, eqb-true}
+use Rattle.std.specs.Ordering.{nat_cmp}
 use Rattle.std.proofs.lemmas.Bool.Decides.{nat_tests}
 use Rattle.std.proofs.lemmas.List.{map-append}
 use Rattle.std.proofs.lemmas.List.Folds.{list_any-append}
-use Rattle.std.specs.Prelude.{filter, ◌||◌, option_map, slice_set}
 use Rattle.std.specs.List.{list_any, AllByRecursion}
 use Rattle.std.specs.List.Sorted.{IsStrictlySortedBy}
-use Rattle.std.specs.Ordering.{nat_cmp}
-use Rattle.beam_term.specs.TermValue.{TermValue}
+use Rattle.std.proofs.lemmas.Bool.{and_parts, and_from, or_left, or_right}
+use Rattle.std.proofs.lemmas.Option.{same_Some}
+use Rattle.beam_lemmas.proofs.Tests.{itself}
 use Rattle.beam_machine.specs.declared.process.Monitor.{Monitor}
 use Rattle.beam_machine.specs.declared.process.Signal.{Signal}
 use Rattle.beam_machine.specs.declared.process.Signal.TheVariants.{Down}
 use Rattle.beam_machine.specs.declared.process.Status.{Status}
 use Rattle.beam_machine.specs.declared.process.Status.TheVariants.{Running, Waiting, Ended}
-use Rattle.beam_machine.specs.Private.{Sent}
-use Rattle.beam_machine.specs.Process.{Process, is_ended, monitor_of}
-use Rattle.beam_machine.specs.Quiet.{is_monitored}
-use Rattle.beam_machine.specs.Row.{own_number}
-use Rattle.beam_machine.specs.State.{alive, process_of, live_process, monitors_process, downs}
-use Rattle.beam_laws.specs.Monitors.{ArePart, Rise, AreRising}
-use Rattle.beam_laws.specs.Orderly.{Ends, Orderly}
-use Rattle.beam_laws.specs.Signals.{each_sent}
+use Rattle.beam_machine.specs.Prelude.{Sent, Process, is_ended, monitor_of, is_monitored, own_number, alive, process_of, live_process, monitors_process, downs}
+use Rattle.beam_term.specs.Prelude.{TermValue}
+use Rattle.beam_laws.specs.Prelude.{ArePart, Rise, AreRising, Ends, Orderly, each_sent}
 use Rattle.beam_laws.proofs.Ending.{alive_is, at_index}
 use Rattle.beam_laws.proofs.Numbered.{alive_of}
-use Rattle.beam_model.specs.Listing.{is_this_number}
-use Rattle.beam_state.specs.Posting.{AreLawful, notices_of}
-use Rattle.beam_state.specs.MonitorKeys.{monitor_key, monitored_in, receiver_in, reference_in, has_key, is_key_of, is_monitored_by, MonitorNoMore, IsKeyed, AreKeyed, AreMonitorsKeyed, names_number, monitors_under, is_live_key, is_told, down_of, AreMonitorsKeyedIf, TellAll}
-use Rattle.beam_state.proofs.Keys.{receiver_is, reference_is, monitored_is, key_is, of_monitored, itself, same, either, both, first_of, second_of, alike, in_filter, from_filter, Asc, lower, asc_more, filter_asc, sorted_asc, ext}
-
-all_of : (a b : Bool) → a ≡ true → b ≡ true → (a && b) ≡ true
-all_of true b e f = f
-all_of false b e f = cc
-
-is_there : (p q : Process) → Some p ≡ Some q → p ≡ q
-is_there p q e = cc
+use Rattle.beam_model.specs.Prelude.{is_this_number}
+use Rattle.beam_state.specs.Prelude.{AreLawful, notices_of, monitor_key, monitored_in, receiver_in, reference_in, has_key, is_key_of, is_monitored_by, MonitorNoMore, IsKeyed, AreKeyed, AreMonitorsKeyed, names_number, monitors_under, is_live_key, is_told, down_of, AreMonitorsKeyedIf, TellAll}
+use Rattle.beam_state.proofs.Keys.{receiver_is, reference_is, monitored_is, key_is, of_monitored, either, alike, in_filter, from_filter, Asc, lower, asc_more, filter_asc, sorted_asc, ext}
 
 -- ---- the monitors of one process
 
@@ -57,10 +45,10 @@ named_keyed w at n (m ∷ ms) h = by (λ e. named_keyed w at n ms e) (m.referenc
     by : (IsNamed w n ms → has_key (keys_in w at ms) (base w at + n) ≡ true) → (b : Bool) → (m.reference == n) ≡ b
         → names_number w (option_map (λ m. m.pid) (cond b (Some m) (monitor_of n ms))) ≡ true → HasIf w at n m ms (monitors_process w m)
     by rest true is h =
-        let here : (base w at + n == base w at + m.reference) ≡ true = subst (λ k. (base w at + k == base w at + m.reference) ≡ true) (same m.reference n is) (itself (base w at + m.reference)) in
-        subst (HasIf w at n m ms) (sym h) (first_of (base w at + n == base w at + m.reference) (has_key (keys_in w at ms) (base w at + n)) here)
+        let here : (base w at + n == base w at + m.reference) ≡ true = subst (λ k. (base w at + k == base w at + m.reference) ≡ true) (eqb-true m.reference n is) (itself (base w at + m.reference)) in
+        subst (HasIf w at n m ms) (sym h) (or_left (base w at + n == base w at + m.reference) (has_key (keys_in w at ms) (base w at + n)) here)
     by rest false is h =
-        elim (monitors_process w m) as (λ b. HasIf w at n m ms b) [ true ↦ second_of (base w at + n == base w at + m.reference) (has_key (keys_in w at ms) (base w at + n)) (rest h) | false ↦ rest h ]
+        elim (monitors_process w m) as (λ b. HasIf w at n m ms b) [ true ↦ or_right (base w at + n == base w at + m.reference) (has_key (keys_in w at ms) (base w at + n)) (rest h) | false ↦ rest h ]
 
 abbrev Monitoring : ℕ → ℕ → ℕ → List Monitor → Type 0
 Monitoring w at k ms = (n : ℕ) × ((k ≡ base w at + n) × (is_monitored_by w n ms ≡ true))
@@ -70,14 +58,14 @@ keyed_monitored w at k [] h = cc
 keyed_monitored w at k (m ∷ ms) h = by (λ e. keyed_monitored w at k ms e) (monitors_process w m) refl h
   where
     later : Monitoring w at k ms → Monitoring w at k (m ∷ ms)
-    later r = (r.0, (r.1.0, second_of ((m.reference == r.0) && monitors_process w m) (is_monitored_by w r.0 ms) r.1.1))
+    later r = (r.0, (r.1.0, or_right ((m.reference == r.0) && monitors_process w m) (is_monitored_by w r.0 ms) r.1.1))
 
     by : (has_key (keys_in w at ms) k ≡ true → Monitoring w at k ms) → (b : Bool) → monitors_process w m ≡ b
         → has_key (map (λ m. base w at + m.reference) (cond b (m ∷ filter (monitors_process w) ms) (filter (monitors_process w) ms))) k ≡ true → Monitoring w at k (m ∷ ms)
     by rest false is h = later (rest h)
     by rest true is h =
         either (k == base w at + m.reference) (has_key (keys_in w at ms) k) h
-        (λ e. (m.reference, (same k (base w at + m.reference) e, first_of ((m.reference == m.reference) && monitors_process w m) (is_monitored_by w m.reference ms) (all_of (m.reference == m.reference) (monitors_process w m) (itself m.reference) is))))
+        (λ e. (m.reference, (eqb-true k (base w at + m.reference) e, or_left ((m.reference == m.reference) && monitors_process w m) (is_monitored_by w m.reference ms) (and_from (m.reference == m.reference) (monitors_process w m) (itself m.reference) is))))
         (λ e. later (rest e))
 
 -- references that rise are apart
@@ -89,7 +77,7 @@ risen_named w n above count (m ∷ ms) r h = by (λ e. risen_named w n m.referen
         → (names_number w (option_map (λ m. m.pid) (cond b (Some m) (monitor_of n ms))) ≡ true) × ((above < n) × (n ≤ count))
     by rest false is h = let a = rest h in (a.0, (omega (arith, r.0, a.1.0), a.1.1))
     by rest true is h =
-        let one : m.reference ≡ n = same m.reference n is in
+        let one : m.reference ≡ n = eqb-true m.reference n is in
         either (monitors_process w m) (is_monitored_by w n ms) h
         (λ e. (e, (omega (arith, r.0, one), omega (arith, r.1.0, one))))
         (λ e. let a = rest e in absurd (omega (arith, a.1.0, one)))
@@ -121,14 +109,14 @@ sent_one : (reason : TermValue) (w at above count : ℕ) (keys : List ℕ) (ms :
     → map (down_of reason) (keys_in w at ms) ≡ map (λ signal. record { to = at; signal = signal }) (downs w reason ms)
 sent_one reason w at above count keys [] few r h = refl
 sent_one reason w at above count keys (m ∷ ms) few r h =
-    by (sent_one reason w at m.reference count keys ms few r.1.1 (λ v n e. h v n (second_of ((m.reference == n) && monitors_process v m) (is_monitored_by v n ms) e))) (monitors_process w m) refl
+    by (sent_one reason w at m.reference count keys ms few r.1.1 (λ v n e. h v n (or_right ((m.reference == n) && monitors_process v m) (is_monitored_by v n ms) e))) (monitors_process w m) refl
   where
     by : map (down_of reason) (keys_in w at ms) ≡ map (λ signal. record { to = at; signal = signal }) (downs w reason ms) → (b : Bool) → monitors_process w m ≡ b
         → map (down_of reason) (map (λ m. base w at + m.reference) (cond b (m ∷ filter (monitors_process w) ms) (filter (monitors_process w) ms)))
         ≡ map (λ signal. record { to = at; signal = signal }) (map (λ m. Down m.reference reason) (cond b (m ∷ filter (monitors_process w) ms) (filter (monitors_process w) ms)))
     by rest false is = rest
     by rest true is =
-        let keyed = h w m.reference (first_of ((m.reference == m.reference) && monitors_process w m) (is_monitored_by w m.reference ms) (all_of (m.reference == m.reference) (monitors_process w m) (itself m.reference) is)) in
+        let keyed = h w m.reference (or_left ((m.reference == m.reference) && monitors_process w m) (is_monitored_by w m.reference ms) (and_from (m.reference == m.reference) (monitors_process w m) (itself m.reference) is)) in
         let fits : m.reference < 4294967296 = omega (arith, r.1.0, few) in
         ap (λ s. s ∷ map (down_of reason) (keys_in w at ms)) (down_at reason w at m.reference keyed.1.0 fits) ∙ ap (λ l. record { to = at; signal = Down m.reference reason } ∷ l) rest
 
@@ -205,14 +193,14 @@ each_found w at k (q ∷ qs) h =
 each_has : (w at k i : ℕ) (q : Process) (ps : List Process) → slice_get ps i ≡ Some q → (q.pid == w) ≡ false → has_key (keys_in w (i + at) q.monitors) k ≡ true → has_key (keys_at w at ps) k ≡ true
 each_has w at k i q [] e f h = cc
 each_has w at k zero q (p ∷ ps) e f h =
-    let one : q ≡ p = sym (is_there p q e) in
+    let one : q ≡ p = sym (same_Some p q e) in
     let here : 0 + at ≡ at = omega arith in
     let has : has_key (cond (q.pid == w) [] (keys_in w at q.monitors)) k ≡ true = subst (λ b. has_key (cond b [] (keys_in w at q.monitors)) k ≡ true) (sym f) (subst (λ n. has_key (keys_in w n q.monitors) k ≡ true) here h) in
-    list_any-append (λ x. k == x) (keys_of_one w at p) (keys_at w (at + 1) ps) ∙ first_of (has_key (keys_of_one w at p) k) (has_key (keys_at w (at + 1) ps) k) (subst (λ p. has_key (keys_of_one w at p) k ≡ true) one has)
+    list_any-append (λ x. k == x) (keys_of_one w at p) (keys_at w (at + 1) ps) ∙ or_left (has_key (keys_of_one w at p) k) (has_key (keys_at w (at + 1) ps) k) (subst (λ p. has_key (keys_of_one w at p) k ≡ true) one has)
 each_has w at k (suc i) q (p ∷ ps) e f h =
     let next : suc i + at ≡ i + (at + 1) = omega arith in
     list_any-append (λ x. k == x) (keys_of_one w at p) (keys_at w (at + 1) ps)
-    ∙ second_of (has_key (keys_of_one w at p) k) (has_key (keys_at w (at + 1) ps) k) (each_has w (at + 1) k i q ps e f (subst (λ n. has_key (keys_in w n q.monitors) k ≡ true) next h))
+    ∙ or_right (has_key (keys_of_one w at p) k) (has_key (keys_at w (at + 1) ps) k) (each_has w (at + 1) k i q ps e f (subst (λ n. has_key (keys_in w n q.monitors) k ≡ true) next h))
 
 -- ---- processes that live
 
@@ -239,7 +227,7 @@ unended q w n ends h = by q.status refl
 
 rise_at : (count : ℕ) (ps : List Process) (i : ℕ) (q : Process) → AreRising count ps → slice_get ps i ≡ Some q → Rise 0 count q.monitors
 rise_at count [] i q r e = cc
-rise_at count (p ∷ ps) zero q r e = subst (λ (p : Process). Rise 0 count p.monitors) (is_there p q e) r.0
+rise_at count (p ∷ ps) zero q r e = subst (λ (p : Process). Rise 0 count p.monitors) (same_Some p q e) r.0
 rise_at count (p ∷ ps) (suc i) q r e = rise_at count ps i q r.1 e
 
 -- ---- the signals that are sent
@@ -273,7 +261,7 @@ module _ (keys : List ℕ) (ps : List Process) (count : ℕ) (have : AreMonitors
     found k h =
         let a = from_filter (is_told ps w) (filter (is_key_of w) keys) k h in
         let b = from_filter (is_key_of w) keys k a.0 in
-        let t = both (not (receiver_in k == w)) (is_live_key ps w k) a.1 in
+        let t = and_parts (not (receiver_in k == w)) (is_live_key ps w k) a.1 in
         by (key_is w k b.1) t.0 (live_process ps (receiver_in k)) refl t.1
       where
         by : k ≡ monitor_key w (receiver_in k) (reference_in k) → not (receiver_in k == w) ≡ true → (p : Option Process) → live_process ps (receiver_in k) ≡ p → monitors_under w (reference_in k) p ≡ true
@@ -304,7 +292,7 @@ module _ (keys : List ℕ) (ps : List Process) (count : ℕ) (have : AreMonitors
         subst (λ k. has_key told_keys k ≡ true) (sym y.1.0)
         (in_filter (is_told ps w) (filter (is_key_of w) keys) (monitor_key w (i + 1) n)
         (in_filter (is_key_of w) keys (monitor_key w (i + 1) n) keyed.1.1 (of_monitored w (i + 1) n keyed.1.0 fits))
-        (all_of (not (receiver_in (monitor_key w (i + 1) n) == w)) (is_live_key ps w (monitor_key w (i + 1) n)) apart (counted w n i q there y.1.1)))
+        (and_from (not (receiver_in (monitor_key w (i + 1) n) == w)) (is_live_key ps w (monitor_key w (i + 1) n)) apart (counted w n i q there y.1.1)))
 
     pub notices_are : (reason : TermValue) → IsStrictlySortedBy nat_cmp keys → map (down_of reason) told_keys ≡ notices_of ps w reason
     notices_are reason sorted =
@@ -322,13 +310,13 @@ named_monitors w n [] h = cc
 named_monitors w n (m ∷ ms) h = by (λ e. named_monitors w n ms e) (m.reference == n) h
   where
     by : (IsNamed w n ms → list_any (monitors_process w) ms ≡ true) → (b : Bool) → names_number w (option_map (λ m. m.pid) (cond b (Some m) (monitor_of n ms))) ≡ true → (monitors_process w m || list_any (monitors_process w) ms) ≡ true
-    by rest true e = first_of (monitors_process w m) (list_any (monitors_process w) ms) e
-    by rest false e = second_of (monitors_process w m) (list_any (monitors_process w) ms) (rest e)
+    by rest true e = or_left (monitors_process w m) (list_any (monitors_process w) ms) e
+    by rest false e = or_right (monitors_process w m) (list_any (monitors_process w) ms) (rest e)
 
 there_monitored : (w i : ℕ) (q : Process) (ps : List Process) → slice_get ps i ≡ Some q → list_any (monitors_process w) q.monitors ≡ true → is_monitored ps w ≡ true
 there_monitored w i q [] e h = cc
-there_monitored w zero q (p ∷ ps) e h = first_of (list_any (monitors_process w) p.monitors) (is_monitored ps w) (subst (λ (p : Process). list_any (monitors_process w) p.monitors ≡ true) (sym (is_there p q e)) h)
-there_monitored w (suc i) q (p ∷ ps) e h = second_of (list_any (monitors_process w) p.monitors) (is_monitored ps w) (there_monitored w i q ps e h)
+there_monitored w zero q (p ∷ ps) e h = or_left (list_any (monitors_process w) p.monitors) (is_monitored ps w) (subst (λ (p : Process). list_any (monitors_process w) p.monitors ≡ true) (sym (same_Some p q e)) h)
+there_monitored w (suc i) q (p ∷ ps) e h = or_right (list_any (monitors_process w) p.monitors) (is_monitored ps w) (there_monitored w i q ps e h)
 
 counts_monitored : (ps : List Process) (w k : ℕ) → is_live_key ps w k ≡ true → is_monitored ps w ≡ true
 counts_monitored ps w k h = by (live_process ps (receiver_in k)) refl h
@@ -344,7 +332,7 @@ none_told ps w k h = by (is_told ps w k) refl
   where
     by : (b : Bool) → is_told ps w k ≡ b → b ≡ false
     by false e = refl
-    by true e = absurd (true≢false (sym (counts_monitored ps w k (both (not (receiver_in k == w)) (is_live_key ps w k) e).1) ∙ h))
+    by true e = absurd (true≢false (sym (counts_monitored ps w k (and_parts (not (receiver_in k == w)) (is_live_key ps w k) e).1) ∙ h))
 
 -- ---- changes that keep the keys complete
 
@@ -369,11 +357,11 @@ filter_fewer keep (m ∷ ms) w n e = by (λ f. filter_fewer keep ms w n f) (keep
   where
     by : (is_monitored_by w n (filter keep ms) ≡ true → is_monitored_by w n ms ≡ true) → (b : Bool) → is_monitored_by w n (cond b (m ∷ filter keep ms) (filter keep ms)) ≡ true
         → (((m.reference == n) && monitors_process w m) || is_monitored_by w n ms) ≡ true
-    by rest false f = second_of ((m.reference == n) && monitors_process w m) (is_monitored_by w n ms) (rest f)
+    by rest false f = or_right ((m.reference == n) && monitors_process w m) (is_monitored_by w n ms) (rest f)
     by rest true f =
         either ((m.reference == n) && monitors_process w m) (is_monitored_by w n (filter keep ms)) f
-        (λ g. first_of ((m.reference == n) && monitors_process w m) (is_monitored_by w n ms) g)
-        (λ g. second_of ((m.reference == n) && monitors_process w m) (is_monitored_by w n ms) (rest g))
+        (λ g. or_left ((m.reference == n) && monitors_process w m) (is_monitored_by w n ms) g)
+        (λ g. or_right ((m.reference == n) && monitors_process w m) (is_monitored_by w n ms) (rest g))
 
 pub part_fewer : (ms ns : List Monitor) → ArePart ms ns → MonitorNoMore ms ns
 part_fewer ms ns part = subst (MonitorNoMore ms) (sym part.1) (filter_fewer part.0 ms)
@@ -385,11 +373,11 @@ more_keyed keys receiver reference pid ms h new = λ w n e.
     let m : Monitor = record { reference = reference; pid = pid } in
     either (is_monitored_by w n ms) (is_monitored_by w n (m ∷ [])) (sym (list_any-append (λ m. (m.reference == n) && monitors_process w m) ms (m ∷ [])) ∙ e)
     (λ f. h w n f)
-    (λ f. either ((reference == n) && monitors_process w m) false f (λ g. let b = both (reference == n) (monitors_process w m) g in one w n (same reference n b.0) (own_number pid) refl b.1) (λ g. absurd (true≢false (sym g))))
+    (λ f. either ((reference == n) && monitors_process w m) false f (λ g. let b = and_parts (reference == n) (monitors_process w m) g in one w n (eqb-true reference n b.0) (own_number pid) refl b.1) (λ g. absurd (true≢false (sym g))))
   where
     one : (w n : ℕ) → reference ≡ n → (o : Option ℕ) → own_number pid ≡ o → is_this_number w o ≡ true → IsKeyed keys w receiver n
     one w n same None e g = cc
-    one w n is (Some v) e g = subst (λ n. IsKeyed keys w receiver n) is (new w (e ∙ ap Some (same v w g)))
+    one w n is (Some v) e g = subst (λ n. IsKeyed keys w receiver n) is (new w (e ∙ ap Some (eqb-true v w g)))
 
 -- a process is put in the place of another
 pub set_monitored : (keys : List ℕ) (ps : List Process) (i : ℕ) (q : Process) → AreMonitorsKeyed keys ps → AreKeyed keys (i + 1) q.monitors → AreMonitorsKeyed keys (slice_set ps i q)
@@ -397,7 +385,7 @@ set_monitored keys ps i q h g = λ j p e. got ps i j p e (λ s is. subst (λ (p 
   where
     got : {C : Type 0} (ps : List Process) (i j : ℕ) (r : Process) → slice_get (slice_set ps i q) j ≡ Some r → (i ≡ j → q ≡ r → C) → (slice_get ps j ≡ Some r → C) → C
     got [] i j r e f g = g e
-    got (p ∷ ps) zero zero r e f g = f refl (is_there q r e)
+    got (p ∷ ps) zero zero r e f g = f refl (same_Some q r e)
     got (p ∷ ps) zero (suc j) r e f g = g e
     got (p ∷ ps) (suc i) zero r e f g = g e
     got (p ∷ ps) (suc i) (suc j) r e f g = got ps i j r e (λ s. f (ap suc s)) g
@@ -407,7 +395,7 @@ pub push_monitored : (keys : List ℕ) (ps : List Process) (x : Process) → Are
 push_monitored keys ps x h none = λ j p e. pushed ps j p e (λ is. subst (λ (p : Process). AreKeyed keys (j + 1) p.monitors) is (subst (AreKeyed keys (j + 1)) (sym none) (λ w n f. cc))) (λ f. h j p f)
   where
     pushed : {C : Type 0} (ps : List Process) (j : ℕ) (r : Process) → slice_get (ps ++ x ∷ []) j ≡ Some r → (x ≡ r → C) → (slice_get ps j ≡ Some r → C) → C
-    pushed [] zero r e f g = f (is_there x r e)
+    pushed [] zero r e f g = f (same_Some x r e)
     pushed [] (suc j) r e f g = g e
     pushed (p ∷ ps) zero r e f g = g e
     pushed (p ∷ ps) (suc j) r e f g = pushed ps j r e f g
@@ -456,11 +444,11 @@ pub first_keyed : (keys : List ℕ) (receiver reference : ℕ) (pid : TermValue)
     → AreKeyed keys receiver (record { reference = reference; pid = pid } ∷ ms)
 first_keyed keys receiver reference pid ms new h = λ w n e.
     let m : Monitor = record { reference = reference; pid = pid } in
-    either ((reference == n) && monitors_process w m) (is_monitored_by w n ms) e (λ g. let b = both (reference == n) (monitors_process w m) g in one w n (same reference n b.0) (own_number pid) refl b.1) (λ f. h w n f)
+    either ((reference == n) && monitors_process w m) (is_monitored_by w n ms) e (λ g. let b = and_parts (reference == n) (monitors_process w m) g in one w n (eqb-true reference n b.0) (own_number pid) refl b.1) (λ f. h w n f)
   where
     one : (w n : ℕ) → reference ≡ n → (o : Option ℕ) → own_number pid ≡ o → is_this_number w o ≡ true → IsKeyed keys w receiver n
     one w n same None e g = cc
-    one w n is (Some v) e g = subst (λ n. IsKeyed keys w receiver n) is (new w (e ∙ ap Some (same v w g)))
+    one w n is (Some v) e g = subst (λ n. IsKeyed keys w receiver n) is (new w (e ∙ ap Some (eqb-true v w g)))
 
 pub more_has : (old new : List ℕ) (watched receiver reference : ℕ) → ((key : ℕ) → has_key old key ≡ true → has_key new key ≡ true) → IsKeyed old watched receiver reference → IsKeyed new watched receiver reference
 more_has old new watched receiver reference more k = (k.0, (k.1.0, more (monitor_key watched receiver reference) k.1.1))

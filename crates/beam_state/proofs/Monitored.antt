@@ -1,24 +1,21 @@
 -- A process that monitors another, and the node's answers about references.
-use Rattle.std.proofs.Common.{◌≡◌, ◌<◌, ℕ, ◌+◌, Bool, true, false, cond, List, [], ◌∷◌, ◌++◌, slice_get, refl, sym, ap, subst, ◌∙◌, arith, rules, Option, Some, None, Result, Ok, Err}
+use Rattle.std.proofs.Common.{◌≡◌, ◌<◌, ℕ, ◌+◌, Bool, true, false, cond, List, [], ◌∷◌, ◌++◌, slice_get, refl, sym, ap, subst, ◌∙◌, arith, rules, Option, Some, None, Result, Ok, Err, codes, unwrap_or, IfSome, OnOk, OnErr, length}
 use Rattle.std.proofs.Math.ListN.{set}
-use Rattle.std.specs.Prelude.{codes, unwrap_or, IfSome, OnOk, OnErr, length}
 use Rattle.std.specs.declared.alloc.AllocError.{AllocError}
-use Rattle.beam_term.specs.TermValue.{TermValue, atom_term}
-use Rattle.beam_model.specs.declared.exception.Fault.{Fault}
 use Rattle.beam_machine.specs.declared.process.Monitor.{Monitor}
 use Rattle.beam_machine.specs.declared.process.Signal.{Signal}
 use Rattle.beam_machine.specs.declared.process.Signal.TheVariants.{Down}
-use Rattle.beam_machine.specs.NodeNative.{Answered, is_alive, put_monitor, with_new_monitor, monitored}
-use Rattle.beam_machine.specs.Process.{Process, is_ended}
-use Rattle.beam_machine.specs.Row.{own_number}
-use Rattle.beam_machine.specs.State.{process_of, with_process, alive, live_process, posted_to, posted}
-use Rattle.beam_laws.specs.Monitors.{Rise, AreRising}
+use Rattle.beam_machine.specs.Prelude.{Answered, is_alive, put_monitor, with_new_monitor, monitored, Process, is_ended, own_number, process_of, with_process, alive, live_process, posted_to, posted}
+use Rattle.beam_model.specs.declared.exception.Fault.{Fault}
+use Rattle.beam_term.specs.Prelude.{TermValue, atom_term}
+use Rattle.beam_laws.specs.Prelude.{Rise, AreRising}
 use Rattle.beam_laws.proofs.Numbered.{put_put, put_here, alive_of}
 use Rattle.beam_laws.proofs.Ending.{alive_is}
 use Rattle.beam_laws.proofs.Rising.{RisesIf, live_up}
 use Rattle.beam_watches.specs.MonitorEntries.{AreBelow}
-use Rattle.beam_state.specs.Returns.{Returns, ReturnsCounting, with_monitor}
-use Rattle.beam_state.proofs.Answering.{process_at, set_process, set_same}
+use Rattle.beam_codesrv.proofs.Gathered.{at_pid}
+use Rattle.beam_state.specs.Prelude.{Returns, ReturnsCounting, with_monitor}
+use Rattle.beam_state.proofs.Answering.{set_process, set_same}
 use Rattle.beam_state.proofs.Asked.{said}
 use Rattle.beam_state.proofs.Ended.{some_there}
 
@@ -82,7 +79,7 @@ pub below_there : (ps : List Process) (caller at n : ℕ) → caller ≡ at + 1 
 below_there ps caller at n located l lives below =
     let there = some_there ps at l in
     let p : Process = there.0 in
-    let live : live_process ps caller ≡ Some p = ap alive (process_at ps at caller located ∙ there.1) ∙ alive_of p (said ps at p (λ p. is_ended p.status ≡ false) there.1 lives) in
+    let live : live_process ps caller ≡ Some p = ap alive (at_pid ps at caller located ∙ there.1) ∙ alive_of p (said ps at p (λ p. is_ended p.status ≡ false) there.1 lives) in
     subst (λ o. IfSome o (λ p. AreBelow n p.monitors)) (sym there.1) (below p live)
 
 pub keeps_ok : (ps : List Process) (caller at n : ℕ) (pid : TermValue) (o : Option ℕ) (down : Option Signal) → caller ≡ at + 1 → own_number pid ≡ o → down ≡ noproc_of ps o n
@@ -93,7 +90,7 @@ keeps_ok ps caller at n pid o down located named is (Ok u) new l lives h =
     let there = some_there ps at l in
     let p : Process = there.0 in
     let d = said ps at p (λ p. (q : Process) × ((q ≡ with_monitor p n pid down) × Unit {0}) × (new ≡ set ps at q)) there.1 h in
-    let live : live_process ps caller ≡ Some p = ap alive (process_at ps at caller located ∙ there.1) ∙ alive_of p (said ps at p (λ p. is_ended p.status ≡ false) there.1 lives) in
+    let live : live_process ps caller ≡ Some p = ap alive (at_pid ps at caller located ∙ there.1) ∙ alive_of p (said ps at p (λ p. is_ended p.status ≡ false) there.1 lives) in
     d.2 ∙ (ap (λ q. set ps at q) (d.1.0 ∙ ap (with_monitor p n pid) (is ∙ ap (λ o. noproc_of ps o n) (sym named)))
     ∙ (sym (set_process ps at caller (with_monitor p n pid (noproc_of ps (own_number pid) n)) located) ∙ sym (monitored_is ps caller pid n p live)))
 

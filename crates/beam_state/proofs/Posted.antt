@@ -1,18 +1,15 @@
 -- Processes to which signals are posted, or from which they are taken back, stay in order.
-use Rattle.std.proofs.Common.{◌≡◌, ℕ, ◌-◌, List, [], ◌∷◌, ◌++◌, length, take, refl, sym, subst}
-use Rattle.std.specs.Prelude.{Option, Some, None, Result, Ok, Err, OnOk, OnErr}
+use Rattle.std.proofs.Common.{◌≡◌, ℕ, ◌-◌, List, [], ◌∷◌, ◌++◌, length, take, refl, sym, subst, Option, Some, None, Result, Ok, Err, OnOk, OnErr}
 use Rattle.std.specs.declared.alloc.AllocError.{AllocError}
 use Rattle.beam_machine.specs.declared.process.Signal.{Signal}
-use Rattle.beam_machine.specs.Private.{Sent}
-use Rattle.beam_machine.specs.Process.{Process}
-use Rattle.beam_machine.specs.State.{process_of, with_process, live_process, posted_to, posted}
-use Rattle.beam_laws.specs.Private.{posted_all}
+use Rattle.beam_machine.specs.Prelude.{Sent, Process, process_of, with_process, live_process, posted_to, posted}
+use Rattle.beam_laws.specs.Prelude.{posted_all}
 use Rattle.beam_laws.proofs.Ending.{alive_is, at_index}
 use Rattle.beam_laws.proofs.Follows.{on}
 use Rattle.beam_laws.proofs.Orderly.{set_orderly}
 use Rattle.beam_laws.proofs.Rising.{RisesIf, set_up, live_up}
 use Rattle.beam_codesrv.specs.Posting.{taken_of, all_taken}
-use Rattle.beam_state.specs.Posting.{AreLawful}
+use Rattle.beam_state.specs.Prelude.{AreLawful}
 
 -- ---- pids, names and monitors stay in order
 

@@ -1,14 +1,12 @@
 -- A native's answer doesn't depend on the y registers of the process that asks.
-use Rattle.std.proofs.Common.{◌≡◌, ℕ, zero, suc, ◌<◌, List, [], ◌∷◌, ◌++◌, length, slice_get, refl, sym, ap, ◌∙◌, arith}
-use Rattle.std.specs.Prelude.{Option, Some, None, slice_set}
-use Rattle.beam_term.specs.TermValue.{TermValue}
-use Rattle.beam_model.specs.declared.native.NodeNative.{NodeNative}
+use Rattle.std.proofs.Common.{◌≡◌, ℕ, zero, suc, ◌<◌, List, [], ◌∷◌, ◌++◌, length, slice_get, refl, sym, ap, ◌∙◌, arith, Option, Some, None, slice_set}
+use Rattle.std.proofs.lemmas.Option.{same_Some}
 use Rattle.beam_machine.specs.declared.process.Monitor.{Monitor}
 use Rattle.beam_machine.specs.declared.process.Signal.{Signal}
-use Rattle.beam_machine.specs.Process.{Process, is_ended, started, bared}
-use Rattle.beam_machine.specs.NodeNative.{answer_of}
-use Rattle.beam_state.specs.Asking.{bare_if}
-use Rattle.beam_state.proofs.Leaving.{is_there}
+use Rattle.beam_machine.specs.Prelude.{Process, is_ended, started, bared, answer_of}
+use Rattle.beam_model.specs.declared.native.NodeNative.{NodeNative}
+use Rattle.beam_term.specs.Prelude.{TermValue}
+use Rattle.beam_state.specs.Prelude.{bare_if}
 use Rattle.beam_state.proofs.Seen.{each, Unseen, Posts, Watches, moved, same_answer}
 
 -- a function is applied to the process at one index, and no other is changed
@@ -41,7 +39,7 @@ none_given (p ∷ ps) = ap (λ l. p ∷ l) (none_given ps)
 
 pub set_one : (h : Process → Process) (ps : List Process) (at : ℕ) (p : Process) → slice_get ps at ≡ Some p → slice_set ps at (h p) ≡ each (at_one h at) ps
 set_one h [] at p e = refl
-set_one h (q ∷ ps) zero p e = ap (λ r. h r ∷ ps) (sym (is_there q p e)) ∙ ap (λ l. h q ∷ l) (sym (none_given ps))
+set_one h (q ∷ ps) zero p e = ap (λ r. h r ∷ ps) (sym (same_Some q p e)) ∙ ap (λ l. h q ∷ l) (sym (none_given ps))
 set_one h (q ∷ ps) (suc at) p e = ap (λ l. q ∷ l) (set_one h ps at p e)
 
 -- where the process at that index is then replaced, nothing is left of the function

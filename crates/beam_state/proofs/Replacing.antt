@@ -1,21 +1,16 @@
 -- One process is put in the place of another.
-use Rattle.std.proofs.Common.{◌≡◌, ℕ, ◌+◌, ◌-◌, true, false, cond, refl, List, [], slice_get, sym, ap, subst, ◌∙◌, arith}
-use Rattle.std.specs.Prelude.{Option, Some, None, is_some, IfSome, slice_set}
+use Rattle.std.proofs.Common.{◌≡◌, ℕ, ◌+◌, ◌-◌, true, false, cond, refl, List, [], slice_get, sym, ap, subst, ◌∙◌, arith, Option, Some, None, is_some, IfSome, slice_set}
+use Rattle.std.proofs.lemmas.Option.{same_Some}
 use Rattle.beam_machine.specs.declared.process.Signal.{Signal}
-use Rattle.beam_machine.specs.Process.{Process, is_ended}
-use Rattle.beam_machine.specs.State.{process_of, with_process, live_process}
-use Rattle.beam_laws.specs.Private.{with_name_and_transit}
+use Rattle.beam_machine.specs.Prelude.{Process, is_ended, process_of, with_process, live_process}
+use Rattle.beam_laws.specs.Prelude.{with_name_and_transit, ArePart, Rise}
 use Rattle.beam_laws.proofs.Ending.{alive_is, at_index}
-use Rattle.beam_laws.specs.Monitors.{ArePart, Rise}
 use Rattle.beam_laws.proofs.Orderly.{set_orderly}
 use Rattle.beam_laws.proofs.Rising.{RisesIf, rise_part, live_up, set_up}
-use Rattle.beam_state.specs.Indexed.{KeepsName, GoesOnFrom}
-use Rattle.beam_state.specs.MonitorKeys.{MonitorNoMore}
-use Rattle.beam_state.specs.Posting.{AreLawful, CanReplace}
+use Rattle.beam_state.specs.Prelude.{KeepsName, GoesOnFrom, MonitorNoMore, AreLawful, CanReplace}
 use Rattle.beam_state.proofs.Answering.{set_process}
 use Rattle.beam_state.proofs.MonitorKeys.{part_fewer}
 use Rattle.beam_state.proofs.Asked.{said}
-use Rattle.beam_state.proofs.Leaving.{is_there}
 
 -- the call leaves the list with the new process in place, and gives back the old one
 abbrev pub Replaced : List Process → ℕ → Process → List Process → Process → Type 0
@@ -72,4 +67,4 @@ module _ (ps : List Process) (pid : ℕ) (r : Process) (h : CanReplace ps pid r)
         → (new ≡ with_process ps pid (with_name_and_transit q.name q.transit r)) × (was ≡ record q { name = None; transit = [] })
     replaced_is new was q does there =
         subst (λ q. (new ≡ with_process ps pid (with_name_and_transit q.name q.transit r)) × (was ≡ record q { name = None; transit = [] }))
-        (is_there h.0 q (sym found ∙ there)) (replaced new was does)
+        (same_Some h.0 q (sym found ∙ there)) (replaced new was does)

@@ -1,30 +1,24 @@
 -- A row that asks something of the node leaves pids and names in order.
-use Rattle.std.proofs.Common.{◌≡◌, ℕ, ◌-◌, List, [], true, false, cond, Option, Some, None, Result, Ok, Err, refl, sym, ap, subst, ◌∙◌}
-use Rattle.std.specs.Prelude.{is_some, option_map}
+use Rattle.std.proofs.Common.{◌≡◌, ℕ, ◌-◌, List, [], true, false, cond, Option, Some, None, Result, Ok, Err, refl, sym, ap, subst, ◌∙◌, is_some, option_map}
 use Rattle.std.specs.declared.alloc.AllocError.{AllocError}
-use Rattle.beam_term.specs.TermValue.{TermValue}
 use Rattle.beam_machine.specs.declared.event.Then.{Then}
 use Rattle.beam_machine.specs.declared.event.Then.TheVariants.{GoesOn}
 use Rattle.beam_machine.specs.declared.process.Status.{Status}
 use Rattle.beam_machine.specs.declared.process.Status.TheVariants.{Running, Waiting, Ended}
-use Rattle.beam_model.specs.declared.native.NodeNative.{NodeNative}
-use Rattle.beam_model.specs.Place.{Place}
 use Rattle.beam_machine.specs.declared.callee.After.{After}
 use Rattle.beam_machine.specs.declared.callee.After.TheVariants.{Return}
-use Rattle.beam_machine.specs.Next.{done_by}
-use Rattle.beam_machine.specs.Process.{Process, then_of, is_ended}
-use Rattle.beam_machine.specs.Row.{Outcome, makes, asks, after_dropping, arguments_of, finds_message}
-use Rattle.beam_machine.specs.State.{State, process_of, with_process}
-use Rattle.beam_laws.specs.Monitors.{ArePart, MonitorsNoMore}
+use Rattle.beam_machine.specs.Prelude.{done_by, Process, then_of, is_ended, Outcome, makes, asks, after_dropping, arguments_of, finds_message, State, process_of, with_process}
+use Rattle.beam_term.specs.Prelude.{TermValue}
+use Rattle.beam_model.specs.declared.native.NodeNative.{NodeNative}
+use Rattle.beam_model.specs.Prelude.{Place}
+use Rattle.beam_laws.specs.Prelude.{ArePart, MonitorsNoMore}
 use Rattle.beam_laws.proofs.Ending.{at_index}
 use Rattle.beam_laws.proofs.Follows.{Follows, Lives, Comes, over}
 use Rattle.beam_laws.proofs.Monitoring.{all_are, none_are}
 use Rattle.beam_laws.proofs.Orderly.{set_orderly, done_orderly}
 use Rattle.beam_laws.proofs.Rising.{RisesIf, rise_part, set_up, process_up, done_up}
 use Rattle.beam_proc.proofs.UndoneSteps.{taken}
-use Rattle.beam_state.specs.Asking.{Responds, RespondsBy, AnswersNative, MadeBy, asking, asking_dropping, sending, sleeping, ending, HasSlots}
-use Rattle.beam_state.specs.Parts.{Parts, parts, node, then_at}
-use Rattle.beam_state.specs.Posting.{AreLawful}
+use Rattle.beam_state.specs.Prelude.{Responds, RespondsBy, AnswersNative, MadeBy, asking, asking_dropping, sending, sleeping, ending, HasSlots, Parts, parts, node, then_at, AreLawful}
 
 -- a process that runs is there
 pub runs_there : (ps : List Process) (pid : ℕ) → then_at ps pid ≡ Some GoesOn → (p : Process) × ((process_of ps pid ≡ Some p) × (p.status ≡ Running))

@@ -1,30 +1,24 @@
 -- The DOWNs of an end are posted before the process ends.
-use Rattle.std.proofs.Common.{◌≡◌, ◌≢◌, ℕ, zero, suc, ◌+◌, ◌-◌, ◌<◌, ◌==◌, eq-eqb, true≢false, Bool, true, false, cond, List, [], ◌∷◌, ◌++◌, length, take, map, slice_get, get_or, append_assoc, append-nil, refl, sym, ap, subst, ◌∙◌, arith}
+use Rattle.std.proofs.Common.{◌≡◌, ◌≢◌, ℕ, zero, suc, ◌+◌, ◌-◌, ◌<◌, ◌==◌, eq-eqb, true≢false, Bool, true, false, cond, List, [], ◌∷◌, ◌++◌, length, take, map, slice_get, get_or, append_assoc, append-nil, refl, sym, ap, subst, ◌∙◌, arith, length-take-le, Option, Some, None, option_map, slice_set}
 use Rattle.std.proofs.lemmas.Bool.Decides.{nat_tests}
-use Rattle.std.proofs.lemmas.List.{map-set, take_more, length-take-le}
-use Rattle.std.proofs.lemmas.Option.{slice_get-get_or}
-use Rattle.std.specs.Prelude.{Option, Some, None, option_map, slice_set}
+use Rattle.std.proofs.lemmas.List.{map-set, take_more}
+use Rattle.std.proofs.lemmas.Option.{slice_get-get_or, same_Some}
 use Rattle.std.specs.List.{list_any}
-use Rattle.beam_term.specs.TermValue.{TermValue, nil_term}
-use Rattle.beam_model.specs.declared.native.NodeNative.{NodeNative}
+use Rattle.std.proofs.lemmas.Bool.{or_parts}
 use Rattle.beam_machine.specs.declared.process.Monitor.{Monitor}
 use Rattle.beam_machine.specs.declared.process.Signal.{Signal}
 use Rattle.beam_machine.specs.declared.process.Status.{Status}
+use Rattle.beam_machine.specs.Prelude.{answer_of, Process, is_ended, started, process_of, with_process, with_signals, monitors_process, downs, hearing_by, with_made, is_monitored}
+use Rattle.beam_model.specs.declared.native.NodeNative.{NodeNative}
+use Rattle.beam_term.specs.Prelude.{TermValue, nil_term}
 use Rattle.beam_machine.specs.declared.process.Status.TheVariants.{Ended}
-use Rattle.beam_machine.specs.NodeNative.{answer_of}
-use Rattle.beam_machine.specs.Process.{Process, is_ended, started}
-use Rattle.beam_machine.specs.State.{process_of, with_process, with_signals, monitors_process, downs, hearing_by, with_made}
-use Rattle.beam_laws.specs.Private.{posted_all}
-use Rattle.beam_machine.specs.Quiet.{is_monitored}
-use Rattle.beam_laws.specs.Monitors.{Rise, AreRising}
-use Rattle.beam_laws.specs.Signals.{each_sent}
-use Rattle.beam_laws.proofs.Hearing.{none_more, as_before, hears, hearing_is, own_hears, either_false}
+use Rattle.beam_laws.specs.Prelude.{posted_all, Rise, AreRising, each_sent}
+use Rattle.beam_laws.proofs.Hearing.{none_more, as_before, hears, hearing_is, own_hears}
 use Rattle.beam_laws.proofs.Orderly.{Orderly}
 use Rattle.beam_laws.proofs.Posting.{all_posted_at, said, each_sent_to}
-use Rattle.beam_state.specs.Returns.{does_send}
-use Rattle.beam_state.specs.Posting.{notices_of}
-use Rattle.beam_state.proofs.Answering.{process_at}
-use Rattle.beam_state.proofs.Leaving.{is_there}
+use Rattle.beam_codesrv.proofs.Gathered.{at_pid}
+use Rattle.beam_codesrv.proofs.Heard.{same_lists}
+use Rattle.beam_state.specs.Prelude.{does_send, notices_of}
 use Rattle.beam_state.proofs.Seen.{each, get_each, Unseen, moved, same_answer}
 
 -- a function is applied to the processes at all indexes but one
@@ -61,18 +55,6 @@ set_other h (p ∷ ps) (suc at) q = ap (λ l. h p ∷ l) (set_other h ps at q)
 
 -- ---- the signals that are posted
 
-same_gets : (ps qs : List Process) → ((j : ℕ) → slice_get ps j ≡ slice_get qs j) → ps ≡ qs
-same_gets [] [] e = refl
-same_gets [] (q ∷ qs) e = absurd (nothing q (e 0))
-  where
-    nothing : (q : Process) → None ≡ Some q → ⊥
-    nothing q e = cc
-same_gets (p ∷ ps) [] e = absurd (something p (e 0))
-  where
-    something : (p : Process) → Some p ≡ None → ⊥
-    something p e = cc
-same_gets (p ∷ ps) (q ∷ qs) e = ap (λ r. r ∷ ps) (is_there p q (e 0)) ∙ ap (λ l. q ∷ l) (same_gets ps qs (λ j. e (suc j)))
-
 abbrev heard_of : ℕ → TermValue → Process → List Signal
 heard_of pid reason q = cond (q.pid == pid) [] (downs pid reason q.monitors)
 
@@ -91,7 +73,7 @@ hears_there pid at j reason value q e n = by (q.pid == pid) refl
 -- the processes after the DOWNs of an end were posted
 pub told : (ps : List Process) (at pid : ℕ) (reason value : TermValue) → pid ≡ at + 1 → Orderly ps
     → posted_all ps (notices_of ps pid reason) ≡ each (but_one (hears pid (Ended reason value)) at) ps
-told ps at pid reason value e o = same_gets (posted_all ps (notices_of ps pid reason)) (each (but_one (hears pid (Ended reason value)) at) ps) there
+told ps at pid reason value e o = same_lists (posted_all ps (notices_of ps pid reason)) (each (but_one (hears pid (Ended reason value)) at) ps) there
   where
     f : ℕ → Process → Process
     f = but_one (hears pid (Ended reason value)) at
@@ -102,10 +84,10 @@ told ps at pid reason value e o = same_gets (posted_all ps (notices_of ps pid re
 
     there : (j : ℕ) → slice_get (posted_all ps (notices_of ps pid reason)) j ≡ slice_get (each f ps) j
     there j =
-        sym (process_at (posted_all ps (notices_of ps pid reason)) j (j + 1) refl)
+        sym (at_pid (posted_all ps (notices_of ps pid reason)) j (j + 1) refl)
         ∙ (all_posted_at ps (j + 1) (notices_of ps pid reason)
         ∙ (ap (λ ts. option_map (with_signals ts) (process_of ps (j + 1))) (each_sent_to (heard_of pid reason) ps (j + 1))
-        ∙ (ap (λ o. option_map (with_signals (said (heard_of pid reason) o)) o) (process_at ps j (j + 1) refl)
+        ∙ (ap (λ o. option_map (with_signals (said (heard_of pid reason) o)) o) (at_pid ps j (j + 1) refl)
         ∙ (by j (slice_get ps j) refl ∙ sym (get_each f ps j)))))
 
 -- the processes after the DOWNs were posted and the process ended
@@ -176,8 +158,8 @@ notices_more ps j pid reason p l g o =
 -- where a pid isn't monitored, none of the processes monitors it
 pub none_watches : (ps : List Process) (j pid : ℕ) (p : Process) → slice_get ps j ≡ Some p → is_monitored ps pid ≡ false → list_any (monitors_process pid) p.monitors ≡ false
 none_watches [] j pid p e w = cc
-none_watches (q ∷ ps) zero pid p e w = ap (λ r. list_any (monitors_process pid) r.monitors) (sym (is_there q p e)) ∙ (either_false (list_any (monitors_process pid) q.monitors) (is_monitored ps pid) w).0
-none_watches (q ∷ ps) (suc j) pid p e w = none_watches ps j pid p e (either_false (list_any (monitors_process pid) q.monitors) (is_monitored ps pid) w).1
+none_watches (q ∷ ps) zero pid p e w = ap (λ r. list_any (monitors_process pid) r.monitors) (sym (same_Some q p e)) ∙ (or_parts (list_any (monitors_process pid) q.monitors) (is_monitored ps pid) w).0
+none_watches (q ∷ ps) (suc j) pid p e w = none_watches ps j pid p e (or_parts (list_any (monitors_process pid) q.monitors) (is_monitored ps pid) w).1
 
 -- ---- natives over processes that have heard of an end
 

@@ -1,9 +1,8 @@
 -- Signals in transit to a process.
-use Rattle.std.proofs.Common.{◌≡◌, ℕ, suc, ◌==◌, Bool, true, false, List, [], ◌∷◌, length, refl, ap, ◌∙◌, arith}
+use Rattle.std.proofs.Common.{◌≡◌, ℕ, suc, ◌==◌, Bool, true, false, List, [], ◌∷◌, length, refl, ap, ◌∙◌, arith, not}
 use Rattle.std.proofs.lemmas.Bool.Decides.{nat_tests}
-use Rattle.std.specs.Prelude.{not}
 use Rattle.beam_machine.specs.declared.process.Signal.{Signal}
-use Rattle.beam_machine.specs.Next.{is_nothing}
+use Rattle.beam_machine.specs.Prelude.{is_nothing}
 
 not_empty : (n : ℕ) → (suc n == 0) ≡ false
 not_empty n = grind (arith, nat_tests)

@@ -1,21 +1,16 @@
 -- What a row asks of the node, where memory may be refused.
 use Rattle.std.specs.Prelude.{◌≡◌, ◌+◌, ℕ, true, List, Option, Some, None, is_some, Result, Ok, Err}
 use Rattle.std.specs.declared.alloc.AllocError.{AllocError}
+use Rattle.beam_term.specs.Prelude.{TermValue}
+use Rattle.beam_model.specs.declared.native.NodeNative.{NodeNative}
+use Rattle.beam_model.specs.Prelude.{Place}
 use Rattle.beam_machine.specs.declared.callee.After.{After}
 use Rattle.beam_machine.specs.declared.callee.After.TheVariants.{Return}
 use Rattle.beam_machine.specs.declared.process.Signal.TheVariants.{Message}
-use Rattle.beam_model.specs.declared.native.NodeNative.{NodeNative}
-use Rattle.beam_model.specs.Place.{Place}
-use Rattle.beam_term.specs.TermValue.{TermValue}
 use Rattle.beam_machine.specs.declared.event.Then.{Then}
 use Rattle.beam_machine.specs.declared.event.Then.TheVariants.{GoesOn}
-use Rattle.beam_machine.specs.Code.{Code}
-use Rattle.beam_machine.specs.Process.{Process, read_x, put_x, dropped, bared, ended}
-use Rattle.beam_machine.specs.State.{State, process_of, with_process, with_made}
-use Rattle.beam_machine.specs.Row.{Outcome, makes, sends, asks, sleeps, goes_on, waits_for_message, after_dropping, answers, arguments_of}
-use Rattle.beam_machine.specs.NodeNative.{answer_of}
-use Rattle.beam_machine.specs.Next.{done_by, goes_on_with}
-use Rattle.beam_proc.specs.Continuation.{reason_of}
+use Rattle.beam_machine.specs.Prelude.{Code, Process, read_x, put_x, dropped, bared, ended, State, process_of, with_process, with_made, Outcome, makes, sends, asks, sleeps, goes_on, waits_for_message, after_dropping, answers, arguments_of, answer_of, done_by, goes_on_with}
+use Rattle.beam_proc.specs.Prelude.{reason_of}
 use Rattle.beam_state.specs.Parts.{Parts, parts, node, then_at}
 
 -- ---- the outcomes

@@ -3,9 +3,7 @@ use Rattle.std.specs.Prelude.{◌≡◌, ℕ, if◌then◌else◌, List, map, sl
 use Rattle.beam_agenda.specs.declared.entry.AgendaEntry.{AgendaEntry}
 use Rattle.beam_machine.specs.declared.process.Deadline.{Deadline}
 use Rattle.beam_machine.specs.declared.process.Status.{Status}
-use Rattle.beam_machine.specs.Process.{Process, is_waiting}
-use Rattle.beam_machine.specs.Ready.{is_ready}
-use Rattle.beam_machine.specs.State.{has_name}
+use Rattle.beam_machine.specs.Prelude.{Process, is_waiting, is_ready, has_name}
 use Rattle.beam_state.specs.MonitorKeys.{MonitorNoMore}
 
 -- the time at which a process goes on without a message

@@ -5,3 +5,4 @@ pub mod Parts
 pub mod Pids
 pub mod Posting
 pub mod MonitorKeys
+pub mod Prelude

@@ -4,14 +4,11 @@ use Rattle.std.specs.List.{list_any}
 use Rattle.std.specs.declared.ops.Bound.TheVariants.{Included, Excluded}
 use Rattle.std.specs.BTreeMap.Range.{range_contains}
 use Rattle.std.specs.Ordering.{nat_cmp}
-use Rattle.beam_model.specs.Listing.{is_this_number}
-use Rattle.beam_term.specs.TermValue.{TermValue}
 use Rattle.beam_machine.specs.declared.process.Monitor.{Monitor}
-use Rattle.beam_machine.specs.Process.{Process, monitor_of}
+use Rattle.beam_machine.specs.Prelude.{Process, monitor_of, Sent, own_number, live_process, monitors_process}
 use Rattle.beam_machine.specs.declared.process.Signal.TheVariants.{Down}
-use Rattle.beam_machine.specs.Private.{Sent}
-use Rattle.beam_machine.specs.Row.{own_number}
-use Rattle.beam_machine.specs.State.{live_process, monitors_process}
+use Rattle.beam_term.specs.Prelude.{TermValue}
+use Rattle.beam_model.specs.Prelude.{is_this_number}
 use Rattle.beam_state.specs.Posting.{AreLawful, notices_of}
 
 -- ---- keys

@@ -1,17 +1,12 @@
 -- The node's state but for its code.
 use Rattle.std.specs.Prelude.{◌≡◌, ℕ, Bool, true, false, ◌&&◌, nat_le, List, [], Option, Some, None, option_map, is_ok, IsErrOf}
+use Rattle.beam_model.specs.Prelude.{Listing}
 use Rattle.beam_machine.specs.declared.process.Deadline.{Deadline}
 use Rattle.beam_machine.specs.declared.process.Status.{Status}
 use Rattle.beam_machine.specs.declared.event.Event.{Event}
 use Rattle.beam_machine.specs.declared.event.Refused.TheVariants.{NoMemory}
 use Rattle.beam_machine.specs.declared.event.Then.{Then}
-use Rattle.beam_model.specs.Listing.{Listing}
-use Rattle.beam_machine.specs.Code.{Code}
-use Rattle.beam_machine.specs.Process.{Process, is_waiting, then_of}
-use Rattle.beam_machine.specs.State.{State, process_of}
-use Rattle.beam_machine.specs.Next.{Answer, next}
-use Rattle.beam_machine.specs.Run.{Answers}
-use Rattle.beam_machine.specs.Quiet.{LacksMemory}
+use Rattle.beam_machine.specs.Prelude.{Code, Process, is_waiting, then_of, State, process_of, Answer, next, Answers, LacksMemory}
 
 pub record Parts : Type 0 where
   pub processes : List Process  -- by their pids: process n is the n-th that was started; the ended ones stay

@@ -1,13 +1,8 @@
 -- Signals that are posted at an end, and one process that stands in for another.
 use Rattle.std.specs.Prelude.{◌≡◌, ℕ, ◌==◌, if◌then◌else◌, List, [], Some}
-use Rattle.beam_term.specs.TermValue.{TermValue}
-use Rattle.beam_machine.specs.Private.{Sent}
-use Rattle.beam_machine.specs.Process.{Process}
-use Rattle.beam_machine.specs.State.{live_process, downs}
-use Rattle.beam_laws.specs.Monitors.{AreRising}
-use Rattle.beam_laws.specs.Orderly.{Follows, Orderly}
-use Rattle.beam_laws.specs.Private.{with_name_and_transit}
-use Rattle.beam_laws.specs.Signals.{each_sent}
+use Rattle.beam_machine.specs.Prelude.{Sent, Process, live_process, downs}
+use Rattle.beam_term.specs.Prelude.{TermValue}
+use Rattle.beam_laws.specs.Prelude.{AreRising, Follows, Orderly, with_name_and_transit, each_sent}
 
 -- the process of that number hasn't ended, and the other one may take its place: it has the same pid, and if it has ended, nothing else but
 -- the reason and the value

@@ -1,15 +1,12 @@
 -- What the node makes of a native, where memory may be refused.
 use Rattle.std.specs.Prelude.{◌≡◌, ◌<◌, ◌+◌, ◌^◌, ℕ, Bool, true, false, List, [], ◌∷◌, ◌++◌, Option, Some, None, unwrap_or, Result, Ok, Err}
 use Rattle.std.specs.declared.alloc.AllocError.{AllocError}
-use Rattle.beam_term.specs.TermValue.{TermValue}
+use Rattle.beam_machine.specs.Prelude.{Answered, answer, fault, Sent, Process, posted}
+use Rattle.beam_machine.specs.declared.process.Signal.{Signal}
 use Rattle.beam_model.specs.declared.exception.Fault.{Fault}
 use Rattle.beam_model.specs.declared.native.NodeNative.{NodeNative}
 use Rattle.beam_model.specs.declared.native.NodeNative.TheVariants.{Exit, Send, MakeRef}
-use Rattle.beam_machine.specs.NodeNative.{Answered, answer, fault}
-use Rattle.beam_machine.specs.Private.{Sent}
-use Rattle.beam_machine.specs.Process.{Process}
-use Rattle.beam_machine.specs.declared.process.Signal.{Signal}
-use Rattle.beam_machine.specs.State.{posted}
+use Rattle.beam_term.specs.Prelude.{TermValue}
 
 -- a native that makes no reference: its value or its fault, and the processes after it; or memory was refused, and nothing changed
 abbrev pub Returns : List Process → Answered → Result (Result TermValue Fault) AllocError → List Process → Type 0

@@ -1,12 +1,9 @@
 -- Rows of a slice, also those after a send, find what they name.
 use Rattle.std.proofs.Common.{◌≡◌, ℕ, zero, suc, ◌+◌, Bool, true, false, cond, List, refl, sym, ap, subst, ◌∙◌, arith}
-use Rattle.beam_machine.specs.Code.{Code}
-use Rattle.beam_machine.specs.Private.{Private, Sent, at_limit, after_row, private_by, private_rows, private_to_spot, stops}
-use Rattle.beam_machine.specs.Process.{Process, is_running}
-use Rattle.beam_machine.specs.Row.{Outcome, makes, sends, asks, sleeps, outcome}
-use Rattle.beam_model.specs.Place.{Place}
+use Rattle.beam_model.specs.Prelude.{Place}
+use Rattle.beam_machine.specs.Prelude.{Code, Private, Sent, at_limit, after_row, private_by, private_rows, private_to_spot, stops, Process, is_running, Outcome, makes, sends, asks, sleeps, outcome}
 use Rattle.beam_laws.proofs.Spots.{spot_prefix}
-use Rattle.beam_rows.specs.Finds.{AlwaysFinds}
+use Rattle.beam_rows.specs.Prelude.{AlwaysFinds}
 use Rattle.beam_shape_laws.specs.Finds.{FindsNext}
 use Rattle.beam_step.specs.Slices.{Made, joined}
 

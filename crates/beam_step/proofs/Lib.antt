@@ -1,4 +1,2 @@
-pub mod Asking
 pub mod Finding
 pub mod Rows
-pub mod Spots

@@ -1,34 +1,25 @@
 -- Private rows over break spots, one after another.
-use Rattle.std.proofs.Common.{◌≡◌, ℕ, zero, suc, ◌+◌, ◌-◌, ◌<◌, List, [], ◌∷◌, ◌++◌, Option, Some, None, Bool, true, false, cond, refl, sym, ap, subst, Result, Ok, Err, ◌≤◌, ◌∙◌, arith, add-one, append_assoc}
-use Rattle.std.specs.Prelude.{is_some, ◌==◌, if◌then◌else◌}
-use Rattle.std.proofs.lemmas.Bool.{eqb-true}
+use Rattle.std.proofs.Common.{◌≡◌, ℕ, zero, suc, ◌+◌, ◌-◌, ◌<◌, List, [], ◌∷◌, ◌++◌, Option, Some, None, Bool, true, false, cond, refl, sym, ap, subst, Result, Ok, Err, ◌≤◌, ◌∙◌, arith, add-one, append_assoc, is_some, ◌==◌, if◌then◌else◌, eqb-true, append-nil}
 use Rattle.std.proofs.lemmas.Bool.Decides.{nat_tests}
-use Rattle.std.proofs.lemmas.List.{append-nil}
 use Rattle.beam_machine.specs.declared.callee.After.TheVariants.{Return}
-use Rattle.std.specs.declared.alloc.AllocError.{AllocError}
 use Rattle.beam_machine.specs.declared.process.Signal.{Signal}
 use Rattle.beam_machine.specs.declared.process.Signal.TheVariants.{Message}
-use Rattle.beam_machine.specs.Quiet.{is_quiet}
+use Rattle.beam_machine.specs.Prelude.{is_quiet, Code, Process, dropped, ended, is_running, put_x, read_x, Outcome, makes, sends, asks, after_dropping, goes_on, outcome, Sent, Private, End, at_limit, after_row, before_node_row, at_spot, private_by, private_to_spot, stops, with_first_row, with_first_sending}
 use Rattle.beam_machine.specs.declared.process.Status.TheVariants.{Running}
-use Rattle.beam_machine.specs.Code.{Code}
-use Rattle.beam_term.specs.TermValue.{TermValue}
-use Rattle.beam_machine.specs.Process.{Process, dropped, ended, is_running, put_x, read_x}
-use Rattle.beam_machine.specs.Row.{Outcome, makes, sends, asks, after_dropping, goes_on, outcome}
-use Rattle.beam_machine.specs.Private.{Sent, Private, End, at_limit, after_row, before_node_row, at_spot, private_by, private_to_spot, stops, with_first_row, with_first_sending}
-use Rattle.beam_model.specs.Place.{Place}
+use Rattle.std.specs.declared.alloc.AllocError.{AllocError}
+use Rattle.beam_model.specs.Prelude.{Place}
+use Rattle.beam_term.specs.Prelude.{TermValue}
 use Rattle.beam_rows.specs.declared.request.Request.{Request}
 use Rattle.beam_rows.specs.declared.request.Request.TheVariants.{Send, Ask, AskDropping, Sleep}
-use Rattle.beam_rows.specs.Asked.{asked, can_ask}
-use Rattle.beam_rows.specs.Private.{LeadsTo}
-use Rattle.beam_rows.specs.Spots.{ClearRows, is_stopped, passes_after}
-use Rattle.beam_rows.proofs.Clearing.{clear_further}
+use Rattle.beam_rows.specs.Prelude.{asked, can_ask, LeadsTo, ClearRows, is_stopped, passes_after}
+use Rattle.beam_rows.proofs.Clearing.{clear_further, passes_no_more}
 use Rattle.beam_rows.proofs.Leading.{leads_further}
 use Rattle.beam_step.specs.declared.cause.Cause.{Cause}
 use Rattle.beam_step.specs.declared.row.Did.{Did}
 use Rattle.beam_step.specs.declared.row.Did.TheVariants.{ARow, Nothing}
 use Rattle.beam_step.specs.declared.cause.Cause.TheVariants.{AtLimit, AfterRow, BeforeNodeRow, AtSpot, WantOfMemory}
 use Rattle.beam_step.specs.Slices.{rows_of, is_cut, IsCut, RowsComeTo, joined, is_send, Made, MadeMore, DoesRow, DoesRows, Responds}
-use Rattle.beam_step.proofs.Asking.{asked_loud}
+use Rattle.beam_rows.proofs.AskedLoud.{asked_loud}
 
 -- the row of a running process that doesn't stop before it, followed by m rows
 row_before : (spots : List Place) (passes : Bool) (code : Code) (m : ℕ) (p : Process) (o : Outcome) → p.status ≡ Running → is_stopped spots passes p ≡ false
@@ -201,10 +192,6 @@ asked_row spots passes code old new before after r (Err x) runs clear e can h =
     (k.0, k.1, asked_loud code old r e can)
 
 -- ---- private rows, after others
-
-passes_no_more : (n : ℕ) → passes_after false n ≡ false
-passes_no_more zero = refl
-passes_no_more (suc n) = refl
 
 made_rows : (spots : List Place) (passes : Bool) (code : Code) (n : ℕ) (p q before : Process) (with_first_row : Bool) (count : ℕ) (sent : List Sent) → LeadsTo code n p q
     → ClearRows code spots passes n p → Made spots with_first_row code before count sent passes p → Made spots with_first_row code before (count + n) sent (passes_after passes n) q

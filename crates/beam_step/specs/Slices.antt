@@ -1,13 +1,9 @@
 -- A slice: rows of one process, executed apart from the node and handed in later. (This node's own.)
 use Rattle.std.specs.Prelude.{◌≡◌, ℕ, ◌+◌, ◌<◌, ◌≤◌, Bool, true, false, nat_lt, if◌then◌else◌, List, [], ◌∷◌, ◌++◌, Option, Some, None, Result, Ok, Err}
 use Rattle.std.specs.declared.alloc.AllocError.{AllocError}
-use Rattle.beam_machine.specs.Code.{Code}
+use Rattle.beam_model.specs.Prelude.{Place}
+use Rattle.beam_machine.specs.Prelude.{Code, Process, is_running, put_x, read_x, goes_on, Sent, Private, End, at_limit, after_row, before_node_row, at_spot, private_to_spot, stops, is_quiet}
 use Rattle.beam_machine.specs.declared.process.Signal.TheVariants.{Message}
-use Rattle.beam_machine.specs.Process.{Process, is_running, put_x, read_x}
-use Rattle.beam_machine.specs.Row.{goes_on}
-use Rattle.beam_model.specs.Place.{Place}
-use Rattle.beam_machine.specs.Private.{Sent, Private, End, at_limit, after_row, before_node_row, at_spot, private_to_spot, stops}
-use Rattle.beam_machine.specs.Quiet.{is_quiet}
 use Rattle.beam_rows.specs.declared.request.Request.{Request}
 use Rattle.beam_rows.specs.declared.request.Request.TheVariants.{Send}
 use Rattle.beam_step.specs.declared.cause.Cause.{Cause}

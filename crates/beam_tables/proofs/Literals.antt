@@ -1,10 +1,8 @@
 -- A literal, by the result of reading its bytes.
 use Rattle.std.proofs.Common.{◌≡◌, ℕ, ◌<◌, ◌≤◌, List, [], ◌∷◌, length, drop, Ok, Err, refl, ap, ◌∙◌, arith, length-drop}
 use Rattle.std.proofs.lemmas.List.{drop_all}
-use Rattle.beam_term.specs.TermValue.{TermValue}
-use Rattle.beam_model.specs.ExternalFault.{ExternalFault}
-use Rattle.beam_model.specs.ExternalReading.{external_at}
-use Rattle.beam_model.specs.Tables.{literal_alone, literal_of, bad_literal}
+use Rattle.beam_model.specs.Prelude.{ExternalFault, external_at, literal_alone, literal_of, bad_literal}
+use Rattle.beam_term.specs.Prelude.{TermValue}
 
 -- nothing stands after the term
 pub fills : (bytes : List ℕ) (t : TermValue) (n : ℕ) → external_at bytes ≡ Ok (t, drop n bytes) → length bytes ≤ n → literal_of bytes ≡ Ok t

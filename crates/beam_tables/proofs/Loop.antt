@@ -1,7 +1,7 @@
 -- One round of a loop over the entries of a table: the front and the rest give the result of the whole.
-use Rattle.std.proofs.Common.{◌≡◌, ℕ, suc, ◌+◌, ◌-◌, ◌<◌, ◌≤◌, List, [], ◌∷◌, ◌++◌, Result, Ok, Err, refl, sym, ap, ◌∙◌, append_assoc, arith}
-use Rattle.std.proofs.lemmas.List.{append-nil}
-use Rattle.beam_model.specs.Tables.{TableFault, missing_chunk, bad_table, compressed_literals, bad_literal, ◌>>=◌, entries_at}
+use Rattle.std.proofs.Common.{◌≡◌, ℕ, suc, ◌+◌, ◌-◌, ◌<◌, ◌≤◌, List, [], ◌∷◌, ◌++◌, Result, Ok, Err, refl, sym, ap, ◌∙◌, append_assoc, arith, append-nil}
+use Rattle.beam_model.specs.Prelude.{TableFault, missing_chunk, bad_table, compressed_literals, bad_literal, entries_at}
+use Rattle.beam_model.specs.Tables.{◌>>=◌}
 use Rattle.beam_tables.specs.declared.error.TablesError.{TablesError}
 use Rattle.beam_tables.specs.declared.error.TablesError.TheVariants as errors
 use Rattle.beam_tables.specs.Readings.{Fails}

@@ -1,9 +1,6 @@
 -- From the answer of a reading to the tables that chunks spell.
-use Rattle.std.proofs.Common.{◌≡◌, ℕ, List, Some, Result, Ok, Err, refl, sym, subst, ◌∙◌}
-use Rattle.std.specs.Prelude.{IfOk, MatchResult}
-use Rattle.beam_model.specs.Form.{Form}
-use Rattle.beam_model.specs.Tables.{Tables, TableFault, tables_at}
-use Rattle.beam_model.specs.TablesForm.{AreTables}
+use Rattle.std.proofs.Common.{◌≡◌, ℕ, List, Some, Result, Ok, Err, refl, sym, subst, ◌∙◌, IfOk, MatchResult}
+use Rattle.beam_model.specs.Prelude.{Form, Tables, TableFault, tables_at, AreTables}
 use Rattle.beam_tables.specs.declared.error.TablesError.{TablesError}
 use Rattle.beam_tables.specs.declared.error.TablesError.TheVariants.{MissingChunk, BadTable, CompressedLiterals, BadLiteral, NoMemory}
 use Rattle.beam_tables.specs.Readings.{Fails, Gives}

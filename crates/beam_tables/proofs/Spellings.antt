@@ -1,49 +1,26 @@
 -- Tables are read exactly from the chunks that spell them.
-use Rattle.std.proofs.Common.{◌≡◌, ℕ, zero, suc, ◌-◌, ◌<◌, ◌≤◌, Bool, true, false, cond, ltb, List, [], ◌∷◌, ◌++◌, length, take, drop, Option, Some, None, Result, Ok, Err, refl, sym, ap, subst, ◌∙◌, append_assoc, arith}
-use Rattle.std.specs.Prelude.{nat_le, ◌&&◌, ◌==◌, slice_get, MatchOption}
+use Rattle.std.proofs.Common.{◌≡◌, ℕ, zero, suc, ◌-◌, ◌<◌, ◌≤◌, true, false, cond, ltb, List, [], ◌∷◌, ◌++◌, length, take, drop, Option, Some, None, Result, Ok, Err, refl, sym, ap, subst, ◌∙◌, append_assoc, arith, nat_le, ◌&&◌, ◌==◌, slice_get, MatchOption, ltb-true, ltb-false, lt-ltb, le-ltb, leb-true, le-leb, eqb-true, append-nil, take_at, drop_at, take-append-drop, length-take, length-append}
 use Rattle.std.specs.Str.{is_utf8}
-use Rattle.std.proofs.lemmas.Bool.{ltb-true, ltb-false, lt-ltb, le-ltb, leb-true, le-leb, eqb-true}
-use Rattle.std.proofs.lemmas.List.{append-nil, take_at, drop_at, take-append-drop, length-take, length-append}
+use Rattle.std.proofs.lemmas.Bool.{and_parts}
+use Rattle.beam_lemmas.proofs.Steps.{bind_ok, guard_true, guard_false}
 use Rattle.byteorder.specs.Endian.{big_number}
 use Rattle.byteorder.specs.Numbers.{big_from-take, big_from-append}
-use Rattle.beam_term.specs.TermValue.{TermValue}
-use Rattle.beam_model.specs.External.{IsExternal}
-use Rattle.beam_model.specs.ExternalFault.{ExternalFault}
-use Rattle.beam_model.specs.ExternalReading.{external_at}
-use Rattle.beam_etf.proofs.ReadingComplete.{external_again}
-use Rattle.beam_etf.proofs.ReadingSoundParts.{external_takes}
+use Rattle.beam_model.specs.Prelude.{IsExternal, ExternalFault, external_at, Tables, TableFault, bad_table, compressed_literals, table_number_at, entries_at, utf8_text, table_atom_at, atoms_at, found, atom_of_index, import_at, imports_at, export_at, exports_at, sized_at, literal_alone, literal_of, literal_at, literals_at, literals_in, required_chunk, tables_at, length-entries, InSequence, IsTable, IsAtom, AreAtoms, IsAtomIndex, IsImport, IsExport, IsLiteral, AreLiterals, AreTables, Form}
 use Rattle.beam_model.specs.declared.function.Import.{Import}
 use Rattle.beam_model.specs.declared.function.Export.{Export}
-use Rattle.beam_model.specs.Form.{Form}
-use Rattle.beam_model.specs.Tables.{Tables, TableFault, bad_table, compressed_literals, ◌>>=◌, table_number_at, entries_at, utf8_text, table_atom_at, atoms_at, found, atom_of_index, import_at, imports_at, export_at, exports_at, sized_at, literal_alone, literal_of, literal_at, literals_at, literals_in, required_chunk, tables_at}
-use Rattle.beam_model.specs.TablesLaws.{length-entries}
-use Rattle.beam_model.specs.Sequence.{InSequence}
+use Rattle.beam_term.specs.Prelude.{TermValue}
+use Rattle.beam_etf.proofs.ReadingComplete.{external_again}
+use Rattle.beam_etf.proofs.ReadingSoundParts.{external_takes}
+use Rattle.beam_model.specs.Tables.{◌>>=◌}
 use Rattle.beam_model.specs.ChunkForm.{IsWord}
-use Rattle.beam_model.specs.TablesForm.{IsTable, IsAtom, AreAtoms, IsAtomIndex, IsImport, IsExport, IsLiteral, AreLiterals, AreTables}
 
 -- ---- steps of reading
-
-bind_ok : {A B : Type 0} (r : Result A TableFault) (f : A → Result B TableFault) (y : B) → (r >>= f) ≡ Ok y → (x : A) × (r ≡ Ok x) × (f x ≡ Ok y)
-bind_ok (Ok x) f y e = (x, refl, e)
-bind_ok (Err d) f y e = absurd cc
-
-guard_ok : {A : Type 0} (b : Bool) (d : TableFault) (r : Result A TableFault) (y : A) → cond b (Err d) r ≡ Ok y → (b ≡ false) × (r ≡ Ok y)
-guard_ok true d r y e = absurd cc
-guard_ok false d r y e = (refl, e)
-
-guard_true : {A : Type 0} (b : Bool) (d : TableFault) (r : Result A TableFault) (y : A) → cond b r (Err d) ≡ Ok y → (b ≡ true) × (r ≡ Ok y)
-guard_true true d r y e = (refl, e)
-guard_true false d r y e = absurd cc
 
 abbrev done : {A : Type 0} → A → Result A TableFault
 done x = Ok x
 
 pub ok_is : {A : Type 0} (x y : A) → done x ≡ done y → x ≡ y
 ok_is x y e = cc
-
-both_true : (p q : Bool) → (p && q) ≡ true → (p ≡ true) × (q ≡ true)
-both_true true q h = (refl, h)
-both_true false q h = absurd cc
 
 -- ---- what stands in front
 
@@ -63,7 +40,7 @@ record IsRead {X : Type 0} (stands : X → List ℕ → Type 0) (entry : List �
 number_told : (bytes : List ℕ) (p : ℕ × List ℕ) → table_number_at bytes ≡ Ok p → Front (IsWord p.0) bytes p.1
 unfolding table_number_at
 number_told bytes p e =
-    let g = guard_ok (ltb (length bytes) 4) bad_table _ p e in
+    let g = guard_false (ltb (length bytes) 4) bad_table _ p e in
     let long : 4 ≤ length bytes = ltb-false _ _ g.0 in
     let front : Front (IsWord (big_number 4 bytes)) bytes (drop 4 bytes) = record {
       front = take 4 bytes;
@@ -151,7 +128,7 @@ atom_told : (bytes : List ℕ) (p : List ℕ × List ℕ) → table_atom_at byte
 unfolding table_atom_at
 atom_told [] p e = absurd cc
 atom_told (n ∷ bytes) p e =
-    let g = guard_ok (ltb (length bytes) n) bad_table _ p e in
+    let g = guard_false (ltb (length bytes) n) bad_table _ p e in
     let b = bind_ok (utf8_text (take n bytes)) (λ (text : List ℕ). done (text, drop n bytes)) p g.1 in
     let t = text_told (take n bytes) b.0 b.1 in
     let long : n ≤ length bytes = ltb-false _ _ g.0 in
@@ -178,7 +155,7 @@ unfolding atoms_at
 atoms_told bytes atoms e =
     let c = bind_ok (table_number_at bytes) (λ (count : ℕ × List ℕ). cond (ltb 0 count.0 && nat_le count.0 65535) (entries_at table_atom_at count.0 count.1) (Err bad_table)) atoms e in
     let g = guard_true (ltb 0 c.0.0 && nat_le c.0.0 65535) bad_table (entries_at table_atom_at c.0.0 c.0.1) atoms c.2 in
-    let b = both_true (ltb 0 c.0.0) (nat_le c.0.0 65535) g.0 in
+    let b = and_parts (ltb 0 c.0.0) (nat_le c.0.0 65535) g.0 in
     let count : length atoms ≡ c.0.0 = length-entries table_atom_at c.0.0 c.0.1 atoms g.1 in
     let low : 0 < c.0.0 = ltb-true _ _ b.0 in
     let high : c.0.0 ≤ 65535 = leb-true _ _ b.1 in
@@ -324,7 +301,7 @@ sized_told : (bytes : List ℕ) (p : List ℕ × List ℕ) → sized_at bytes �
 unfolding sized_at
 sized_told bytes p e =
     let n = bind_ok (table_number_at bytes) (λ (size : ℕ × List ℕ). cond (ltb (length size.1) size.0) (Err bad_table) (done (take size.0 size.1, drop size.0 size.1))) p e in
-    let g = guard_ok (ltb (length n.0.1) n.0.0) bad_table _ p n.2 in
+    let g = guard_false (ltb (length n.0.1) n.0.0) bad_table _ p n.2 in
     let number = number_told bytes n.0 n.1 in
     let long : n.0.0 ≤ length n.0.1 = ltb-false _ _ g.0 in
     let count : n.0.0 ≡ length (take n.0.0 n.0.1) = omega (arith, length-take n.0.0 n.0.1, long) in
@@ -403,10 +380,10 @@ unfolding required_chunk
 wanted_is None bytes e = absurd cc
 wanted_is (Some b) bytes e = ap (λ (c : List ℕ). Some c) (ok_is b bytes e)
 
-there : (o : Option (List ℕ)) (bytes : List ℕ) (P : List ℕ → Type 0) → o ≡ Some bytes → P bytes → MatchOption o ⊥ P
+pub there : (o : Option (List ℕ)) (bytes : List ℕ) (P : List ℕ → Type 0) → o ≡ Some bytes → P bytes → MatchOption o ⊥ P
 there o bytes P e p = subst (λ (q : Option (List ℕ)). MatchOption q ⊥ P) (sym e) p
 
-is_there : (o : Option (List ℕ)) (P : List ℕ → Type 0) → MatchOption o ⊥ P → (bytes : List ℕ) × (o ≡ Some bytes) × P bytes
+pub is_there : (o : Option (List ℕ)) (P : List ℕ → Type 0) → MatchOption o ⊥ P → (bytes : List ℕ) × (o ≡ Some bytes) × P bytes
 is_there None P h = absurd h
 is_there (Some bytes) P h = (bytes, refl, h)
 

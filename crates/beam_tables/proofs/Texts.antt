@@ -1,8 +1,7 @@
 -- Bytes that are UTF-8, and how many characters they spell.
-use Rattle.std.proofs.Common.{◌≡◌, ◌≤◌, ℕ, Bool, true, false, List, ◌∷◌, length, Ok, refl, arith, ap}
-use Rattle.std.specs.Str.{IsUtf8, is_utf8, chars}
-use Rattle.std.proofs.lemmas.Bool.{le-ltb}
-use Rattle.beam_model.specs.Tables.{utf8_text, atom_bytes}
+use Rattle.std.proofs.Common.{◌≡◌, ◌≤◌, ℕ, Bool, true, false, List, ◌∷◌, length, Ok, refl, arith, ap, le-ltb}
+use Rattle.std.specs.Str.{is_utf8, IsUtf8, chars}
+use Rattle.beam_model.specs.Prelude.{utf8_text, atom_bytes}
 use Rattle.std.proofs.lemmas.Str.{IsUtf8-from_is_utf8, is_utf8-from_IsUtf8, encodes-chars, length-le-encodes}
 
 refuted : (b : Bool) → (b ≡ true → ⊥) → b ≡ false

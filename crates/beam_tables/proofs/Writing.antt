@@ -1,7 +1,7 @@
 -- One round of a loop that writes the entries of a table.
-use Rattle.std.proofs.Common.{◌≡◌, ℕ, suc, ◌+◌, ◌<◌, List, [], ◌∷◌, ◌++◌, length, drop, get_or, Result, Ok, Err, refl, sym, ap, ◌∙◌, append_assoc, arith, drop-cons, add-one}
-use Rattle.std.proofs.lemmas.List.{append-nil}
-use Rattle.beam_model.specs.Tables.{TableFault, missing_chunk, bad_table, compressed_literals, bad_literal, ◌>>=◌, number_bytes, entries_bytes, table_bytes}
+use Rattle.std.proofs.Common.{◌≡◌, ℕ, suc, ◌+◌, ◌<◌, List, [], ◌∷◌, ◌++◌, length, drop, get_or, Result, Ok, Err, refl, sym, ap, ◌∙◌, append_assoc, arith, drop-cons, add-one, append-nil}
+use Rattle.beam_model.specs.Prelude.{TableFault, missing_chunk, bad_table, compressed_literals, bad_literal, number_bytes, entries_bytes, table_bytes}
+use Rattle.beam_model.specs.Tables.{◌>>=◌}
 use Rattle.beam_tables.specs.declared.error.TablesError.{TablesError}
 use Rattle.beam_tables.specs.declared.error.TablesError.TheVariants as errors
 use Rattle.beam_tables.specs.Readings.{Fails, with_before}

@@ -1,6 +1,7 @@
 -- The answers of this crate against the definitions of reading and writing.
 use Rattle.std.specs.Prelude.{◌≡◌, ℕ, List, ◌++◌, Result, Ok, Err}
-use Rattle.beam_model.specs.Tables.{TableFault, missing_chunk, bad_table, compressed_literals, bad_literal, ◌>>=◌}
+use Rattle.beam_model.specs.Prelude.{TableFault, missing_chunk, bad_table, compressed_literals, bad_literal}
+use Rattle.beam_model.specs.Tables.{◌>>=◌}
 use Rattle.beam_tables.specs.declared.error.TablesError.{TablesError}
 use Rattle.beam_tables.specs.declared.error.TablesError.TheVariants as errors
 

@@ -1,8 +1,8 @@
 -- The chunks that are written for tables.
 use Rattle.std.specs.Prelude.{◌≡◌, ℕ, List, option_map, Ok}
-use Rattle.beam_term.specs.TermValue.{TermValue}
 use Rattle.beam_model.specs.declared.function.Import.{Import}
 use Rattle.beam_model.specs.declared.function.Export.{Export}
+use Rattle.beam_term.specs.Prelude.{TermValue}
 use Rattle.beam_model.specs.Tables as model
 use Rattle.beam_tables.specs.declared.tables.TableChunks.{TableChunks}
 

@@ -1,8 +1,8 @@
 -- The order of terms compares texts by their code points.
 -- Source: Erlang Reference Manual, "Term Comparisons".
 use Rattle.std.specs.Prelude.{◌≡◌, ℕ, suc, List, refl}
-use Rattle.std.proofs.Common.{ap}
 use Rattle.std.specs.Str.{chars}
+use Rattle.std.proofs.Common.{ap}
 use Rattle.std.specs.Ordering.{nat_cmp}
 use Rattle.std.specs.Cmp.Lexicographic.{slice_cmp}
 use Rattle.beam_term.specs.Atom.{IsAtomText}

@@ -1,7 +1,6 @@
 -- Texts that are written to the error output one after another.
-use Rattle.std.proofs.Common.{◌≡◌, ap, refl, ℕ, List, [], ◌++◌, append-nil, Option, Some, None}
+use Rattle.std.proofs.Common.{◌≡◌, ap, refl, ℕ, List, [], ◌++◌, append-nil, Option, Some, None, append_assoc}
 use Rattle.std.specs.Io.KnownBytes.{append_known}
-use Rattle.std.proofs.lemmas.List.{append_assoc}
 
 pub two : (told : Option (List ℕ)) (a b : List ℕ) → append_known (append_known told a) b ≡ append_known told (a ++ b)
 two None a b = refl

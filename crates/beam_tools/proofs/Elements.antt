@@ -1,9 +1,8 @@
 -- A list, taken apart from its beginning.
 use Rattle.std.proofs.Common.{arith, ◌<◌, ◌≡◌, ◌∙◌, ◌⊎◌, ap, Bor, List, [], ◌∷◌, ◌++◌, inl, inr, length, refl}
-use Rattle.beam_term.specs.TermValue.{TermValue, list_before, list_of, nil_term, pair_term}
-use Rattle.beam_term.specs.TermView.{shown}
+use Rattle.beam_term.specs.Prelude.{TermValue, list_before, list_of, nil_term, pair_term, shown}
 use Rattle.beam_term.specs.declared.term.TermView.{TermView}
-use Rattle.beam_term.specs.declared.term.TermView.TheVariants.{Atom, Integer, Nil, Pair, Pid, Reference, Tuple}
+use Rattle.beam_term.specs.declared.term.TermView.TheVariants.{Atom, Integer, Nil, Pair, Reference, Tuple, Pid}
 
 -- the elements before a pair, and then its head, are the elements before its tail
 pub list_before-push : (xs : List TermValue) (x tail : TermValue) → list_before (xs ++ x ∷ []) tail ≡ list_before xs (pair_term x tail)

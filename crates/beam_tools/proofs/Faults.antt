@@ -1,22 +1,16 @@
 -- What each fault of a run implies for its command line and its call.
 use Rattle.std.proofs.Common.{arith, subst, Some, ◌≡◌, ◌≢◌, ℕ, List}
 use Rattle.clap.specs.Words.{Text}
-use Rattle.beam_term.specs.TermValue.{TermValue}
-use Rattle.beam_tools.specs.Assembler.{FaultSays as AsSays, as_app}
-use Rattle.beam_tools.specs.Call.{HasExit}
-use Rattle.beam_tools.specs.Dis.{FaultSays as DisSays, dis_app}
-use Rattle.beam_tools.specs.Fault.{status_of}
-use Rattle.beam_tools.specs.Files.{Contents}
-use Rattle.beam_tools.specs.Lines.{LineFault, WrongSays}
-use Rattle.beam_tools.specs.Node.{CallSays, EntrySays, FaultSays, OutcomeSays, RunSays, TellsNoEnd}
-use Rattle.beam_tools.specs.Options.{CallLine, call, line_of, node_app}
+use Rattle.beam_term.specs.Prelude.{TermValue}
+use Rattle.beam_tools.specs.Assembler.{FaultSays as AsSays}
+use Rattle.beam_tools.specs.Prelude.{as_app, HasExit, dis_app, status_of, Contents, LineFault, WrongSays, CallSays, EntrySays, OutcomeSays, RunSays, TellsNoEnd, CallLine, call, line_of, node_app, ComesTo, CallIsWrong}
+use Rattle.beam_tools.specs.Dis.{FaultSays as DisSays}
+use Rattle.beam_tools.specs.Node.{FaultSays}
 use Rattle.beam_tools.specs.declared.fault.RunFault.{RunFault}
 use Rattle.beam_tools.specs.declared.fault.RunFault.TheVariants.{Exit, File, NoMemory, Spent, Stuck, Unwritten, Wrong}
 use Rattle.beam_tools.specs.declared.rounds.CallOutcome.{CallOutcome}
 use Rattle.beam_tools.specs.declared.early_exit.Wrong.{Wrong as WrongLine}
 use Rattle.beam_tools.specs.declared.early_exit.Wrong.TheVariants as wrong
-use Rattle.beam_tools.specs.Call.{ComesTo}
-use Rattle.beam_tools.specs.Lines.{CallIsWrong}
 
 -- ---- command lines that give nothing to do
 

@@ -1,9 +1,7 @@
 -- Jobs that are done, and jobs that are left to be done.
-use Rattle.std.proofs.Common.{◌≡◌, subst, sym, ℕ, List, Some}
-use Rattle.std.specs.Prelude.{Err, IfErr, IfOk, Ok, OnOk, Result}
+use Rattle.std.proofs.Common.{◌≡◌, subst, sym, ℕ, List, Some, Err, IfErr, IfOk, Ok, OnOk, Result}
 use Rattle.clap.specs.Words.{Text}
-use Rattle.beam_tools.specs.Job.{IfDone, IfLeft, IsService}
-use Rattle.beam_tools.specs.Options.{CallLine, Line, call, line_of}
+use Rattle.beam_tools.specs.Prelude.{IfDone, IfLeft, IsService, CallLine, Line, call, line_of}
 use Rattle.beam_tools.specs.declared.fault.RunFault.{RunFault}
 use Rattle.beam_tools.specs.declared.job.Job.{Job}
 use Rattle.beam_tools.specs.declared.job.Job.TheVariants.{Done, Pipe, Serve}

@@ -1,16 +1,11 @@
 -- The output of a run that fails.
-use Rattle.std.proofs.Common.{arith, refl, subst, sym, ◌<◌, ◌≡◌, append-nil, ℕ, List, [], Option}
-use Rattle.std.specs.Prelude.{Err, IfErr, Ok, OnErr, Result}
+use Rattle.std.proofs.Common.{arith, refl, subst, sym, ◌<◌, ◌≡◌, append-nil, ℕ, List, [], Option, Err, IfErr, Ok, OnErr, Result}
 use Rattle.std.specs.Io.KnownBytes.{Appends, Keeps}
 use Rattle.std.proofs.KnownBytes.{Appends-kept}
 use Rattle.clap.specs.Words.{App, Text}
 use Rattle.beam_print.specs.Begun.{IsBegun}
-use Rattle.beam_tools.specs.Assembler.{NameSays}
+use Rattle.beam_tools.specs.Prelude.{NameSays, status_of, Contents, LineFault, Leaves}
 use Rattle.beam_tools.specs.Dis as dis
-use Rattle.beam_tools.specs.Fault.{status_of}
-use Rattle.beam_tools.specs.Files.{Contents}
-use Rattle.beam_tools.specs.Lines.{LineFault}
-use Rattle.beam_tools.specs.Output.{Leaves}
 use Rattle.beam_tools.specs.declared.fault.RunFault.{RunFault}
 use Rattle.beam_tools.specs.declared.fault.RunFault.TheVariants.{Exit, File, NoMemory, Spent, Stuck, Unwritten, Wrong}
 use Rattle.beam_tools.specs.declared.fault.FileFaultKind.{FileFaultKind}
@@ -22,10 +17,6 @@ flushed a b c text appends keeps = record {
   rest = [];
   written = record { front = text; whole = sym (append-nil text); appended = Appends-kept a b c text appends keeps };
 }
-
-pub err_always : {T E : Type 0} (r : Result T E) (P : Type 0) → P → OnErr r P
-err_always (Ok x) P p = tt
-err_always (Err e) P p = p
 
 -- ---- where the output fails
 

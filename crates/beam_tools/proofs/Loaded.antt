@@ -1,17 +1,12 @@
 -- Loads, one after another.
-use Rattle.std.proofs.Common.{arith, ◌+◌, ◌<◌, ◌≡◌, ◌∙◌, ap, sym, subst, refl, ℕ, Bor, Option, List, [], ◌∷◌, ◌++◌, length, get_or, take}
+use Rattle.std.proofs.Common.{arith, ◌+◌, ◌<◌, ◌≡◌, ◌∙◌, ap, sym, subst, refl, ℕ, Bor, Option, List, [], ◌∷◌, ◌++◌, length, get_or, take, IfSome, Ok, zero, suc}
 use Rattle.std.proofs.lemmas.List.{map-append, take_more}
-use Rattle.std.specs.Prelude.{IfSome, Ok, zero, suc}
 use Rattle.clap.specs.Walk.{Text, texts}
+use Rattle.beam_model.specs.Prelude.{IsWellFormed, Listing}
 use Rattle.beam_machine.specs.declared.event.Event.TheVariants.{Load}
 use Rattle.beam_machine.specs.declared.event.Reply.{Reply}
-use Rattle.beam_machine.specs.Next.{next}
-use Rattle.beam_machine.specs.State.{State}
-use Rattle.beam_model.specs.Heads.{IsWellFormed}
-use Rattle.beam_model.specs.Listing.{Listing}
-use Rattle.beam_tools.specs.Call.{AreFilesOf, IsFileOf, Loads}
-use Rattle.beam_tools.specs.Files.{Contents}
-use Rattle.beam_tools.specs.Unloaded.{IsFirstUnloaded, IsNotLoaded}
+use Rattle.beam_machine.specs.Prelude.{next, State}
+use Rattle.beam_tools.specs.Prelude.{AreFilesOf, IsFileOf, Loads, Contents, IsFirstUnloaded, IsNotLoaded}
 use Rattle.beam_tools.specs.declared.fault.FileFaultKind.{FileFaultKind}
 use Rattle.beam_tools.specs.declared.fault.FileFaultKind.TheVariants.{BadFile, NoMemory, NoText, Refused, Syntax, Unassembled, UnknownForm, Unread, Unwritten}
 

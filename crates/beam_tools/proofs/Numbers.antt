@@ -1,12 +1,11 @@
 -- What `get_one` reads of an argument that is a number.
-use Rattle.std.proofs.Common.{arith, ◌^◌, ◌<◌, ◌≤◌, ◌≡◌, ap, ℕ, suc, Bool, true, false, List, Option, Some, None, refl, if◌then◌else◌}
-use Rattle.std.specs.Prelude.{Ok, Err, Result, option_and_then}
+use Rattle.std.proofs.Common.{arith, ◌^◌, ◌<◌, ◌≤◌, ◌≡◌, ap, ℕ, suc, Bool, true, false, List, Option, Some, None, refl, if◌then◌else◌, Ok, Err, Result, option_and_then}
 use Rattle.std.specs.Str.Parse.{ParsesUnsigned, digits_value, without_leading_plus}
 use Rattle.clap.specs.ValueTests.{is_unsigned_in}
 use Rattle.clap.specs.Words.{Accepts, ReadsOne}
 use Rattle.clap.specs.declared.builder.value_parser.ValueParser.TheVariants as vp
 use Rattle.clap.proofs.ValueTestLemmas.{Accepts-accepts, accepts-Accepts}
-use Rattle.beam_tools.specs.Options.{number_up_to}
+use Rattle.beam_tools.specs.Prelude.{number_up_to}
 
 -- the greatest number of n bits, where n is at most 64
 abbrev pub IsGreatest : ℕ → ℕ → Type 0

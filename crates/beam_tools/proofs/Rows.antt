@@ -2,7 +2,7 @@
 use Rattle.std.proofs.Common.{◌≡◌, ◌<◌, ◌+◌, ◌∙◌, ap, drop, get_or, length, sym, List, ℕ}
 use Rattle.std.proofs.lemmas.List.{at_drop_more}
 use Rattle.clap.specs.Words.{App, with_rule, with_subcommand}
-use Rattle.beam_tools.specs.Rules.{rule_by, subcommand_app, with_rows, with_subcommands}
+use Rattle.beam_tools.specs.Prelude.{rule_by, subcommand_app, with_rows, with_subcommands}
 use Rattle.beam_tools.specs.declared.table.ArgumentRow.{ArgumentRow}
 use Rattle.beam_tools.specs.declared.table.SubcommandRow.{SubcommandRow}
 

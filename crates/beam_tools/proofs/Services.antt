@@ -1,9 +1,8 @@
 -- Matches of `serve` that make no service.
-use Rattle.std.proofs.Common.{◌≡◌, ◌∙◌, Bool, List, None, Option, Some, ap, refl}
-use Rattle.std.specs.Prelude.{codes, option_and_then}
+use Rattle.std.proofs.Common.{◌≡◌, ◌∙◌, Bool, List, None, Option, Some, ap, refl, codes, option_and_then}
 use Rattle.clap.specs.Words.{Row, Text, first_of}
 use Rattle.beam_tools.specs.declared.serve_options.ServeNumbers.{ServeNumbers}
-use Rattle.beam_tools.specs.Options.{StartLine, files_in, is_stop_set, level_of, numbers_in, serve_in, serve_with, start_in}
+use Rattle.beam_tools.specs.Prelude.{StartLine, files_in, is_stop_set, level_of, numbers_in, serve_in, serve_with, start_in}
 
 -- without a level there is no service
 no_level : (n : Option ServeNumbers) (start : Option (Option StartLine)) (stops : Bool) (files : List Text) → serve_with n None start stops files ≡ None

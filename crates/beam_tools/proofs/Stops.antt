@@ -1,11 +1,9 @@
 -- Why a command line gives nothing to do, from the command's error.
-use Rattle.std.proofs.Common.{◌≡◌, ◌∙◌, ◌⊎◌, ap, codes, inl, inr, sym, subst, List, Option, Some}
-use Rattle.std.specs.Prelude.{Err, IfOk, Ok, OnOk, Result, option_and_then}
+use Rattle.std.proofs.Common.{◌≡◌, ◌∙◌, ◌⊎◌, ap, codes, inl, inr, sym, subst, List, Option, Some, Err, IfOk, Ok, OnOk, Result, option_and_then}
 use Rattle.clap.specs.Words.{App, IsAmong, Row, Text, fault_of, matches_of, subcommand_of}
 use Rattle.clap.specs.declared.error.kind.ErrorKind.{ErrorKind}
 use Rattle.clap.specs.declared.error.kind.ErrorKind.TheVariants as kind
-use Rattle.beam_tools.specs.Lines.{IsNoLine, NamesStop, OptionsStop, ServeStops, StopSays, StopsBy}
-use Rattle.beam_tools.specs.Options.{call_in, line_in, node_app}
+use Rattle.beam_tools.specs.Prelude.{IsNoLine, NamesStop, OptionsStop, ServeStops, StopSays, StopsBy, call_in, line_in, node_app}
 use Rattle.beam_tools.specs.declared.early_exit.EarlyExit.{EarlyExit}
 use Rattle.beam_tools.specs.declared.early_exit.EarlyExit.TheVariants as stop
 use Rattle.beam_tools.specs.declared.early_exit.Wrong.TheVariants as wrong

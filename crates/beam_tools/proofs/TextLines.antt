@@ -1,6 +1,6 @@
 -- Lines in a text.
 use Rattle.std.proofs.Common.{arith, ◌+◌, ◌≡◌, ap, refl, ℕ, zero, suc, List}
-use Rattle.beam_tools.specs.Place.{after_mark, after_lines}
+use Rattle.beam_tools.specs.Prelude.{after_mark, after_lines}
 
 -- one line more
 pub line_passed : (m n : ℕ) (text : List ℕ) → m ≡ n + 1 → after_lines n (after_mark 10 text) ≡ after_lines m text

@@ -1,22 +1,18 @@
 -- Turns, waits and rows, one after another.
-use Rattle.std.proofs.Common.{arith, ◌+◌, ◌<◌, ◌≤◌, ◌≡◌, ◌∙◌, ap, sym, refl, ℕ, suc, zero, Bool, true, false, Option, Some, None}
-use Rattle.std.specs.Prelude.{Result, Ok, Err, IfOk, nat_le, if◌then◌else◌}
+use Rattle.std.proofs.Common.{arith, ◌+◌, ◌<◌, ◌≤◌, ◌≡◌, ◌∙◌, ap, sym, refl, ℕ, suc, zero, Bool, true, false, Option, Some, None, Result, Ok, Err, IfOk, nat_le, if◌then◌else◌}
 use Rattle.std.proofs.lemmas.Bool.Decides.{nat_tests}
 use Rattle.beam_machine.specs.declared.event.Event.TheVariants.{Steps, Timeout}
 use Rattle.beam_machine.specs.declared.event.Refused.{Refused}
-use Rattle.beam_machine.specs.declared.event.Refused.TheVariants as refused
-use Rattle.beam_machine.specs.declared.event.Reply.TheVariants as reply
 use Rattle.beam_machine.specs.declared.event.Then.{Then}
 use Rattle.beam_machine.specs.declared.event.Then.TheVariants.{GoesOn, Waits, Ended}
-use Rattle.beam_machine.specs.Next.{Answer, Next, Rows, next, next_steps, ran, ran_to, refused as refused_with, row, row_and, running, steps}
-use Rattle.beam_machine.specs.Process.{Process, is_waiting}
-use Rattle.beam_machine.specs.Ready.{next_deadline}
-use Rattle.beam_machine.specs.Run.{Answers, effective_rows}
-use Rattle.beam_machine.specs.State.{State, live_process, process_of}
+use Rattle.beam_machine.specs.Prelude.{Answer, Next, Rows, next, next_steps, ran, ran_to, refused as refused_with, row, row_and, running, Process, is_waiting, next_deadline, Answers, effective_rows, State, live_process, process_of}
+use Rattle.beam_machine.specs.declared.event.Refused.TheVariants as refused
+use Rattle.beam_machine.specs.declared.event.Reply.TheVariants as reply
+use Rattle.beam_machine.specs.Next.{steps}
 use Rattle.beam_tools.specs.declared.rounds.CallOutcome.{CallOutcome}
 use Rattle.beam_tools.specs.declared.rounds.CallOutcome.TheVariants.{Spent}
 use Rattle.beam_tools.specs.declared.rounds.Rounds.{Rounds}
-use Rattle.beam_tools.specs.Rounds.{IsWhole, onward, outcome_by, outcome_within, rows_of, onward_of, wake, woken}
+use Rattle.beam_tools.specs.Prelude.{IsWhole, onward, outcome_by, outcome_within, rows_of, onward_of, wake, woken}
 
 -- ---- rows
 

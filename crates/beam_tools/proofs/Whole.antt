@@ -1,7 +1,5 @@
 -- Bytes that were read up to a limit are all bytes, if they are fewer than the limit.
-use Rattle.std.proofs.Common.{arith, ◌<◌, ◌≤◌, ◌≡◌, ◌∙◌, ap, ℕ, List, [], ◌++◌, Option, Some, None, length, take, min}
-use Rattle.std.specs.Prelude.{IfSome, option_map}
-use Rattle.std.proofs.lemmas.List.{length-take, take_all}
+use Rattle.std.proofs.Common.{arith, ◌<◌, ◌≤◌, ◌≡◌, ◌∙◌, ap, ℕ, List, [], ◌++◌, Option, Some, None, length, take, min, IfSome, option_map, length-take, take_all}
 
 below : (limit : ℕ) (xs bytes : List ℕ) → bytes ≡ take limit xs → length bytes < limit → bytes ≡ xs
 below limit xs bytes is few =

@@ -1,14 +1,11 @@
 -- The program `beamas`: its command line, and the file that it writes.
 use Rattle.std.specs.Prelude.{◌≡◌, ◌⊎◌, ◌++◌, ◌||◌, ⊤, ℕ, Bool, List, [], Option, Some, codes, false, Ok, Err}
-use Rattle.std.specs.Io.KnownBytes.{append_known}
 use Rattle.std.specs.Str.{IsUtf8}
+use Rattle.std.specs.Io.KnownBytes.{append_known}
 use Rattle.clap.specs.Words.{App, Rule, Text, first_of, matches_of, new_app, new_rule, with_rule}
 use Rattle.clap.specs.declared.builder.ArgAction.TheVariants.{SetTrue}
 use Rattle.beam_asm.specs.Refusals.{Refuses}
-use Rattle.beam_model.specs.Assembly.{HasFile}
-use Rattle.beam_model.specs.Listing.{Listing}
-use Rattle.beam_model.specs.ListingReading.{listing_of_text, syntax, unknown}
-use Rattle.beam_model.specs.Loads.{IsLoadable}
+use Rattle.beam_model.specs.Prelude.{HasFile, Listing, listing_of_text, syntax, unknown, IsLoadable}
 use Rattle.beam_tools.specs.Fault.{has_word, is_verbose}
 use Rattle.beam_tools.specs.Files.{Contents, HasBytes, Written, with_file}
 use Rattle.beam_tools.specs.Lines.{IsAnswered, WrongSays}

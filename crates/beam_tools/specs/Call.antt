@@ -1,19 +1,14 @@
 -- A call of a function: files are loaded, and a process starts and runs, with those that it starts, in rounds.
 use Rattle.std.specs.Prelude.{◌≡◌, ◌≢◌, ◌≤◌, length, ℕ, List, [], ◌∷◌, Some, Ok, ⊤}
-use Rattle.beam_model.specs.FileForm.{IsFile}
-use Rattle.beam_model.specs.Heads.{IsWellFormed}
-use Rattle.beam_model.specs.Listing.{Listing}
 use Rattle.beam_machine.specs.declared.event.Event.{Event}
 use Rattle.beam_machine.specs.declared.event.Event.TheVariants.{Load, Spawn}
 use Rattle.beam_machine.specs.declared.event.Reply.{Reply}
-use Rattle.beam_machine.specs.Next.{next}
-use Rattle.beam_machine.specs.Process.{normal}
-use Rattle.beam_machine.specs.State.{State, empty}
+use Rattle.beam_machine.specs.Prelude.{next, normal, State, empty}
+use Rattle.beam_model.specs.Prelude.{IsFile, IsWellFormed, Listing, term_of_text}
 use Rattle.beam_tools.specs.declared.rounds.CallOutcome.{CallOutcome}
 use Rattle.beam_tools.specs.declared.rounds.CallOutcome.TheVariants.{Ended, Spent, Stuck}
 use Rattle.beam_tools.specs.Rounds.{new_round, outcome_of}
-use Rattle.beam_term.specs.TermValue.{TermValue, list_of}
-use Rattle.beam_model.specs.TextReading.{term_of_text}
+use Rattle.beam_term.specs.Prelude.{TermValue, list_of}
 use Rattle.beam_tools.specs.Files.{Contents, HasBytes}
 use Rattle.beam_tools.specs.Options.{CallLine, call, line_of}
 use Rattle.clap.specs.Words.{Text}

@@ -3,9 +3,7 @@ use Rattle.std.specs.Prelude.{◌≡◌, ◌⊎◌, ⊤, ℕ, List, Option, Some
 use Rattle.std.specs.Io.KnownBytes.{Appends}
 use Rattle.clap.specs.Words.{App, Text, first_of, matches_of, new_app, with_rule}
 use Rattle.beam_disasm.specs.Refusals.{Fails}
-use Rattle.beam_model.specs.File.{listing_of_file}
-use Rattle.beam_model.specs.Listing.{Listing}
-use Rattle.beam_model.specs.ListingText.{listing_text}
+use Rattle.beam_model.specs.Prelude.{listing_of_file, Listing, listing_text}
 use Rattle.beam_tools.specs.Call.{IsFileOf}
 use Rattle.beam_tools.specs.Files.{Contents, HasBytes}
 use Rattle.beam_tools.specs.Lines.{IsAnswer, WrongSays}

@@ -1,7 +1,7 @@
 -- Why a run of a program fails, its status and its message.
 use Rattle.std.specs.Prelude.{◌++◌, ◌||◌, ℕ, Bool, List, [], codes}
-use Rattle.std.specs.List.{list_any}
 use Rattle.std.specs.Str.{bytes_eq}
+use Rattle.std.specs.List.{list_any}
 use Rattle.clap.specs.Words.{Text}
 use Rattle.beam_tools.specs.Names.{newline, why_name}
 use Rattle.beam_tools.specs.Program.{name_of, usage_of}

@@ -1,7 +1,7 @@
 -- What a command line of `beamnode` leaves to be done, and the messages about its end.
 use Rattle.std.specs.Prelude.{◌≡◌, ◌≢◌, ◌++◌, ◌<◌, ◌⊎◌, ⊤, ℕ, List, [], Option, Some, codes, if◌then◌else◌, length}
-use Rattle.std.specs.Fmt.{decimal}
 use Rattle.std.specs.Str.{chars}
+use Rattle.std.specs.Fmt.{decimal}
 use Rattle.clap.specs.Words.{Text}
 use Rattle.beam_machine.specs.declared.event.Refused.{Refused}
 use Rattle.beam_remote.specs.declared.error.SessionFailure.{SessionFailure as SessionWhy}

@@ -15,3 +15,4 @@ pub mod Rounds
 pub mod Rules
 pub mod Report
 pub mod Unloaded
+pub mod Prelude

@@ -2,10 +2,9 @@
 use Rattle.std.specs.Prelude.{◌≡◌, ◌≢◌, ◌⊎◌, ◌++◌, ℕ, List, Option, Some, ⊤}
 use Rattle.std.specs.Io.KnownBytes.{Appends}
 use Rattle.clap.specs.Words.{Text}
-use Rattle.beam_machine.specs.Process.{normal}
-use Rattle.beam_machine.specs.State.{empty}
-use Rattle.beam_model.specs.Text.{text_of}
-use Rattle.beam_term.specs.TermValue.{TermValue}
+use Rattle.beam_term.specs.Prelude.{TermValue}
+use Rattle.beam_model.specs.Prelude.{text_of}
+use Rattle.beam_machine.specs.Prelude.{normal, empty}
 use Rattle.beam_tools.specs.Call.{ComesTo, HasExit, HasValue, IsSpent, IsStuck}
 use Rattle.beam_tools.specs.Files.{Contents}
 use Rattle.beam_tools.specs.Lines.{CallIsWrong, IsAnswer, WrongSays}

@@ -1,9 +1,8 @@
 -- The command line of `beamnode`: the command, and what a line asks for.
-use Rattle.std.specs.Prelude.{◌∷◌, ◌==◌, ℕ, Bool, List, [], Option, Some, None, if◌then◌else◌, codes, false, map}
-use Rattle.std.specs.Prelude.{option_and_then, option_map, pos, true, unwrap_or}
+use Rattle.std.specs.Prelude.{◌∷◌, ◌==◌, ℕ, Bool, List, [], Option, Some, None, if◌then◌else◌, codes, false, map, option_and_then, option_map, pos, true, unwrap_or}
+use Rattle.std.specs.Str.{bytes_eq}
 use Rattle.std.specs.List.{after_first, before_first}
 use Rattle.std.specs.Option.{option_map_or}
-use Rattle.std.specs.Str.{bytes_eq}
 use Rattle.std.specs.Str.Parse.{digits_value, without_leading_plus}
 use Rattle.clap.specs.ValueTests.{is_unsigned_in}
 use Rattle.clap.specs.Words.{App, Row, Rule, Text, all_of, first_of, new_app, new_rule, one_of, subcommand_of, with_rule, with_subcommand}

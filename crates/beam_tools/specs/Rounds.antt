@@ -6,13 +6,9 @@ use Rattle.beam_machine.specs.declared.event.Refused.TheVariants.{NoMemory}
 use Rattle.beam_machine.specs.declared.event.Reply.TheVariants.{Ran}
 use Rattle.beam_machine.specs.declared.event.Then.TheVariants.{GoesOn}
 use Rattle.beam_machine.specs.declared.process.Status.{Status}
+use Rattle.beam_machine.specs.Prelude.{Answer, Next, next, most_processes, Process, next_deadline, ready_after, State, process_of}
 use Rattle.beam_machine.specs.declared.process.Status.TheVariants as status
-use Rattle.beam_model.specs.Listing.{Listing}
-use Rattle.beam_machine.specs.Next.{Answer, Next, next}
-use Rattle.beam_machine.specs.NodeNative.{most_processes}
-use Rattle.beam_machine.specs.Process.{Process}
-use Rattle.beam_machine.specs.Ready.{next_deadline, ready_after}
-use Rattle.beam_machine.specs.State.{State, process_of}
+use Rattle.beam_model.specs.Prelude.{Listing}
 use Rattle.beam_tools.specs.declared.rounds.CallOutcome.{CallOutcome}
 use Rattle.beam_tools.specs.declared.rounds.CallOutcome.TheVariants.{Ended, Spent, Stuck}
 use Rattle.beam_tools.specs.declared.rounds.Rounds.{Rounds}

@@ -2,13 +2,11 @@
 use Rattle.std.specs.Prelude.{◌≡◌, ◌++◌, ◌∷◌, ℕ, List, Err, ⊤}
 use Rattle.clap.specs.Words.{Text}
 use Rattle.beam_disasm.specs.Refusals.{Refuses}
+use Rattle.beam_model.specs.Prelude.{listing_of_file, Listing}
 use Rattle.beam_machine.specs.declared.event.Event.TheVariants.{Load}
 use Rattle.beam_machine.specs.declared.event.Refused.{Refused as NodeRefused}
 use Rattle.beam_machine.specs.declared.event.Refused.TheVariants.{NoMemory}
-use Rattle.beam_machine.specs.Next.{next}
-use Rattle.beam_machine.specs.State.{State}
-use Rattle.beam_model.specs.File.{listing_of_file}
-use Rattle.beam_model.specs.Listing.{Listing}
+use Rattle.beam_machine.specs.Prelude.{next, State}
 use Rattle.beam_tools.specs.Call.{AreFilesOf, IsFileOf, Loads}
 use Rattle.beam_tools.specs.Files.{Contents, HasBytes}
 use Rattle.beam_tools.specs.declared.fault.FileFaultKind.{FileFaultKind}

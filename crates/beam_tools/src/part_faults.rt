@@ -8,6 +8,7 @@ use beam_model::function::Export;
 use beam_model::instruction::{Argument, Instruction, Operand};
 use beam_model::listing::Listing;
 use beam_model::opcode::{Kind, Opcode};
+use beam_model::operand_value::{atom_in, number_in};
 use beam_shapes::first_mismatch::{FirstMismatch, find_mismatch};
 use beam_shapes::mismatch::Mismatch;
 use beam_term::Atom;
@@ -157,20 +158,6 @@ fn are_known(instruction: &Instruction) -> bool {
         .iter()
         .zip(instruction.operands.as_slice())
         .all(|(kind, operand)| is_known(*kind, operand))
-}
-
-fn atom_in(operand: &Operand) -> Option<&Atom> {
-    match operand {
-        Operand::One(Argument::Term(term)) => term.as_atom(),
-        _ => None,
-    }
-}
-
-fn number_in(operand: &Operand) -> Option<u32> {
-    match operand {
-        Operand::One(Argument::Number(number)) => Some(*number),
-        _ => None,
-    }
 }
 
 // The stage after a head, if it is one of that module.

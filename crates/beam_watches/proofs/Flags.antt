@@ -1,16 +1,15 @@
 -- Which entries are flagged as kept, and where the one of a reference stands.
-use Rattle.std.proofs.Common.{◌≡◌, ℕ, zero, suc, ◌+◌, ◌-◌, ◌==◌, ◌<◌, ◌≤◌, Bool, true, false, cond, not, List, [], ◌∷◌, ◌++◌, length, get_or, set, replicate, Result, Ok, Err, IfOk, IfErr, refl, sym, ap, ◌∙◌, arith}
+use Rattle.std.proofs.Common.{◌≡◌, ℕ, zero, suc, ◌+◌, ◌-◌, ◌==◌, ◌<◌, ◌≤◌, Bool, true, false, cond, not, List, [], ◌∷◌, ◌++◌, length, get_or, set, replicate, Result, Ok, Err, IfOk, IfErr, refl, sym, ap, ◌∙◌, arith, Some, None, option_map, length-append, length-set}
 use mathlib.Core.Bool.{false≢true}
 use Rattle.std.specs.List.Sorted.{IsSearchInRange, IsBinarySearchResult, IsNonDecreasingBy}
-use Rattle.std.specs.Ordering.{nat_cmp, ordering_index}
-use Rattle.std.specs.Prelude.{Some, None, option_map}
+use Rattle.std.specs.Ordering.{ordering_index, nat_cmp}
 use Rattle.std.proofs.lemmas.Bool.Decides.{nat_tests}
 use Rattle.std.proofs.lemmas.Cmp.{ranked}
-use Rattle.std.proofs.lemmas.List.{length-append, length-set, length-replicate, get_or_append_left, get_or_push, get_or_default, set-get_or, map-append}
+use Rattle.std.proofs.lemmas.List.{length-replicate, get_or_append_left, get_or_push, get_or_default, set-get_or, map-append}
 use Rattle.std.proofs.lemmas.List.Sorted.{IsNonDecreasingBy-from_default}
-use Rattle.beam_term.specs.TermValue.{TermValue, nil_term}
 use Rattle.beam_machine.specs.declared.process.Monitor.{Monitor}
-use Rattle.beam_machine.specs.Process.{monitor_of, without_monitor}
+use Rattle.beam_machine.specs.Prelude.{monitor_of, without_monitor}
+use Rattle.beam_term.specs.Prelude.{TermValue, nil_term}
 use Rattle.beam_watches.specs.MonitorEntries.{monitors_in, AreBelow, flagged, reference_at, AreRising, IsPlaceOf, IsAbsent, AreFlagged}
 
 abbrev Entries : Type 0

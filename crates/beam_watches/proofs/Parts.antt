@@ -1,13 +1,12 @@
 -- Monitors in two parts, one after the other.
-use Rattle.std.proofs.Common.{◌≡◌, ℕ, zero, suc, ◌-◌, ◌==◌, ◌<◌, ◌≤◌, Bool, true, false, cond, not, List, [], ◌∷◌, ◌++◌, length, filter, Option, Some, None, ap, ◌∙◌, refl, arith}
-use Rattle.std.specs.Prelude.{option_map}
+use Rattle.std.proofs.Common.{◌≡◌, ℕ, zero, suc, ◌-◌, ◌==◌, ◌<◌, ◌≤◌, Bool, true, false, cond, not, List, [], ◌∷◌, ◌++◌, length, filter, Option, Some, None, ap, ◌∙◌, refl, arith, option_map, length-append}
 use Rattle.std.specs.Option.{option_or}
 use Rattle.std.specs.List.{AllByRecursion}
-use Rattle.std.proofs.lemmas.List.{length-append, get_or_append_left, get_or-append_right}
+use Rattle.std.proofs.lemmas.List.{get_or_append_left, get_or-append_right}
 use Rattle.std.proofs.lemmas.List.Folds.{find-append}
-use Rattle.beam_term.specs.TermValue.{TermValue, nil_term}
 use Rattle.beam_machine.specs.declared.process.Monitor.{Monitor}
-use Rattle.beam_machine.specs.Process.{monitor_of, without_monitor}
+use Rattle.beam_machine.specs.Prelude.{monitor_of, without_monitor}
+use Rattle.beam_term.specs.Prelude.{TermValue, nil_term}
 use Rattle.beam_watches.specs.MonitorEntries.{monitors_in, AreBelow, AreApart, AreRising, reference_at}
 use Rattle.beam_watches.proofs.Flags.{below_each}
 

@@ -1,8 +1,8 @@
 -- Monitors as entries by the numbers of their references, and which of them are kept.
 use Rattle.std.specs.Prelude.{◌≡◌, ◌≢◌, ◌<◌, ℕ, Bool, List, [], ◌∷◌, map, length, slice_index_or, if◌then◌else◌}
 use Rattle.std.specs.List.{AllByRecursion}
-use Rattle.beam_term.specs.TermValue.{TermValue, nil_term}
 use Rattle.beam_machine.specs.declared.process.Monitor.{Monitor}
+use Rattle.beam_term.specs.Prelude.{TermValue, nil_term}
 
 abbrev pub monitors_in : List (ℕ × TermValue) → List Monitor
 monitors_in entries = map (λ e. record { reference = e.0; pid = e.1 }) entries

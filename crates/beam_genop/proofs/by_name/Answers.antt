@@ -1,8 +1,8 @@
 -- Each opcode stands in the table, so a name that none of the table has is no opcode's.
 use Rattle.std.proofs.Common.{◌≡◌, arith}
 use Rattle.beam_model.specs.declared.opcode.Opcode.{Opcode}
+use Rattle.beam_model.specs.Prelude.{name_of}
 use Rattle.beam_model.specs.declared.opcode.Opcode.TheVariants as op
-use Rattle.beam_model.specs.Opcodes.{name_of}
 use Rattle.beam_genop.proofs.by_name.Goals as goal
 
 pub returns-in-None-clause-none : goal.returns-in-None-clause-none

@@ -1,8 +1,6 @@
-use Rattle.std.proofs.Common.{◌≡◌, ℕ, ◌<◌, get_or, drop}
-use Rattle.std.specs.Prelude.{find}
+use Rattle.std.proofs.Common.{◌≡◌, ℕ, ◌<◌, get_or, drop, find}
 use Rattle.beam_model.specs.declared.opcode.Opcode.{Opcode}
-use Rattle.beam_model.specs.SameText.{same_text}
-use Rattle.beam_model.specs.Opcodes.{name_of}
+use Rattle.beam_model.specs.Prelude.{same_text, name_of}
 use Rattle.beam_genop.proofs.named_in.Given as goal
 
 abbrev pub invariant-loop-opcode : goal.invariant-loop-opcode

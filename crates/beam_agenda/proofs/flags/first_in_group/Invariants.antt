@@ -1,6 +1,5 @@
 use Rattle.std.proofs.Common.{◌≡◌, ◌+◌, ◌*◌, ◌/◌, take}
-use Rattle.beam_agenda.specs.Groups.{is_set}
-use Rattle.beam_agenda.specs.Positions.{position_from}
+use Rattle.beam_agenda.specs.Prelude.{is_set, position_from}
 use Rattle.beam_agenda.proofs.flags.first_in_group.Given as goal
 
 abbrev pub invariant-loop-at : goal.invariant-loop-at

@@ -1,7 +1,6 @@
-use Rattle.std.proofs.Common.{take, subst, sym}
-use Rattle.std.proofs.lemmas.List.{take_all}
+use Rattle.std.proofs.Common.{take, subst, sym, take_all}
 use Rattle.std.proofs.lemmas.List.Elements.{All-more, All-same}
-use Rattle.beam_term.specs.TermValue.{IsTerm}
+use Rattle.beam_term.specs.Prelude.{IsTerm}
 use Rattle.beam_asm.proofs.asm.are_terms.Goals as goal
 
 pub loop-literal-preserved : goal.loop-literal-preserved

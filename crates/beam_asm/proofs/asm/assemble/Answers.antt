@@ -1,7 +1,7 @@
 use Rattle.std.proofs.Common.{subst}
 use Rattle.std.specs.List.{All}
-use Rattle.beam_term.specs.TermValue.{IsTerm}
-use Rattle.beam_model.specs.Assembly.{numbering_of, without_line_numbers}
+use Rattle.beam_model.specs.Prelude.{numbering_of, without_line_numbers}
+use Rattle.beam_term.specs.Prelude.{IsTerm}
 use Rattle.beam_disasm.proofs.Files.{file_told}
 use Rattle.beam_asm.proofs.Canonical.{assembled}
 use Rattle.beam_asm.proofs.asm.assemble.Goals as goal

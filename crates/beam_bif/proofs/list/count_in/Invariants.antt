@@ -1,7 +1,7 @@
 use Rattle.std.proofs.Common.{◌≡◌, ◌≤◌, ◌+◌, length}
 use Rattle.std.specs.Option.{option_map}
-use Rattle.beam_term.specs.TermValue.{depth_of}
-use Rattle.beam_model.specs.Native.{elements_in}
+use Rattle.beam_model.specs.Prelude.{elements_in}
+use Rattle.beam_term.specs.Prelude.{depth_of}
 use Rattle.beam_bif.proofs.list.count_in.Given as goal
 
 -- the count so far and that of the rest add up to the list's

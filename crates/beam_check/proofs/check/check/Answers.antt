@@ -1,6 +1,6 @@
 use Rattle.std.proofs.Common.{◌≡◌, false, sym, ◌∙◌}
 use Rattle.std.proofs.lemmas.Option.{MatchOption-at_none}
-use Rattle.beam_model.specs.Loadable.{are_heads_lawful, are_exports_lawful}
+use Rattle.beam_model.specs.Prelude.{are_heads_lawful, are_exports_lawful}
 use Rattle.beam_check.proofs.WellFormed.{heads_lawful, exports_lawful}
 use Rattle.beam_check.proofs.check.check.Goals as goal
 

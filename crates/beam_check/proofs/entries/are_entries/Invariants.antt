@@ -1,6 +1,6 @@
 use Rattle.std.proofs.Common.{◌≡◌, length}
 use Rattle.std.specs.List.{list_any, list_all}
-use Rattle.beam_model.specs.Loadable.{is_entry, is_entry_of}
+use Rattle.beam_model.specs.Prelude.{is_entry, is_entry_of}
 use Rattle.beam_model.specs.declared.function.Function.{Function}
 use Rattle.beam_check.proofs.entries.are_entries.Given as goal
 

@@ -1,6 +1,6 @@
 use Rattle.std.proofs.Common.{◌≡◌}
 use Rattle.std.specs.List.{list_any}
-use Rattle.beam_model.specs.Loadable.{is_entry}
+use Rattle.beam_model.specs.Prelude.{is_entry}
 use Rattle.beam_model.specs.declared.function.Function.{Function}
 use Rattle.beam_check.proofs.entries.entries.Given as goal
 

@@ -1,5 +1,5 @@
 use Rattle.std.proofs.Common.{◌≡◌, ◌++◌, length, option_map}
-use Rattle.beam_model.specs.Loadable.{functions_of, functions_from}
+use Rattle.beam_model.specs.Prelude.{functions_of, functions_from}
 use Rattle.beam_check.specs.Stage.{shown}
 use Rattle.beam_check.proofs.functions.functions_of.Given as goal
 

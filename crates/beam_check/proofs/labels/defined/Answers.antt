@@ -1,5 +1,5 @@
 use Rattle.std.proofs.Common.{◌≡◌, ◌||◌, true, not, ◌∷◌, refl, ap, sym, ◌∙◌, rules}
-use Rattle.beam_model.specs.Loadable.{defined_labels, is_among}
+use Rattle.beam_model.specs.Prelude.{defined_labels, is_among}
 use Rattle.beam_check.specs.LabelSet.{has_label}
 use Rattle.beam_check.proofs.LabelTests.{are_unmarked, none_marked, one_more, among_more}
 use Rattle.beam_check.proofs.labels.defined.Goals as goal

@@ -1,6 +1,6 @@
 use Rattle.std.proofs.Common.{◌≡◌, ℕ, ◌||◌, nat_lt, [], length}
 use Rattle.std.specs.List.{list_all}
-use Rattle.beam_model.specs.Loadable.{defined_labels, is_among, are_new}
+use Rattle.beam_model.specs.Prelude.{defined_labels, is_among, are_new}
 use Rattle.beam_check.specs.LabelSet.{has_label}
 use Rattle.beam_check.proofs.LabelTests.{are_unmarked}
 use Rattle.beam_check.proofs.labels.defined.Given as goal

@@ -1,5 +1,5 @@
 use Rattle.std.proofs.Common.{◌≡◌, [], map, length}
-use Rattle.beam_model.specs.Loadable.{are_signatures_new, exported_signature}
+use Rattle.beam_model.specs.Prelude.{are_signatures_new, exported_signature}
 use Rattle.beam_check.proofs.signatures.are_exports_distinct.Given as goal
 
 abbrev pub invariant-loop-export : goal.invariant-loop-export

@@ -1,6 +1,6 @@
 use Rattle.std.proofs.Common.{ap}
 use Rattle.std.proofs.lemmas.List.{nil_from_length}
-use Rattle.beam_model.specs.Assembly.{compact_argument, compact_arguments}
+use Rattle.beam_model.specs.Prelude.{compact_argument, compact_arguments}
 use Rattle.beam_code.proofs.Written.{member_more, member_none, members_done}
 use Rattle.beam_code.proofs.compact.compact_arguments.Goals as goal
 

@@ -1,6 +1,5 @@
-use Rattle.std.proofs.Common.{length, ◌≡◌, ◌++◌}
-use Rattle.std.specs.Prelude.{option_map}
-use Rattle.beam_model.specs.Assembly.{compact_arguments}
+use Rattle.std.proofs.Common.{length, ◌≡◌, ◌++◌, option_map}
+use Rattle.beam_model.specs.Prelude.{compact_arguments}
 use Rattle.beam_code.proofs.compact.compact_arguments.Given as goal
 
 abbrev pub invariant-loop-argument : goal.invariant-loop-argument

@@ -1,7 +1,6 @@
-use Rattle.std.proofs.Common.{rules, ◌≡◌, ◌++◌, take, drop, sym, ap, ◌∙◌, List}
-use Rattle.std.proofs.lemmas.List.{take-append-drop}
+use Rattle.std.proofs.Common.{rules, ◌≡◌, ◌++◌, take, drop, sym, ap, ◌∙◌, List, take-append-drop}
 use Rattle.beam_model.specs.declared.instruction.Operand.{Operand}
-use Rattle.beam_model.specs.CodeChunk.{listed_operands}
+use Rattle.beam_model.specs.Prelude.{listed_operands}
 use Rattle.beam_code.proofs.instruction.as_listed.Goals as goal
 
 pub returns-else-eq : goal.returns-else-eq

@@ -1,8 +1,6 @@
-use Rattle.std.proofs.Common.{sym}
+use Rattle.std.proofs.Common.{sym, map}
 use Rattle.std.proofs.lemmas.Result.{err_from_is_err_and}
-use Rattle.std.specs.Prelude.{map}
-use Rattle.beam_code.specs.ReadChunk.{tables_of}
-use Rattle.beam_code.specs.Shared.{made_of}
+use Rattle.beam_code.specs.Prelude.{tables_of, made_of}
 use Rattle.beam_code.proofs.Loops.{opcode_fails, reading_ends, instruction_fails, instruction_more}
 use Rattle.beam_code.proofs.ReadingLayout.{Placed, placed_more, placed_all}
 use Rattle.beam_code.proofs.Shared.{made_more, within_more}

@@ -1,8 +1,6 @@
-use Rattle.std.proofs.Common.{◌-◌, length}
-use Rattle.std.specs.Prelude.{map}
+use Rattle.std.proofs.Common.{◌-◌, length, map}
 use Rattle.std.specs.List.{All}
-use Rattle.beam_code.specs.ReadChunk.{tables_of}
-use Rattle.beam_code.specs.Shared.{made_of, IsWithin}
+use Rattle.beam_code.specs.Prelude.{tables_of, made_of, IsWithin}
 use Rattle.beam_code.proofs.Loops.{IsRead}
 use Rattle.beam_code.proofs.ReadingLayout.{Placed}
 use Rattle.beam_code.proofs.instruction.instructions.Given as goal

@@ -1,7 +1,7 @@
 use Rattle.std.proofs.Common.{arith}
 use Rattle.std.proofs.lemmas.Result.{err_from_is_err_and}
-use Rattle.beam_model.specs.CodeChunk.{operands_at}
-use Rattle.beam_code.specs.Shared.{put_last}
+use Rattle.beam_model.specs.Prelude.{operands_at}
+use Rattle.beam_code.specs.Prelude.{put_last}
 use Rattle.beam_code.proofs.Loops.{operand_more, operand_fails, operands_done}
 use Rattle.beam_code.proofs.instruction.operands.Goals as goal
 

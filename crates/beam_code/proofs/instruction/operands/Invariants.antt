@@ -1,6 +1,6 @@
 use Rattle.std.proofs.Common.{◌≡◌, ◌≤◌, length, drop}
-use Rattle.beam_model.specs.CodeChunk.{operands_at}
-use Rattle.beam_code.specs.Shared.{put_last}
+use Rattle.beam_model.specs.Prelude.{operands_at}
+use Rattle.beam_code.specs.Prelude.{put_last}
 use Rattle.beam_code.proofs.instruction.operands.Given as goal
 
 abbrev pub invariant-loop-kind : goal.invariant-loop-kind

@@ -1,7 +1,6 @@
-use Rattle.std.proofs.Common.{◌≡◌, take}
-use Rattle.std.specs.Prelude.{map}
+use Rattle.std.proofs.Common.{◌≡◌, take, map}
 use Rattle.std.specs.Arc.{arc_value}
-use Rattle.beam_code.specs.Shared.{made_of}
+use Rattle.beam_code.specs.Prelude.{made_of}
 use Rattle.beam_code.proofs.instruction.sharing.Given as goal
 
 abbrev pub invariant-loop-head : goal.invariant-loop-head

@@ -1,7 +1,7 @@
 use Rattle.std.proofs.Common.{Ok, sym, ap, ◌∙◌}
 use Rattle.std.proofs.lemmas.Result.{err_from_is_err_and}
 use Rattle.beam_model.specs.declared.instruction.Instruction.{Instruction}
-use Rattle.beam_code.specs.ReadChunk.{tables_of}
+use Rattle.beam_code.specs.Prelude.{tables_of}
 use Rattle.beam_code.proofs.Shared.{instruction_of, made_alone, standing_is}
 use Rattle.beam_code.proofs.instruction.standing.Goals as goal
 

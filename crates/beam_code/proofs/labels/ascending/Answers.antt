@@ -1,6 +1,6 @@
 use Rattle.std.proofs.Common.{◌≡◌, ◌+◌, ◌<◌, ◌^◌, Some, None, get_or, refl, sym, ◌∙◌, arith, rules}
-use Rattle.beam_model.specs.Listing.{label_of}
-use Rattle.beam_code.specs.Ascending.{ascending_from}
+use Rattle.beam_model.specs.Prelude.{label_of}
+use Rattle.beam_code.specs.Prelude.{ascending_from}
 use Rattle.beam_code.proofs.Ascending.{ends_of, IsNext, no_label, label_below, label_more, labels_done}
 use Rattle.beam_code.proofs.labels.ascending.Goals as goal
 

@@ -1,5 +1,5 @@
 use Rattle.std.proofs.Common.{◌≡◌, ◌≤◌, ◌^◌}
-use Rattle.beam_code.specs.Ascending.{ascending_from}
+use Rattle.beam_code.specs.Prelude.{ascending_from}
 use Rattle.beam_code.proofs.Ascending.{with_before, left_at, ends_of}
 use Rattle.beam_code.proofs.labels.ascending.Given as goal
 

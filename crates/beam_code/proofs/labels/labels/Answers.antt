@@ -1,7 +1,6 @@
-use Rattle.std.proofs.Common.{ℕ, List, sym, ap, subst, ◌∙◌}
-use Rattle.std.specs.Prelude.{map, nat_eq}
+use Rattle.std.proofs.Common.{ℕ, List, sym, ap, subst, ◌∙◌, map, nat_eq}
 use Rattle.std.specs.Map.{lookup, keys_of}
-use Rattle.beam_code.specs.Bytes.{AreAscending}
+use Rattle.beam_code.specs.Prelude.{AreAscending}
 use Rattle.beam_code.proofs.Ascending.{ends_of, ascending_are}
 use Rattle.beam_code.proofs.LabelBytes.{ascending, same_lookup}
 use Rattle.beam_code.proofs.labels.labels.Goals as goal

@@ -1,9 +1,9 @@
 use Rattle.std.proofs.Common.{◌≡◌, ℕ, suc, ◌-◌, ◌<◌, ◌≤◌, cond, Option, Some, [], ◌∷◌, ◌++◌, length, get_or, drop, sym, ap, ap₂, arith, ◌∙◌}
-use Rattle.std.proofs.lemmas.Option.{get_or_from_slice_get}
 use Rattle.std.specs.Ordering.{nat_cmp}
+use Rattle.std.proofs.lemmas.Option.{get_or_from_slice_get}
 use Rattle.std.specs.BTreeMap.{get}
-use Rattle.beam_model.specs.Listing.{is_this_number, label_of}
-use Rattle.beam_code.specs.Bytes.{byte_after}
+use Rattle.beam_model.specs.Prelude.{is_this_number, label_of}
+use Rattle.beam_code.specs.Prelude.{byte_after}
 use Rattle.beam_code.proofs.LabelBytes.{noted_more}
 use Rattle.beam_code.proofs.labels.noted.Goals as goal
 

@@ -1,7 +1,7 @@
 use Rattle.std.proofs.Common.{◌≡◌, ℕ, ◌≤◌, length, get_or, drop, ◌++◌, ◌∷◌, []}
 use Rattle.std.specs.Ordering.{nat_cmp}
 use Rattle.std.specs.BTreeMap.{get}
-use Rattle.beam_code.specs.Bytes.{byte_after}
+use Rattle.beam_code.specs.Prelude.{byte_after}
 use Rattle.beam_code.proofs.labels.noted.Given as goal
 
 abbrev pub invariant-loop-at : goal.invariant-loop-at

@@ -1,6 +1,6 @@
 use Rattle.std.proofs.Common.{sym, ◌∙◌}
 use Rattle.beam_code.proofs.Loops.{member_more, member_none, members_done}
-use Rattle.beam_model.specs.CodeChunk.{members_of}
+use Rattle.beam_model.specs.Prelude.{members_of}
 use Rattle.beam_code.proofs.operand.members.Goals as goal
 
 pub returns-in_default : goal.returns-in_default

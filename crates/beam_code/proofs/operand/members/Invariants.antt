@@ -1,5 +1,5 @@
 use Rattle.std.proofs.Common.{◌≡◌, drop}
-use Rattle.beam_model.specs.CodeChunk.{members_of}
+use Rattle.beam_model.specs.Prelude.{members_of}
 use Rattle.beam_code.proofs.Loops.{with_members}
 use Rattle.beam_code.proofs.operand.members.Given as goal
 

@@ -1,5 +1,5 @@
 use Rattle.std.proofs.Common.{◌≡◌, ◌<◌, Some, sym, ◌∙◌, rules}
-use Rattle.beam_code.specs.Whole.{argument_of_byte, import_of_byte}
+use Rattle.beam_code.specs.Prelude.{argument_of_byte, import_of_byte}
 use Rattle.beam_code.proofs.Whole.{byte_meant}
 use Rattle.beam_code.proofs.Wide.{are_bytes, import_meant, bytes_meant}
 use Rattle.beam_code.proofs.operand.operand.Goals as goal

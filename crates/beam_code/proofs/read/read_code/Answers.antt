@@ -1,7 +1,7 @@
-use Rattle.std.specs.Prelude.{Ok, Err}
+use Rattle.std.proofs.Common.{Ok, Err}
 use Rattle.std.proofs.lemmas.Result.{err_from_is_err_and}
 use Rattle.beam_code.specs.declared.read.CodeChunk.{CodeChunk}
-use Rattle.beam_code.specs.ReadChunk.{parts_of, tables_of}
+use Rattle.beam_code.specs.Prelude.{parts_of, tables_of}
 use Rattle.beam_code.proofs.ReadResults.{spelled, only}
 use Rattle.beam_code.proofs.read.read_code.Goals as goal
 

@@ -1,6 +1,5 @@
-use Rattle.std.proofs.Common.{◌≡◌, take}
-use Rattle.std.specs.Prelude.{map}
-use Rattle.beam_term.specs.TermValue.{atom_term}
+use Rattle.std.proofs.Common.{◌≡◌, take, map}
+use Rattle.beam_term.specs.Prelude.{atom_term}
 use Rattle.beam_code.proofs.share.atom_terms.Given as goal
 
 abbrev pub invariant-loop-atom : goal.invariant-loop-atom

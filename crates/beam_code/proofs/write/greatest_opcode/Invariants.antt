@@ -1,7 +1,5 @@
-use Rattle.std.proofs.Common.{length, ◌≡◌}
-use Rattle.std.specs.Prelude.{fold, max}
-use Rattle.beam_model.specs.Opcodes.{number_of}
-use Rattle.beam_model.specs.Assembly.{greatest_opcode}
+use Rattle.std.proofs.Common.{length, ◌≡◌, fold, max}
+use Rattle.beam_model.specs.Prelude.{number_of, greatest_opcode}
 use Rattle.beam_code.proofs.write.greatest_opcode.Given as goal
 
 abbrev pub invariant-loop-instruction : goal.invariant-loop-instruction

@@ -1,6 +1,6 @@
 use Rattle.std.proofs.Common.{length, ◌≡◌}
-use Rattle.beam_model.specs.Assembly.{instructions_bytes}
-use Rattle.beam_code.specs.Writing.{with_before}
+use Rattle.beam_model.specs.Prelude.{instructions_bytes}
+use Rattle.beam_code.specs.Prelude.{with_before}
 use Rattle.beam_code.proofs.write.push_instructions.Given as goal
 
 -- the output so far, and the bytes of the rest after it, are the whole

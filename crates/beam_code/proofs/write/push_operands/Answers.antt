@@ -1,7 +1,7 @@
 use Rattle.std.proofs.Common.{ap}
 use Rattle.std.proofs.lemmas.List.{nil_from_length}
 use Rattle.std.proofs.lemmas.Result.{err_from_is_err_and}
-use Rattle.beam_model.specs.Assembly.{operand_bytes, operands_bytes}
+use Rattle.beam_model.specs.Prelude.{operand_bytes, operands_bytes}
 use Rattle.beam_code.proofs.Written.{goes_on, stops, finishes}
 use Rattle.beam_code.proofs.write.push_operands.Goals as goal
 

@@ -1,9 +1,8 @@
-use Rattle.std.proofs.Common.{ap}
+use Rattle.std.proofs.Common.{ap, option_map}
 use Rattle.std.proofs.lemmas.List.{nil_from_length}
 use Rattle.std.proofs.lemmas.Result.{err_from_is_err_and}
-use Rattle.std.specs.Prelude.{option_map}
 use Rattle.byteorder.specs.Endian.{big_bytes}
-use Rattle.beam_model.specs.Assembly.{word, words_bytes}
+use Rattle.beam_model.specs.Prelude.{word, words_bytes}
 use Rattle.beam_code.proofs.Written.{goes_on, stops, finishes}
 use Rattle.beam_code.proofs.write.push_words.Goals as goal
 

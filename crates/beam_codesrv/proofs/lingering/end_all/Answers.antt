@@ -1,5 +1,5 @@
 use Rattle.std.proofs.Common.{◌≡◌, suc, ◌+◌, length, set, get_or, ap, ◌∙◌, arith}
-use Rattle.beam_machine.specs.Process.{Process}
+use Rattle.beam_machine.specs.Prelude.{Process}
 use Rattle.beam_codesrv.specs.Ends.{lingers_in, end_if}
 use Rattle.beam_codesrv.proofs.Ending.{partly, partly_more, partly_all, partly_there, lingering_lives}
 use Rattle.beam_codesrv.proofs.lingering.end_all.Goals as goal

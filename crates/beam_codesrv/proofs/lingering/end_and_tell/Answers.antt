@@ -1,5 +1,5 @@
 use Rattle.std.proofs.Common.{map, sym, ap, subst, ◌∙◌}
-use Rattle.beam_laws.specs.Orderly.{Orderly}
+use Rattle.beam_laws.specs.Prelude.{Orderly}
 use Rattle.beam_laws.proofs.Hearing.{nobody_ends}
 use Rattle.beam_codesrv.specs.Ends.{lingers_in, end_if}
 use Rattle.beam_codesrv.proofs.Ending.{told_and_ended}

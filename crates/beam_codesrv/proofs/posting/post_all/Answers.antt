@@ -1,8 +1,7 @@
 use Rattle.std.proofs.Common.{◌≡◌, ◌+◌, ◌<◌, [], ◌∷◌, ◌++◌, length, take, sym, ap, ◌∙◌, rules}
 use Rattle.std.proofs.lemmas.List.{take_more}
-use Rattle.beam_machine.specs.Private.{Sent}
-use Rattle.beam_machine.specs.State.{posted}
-use Rattle.beam_laws.specs.Private.{posted_all}
+use Rattle.beam_machine.specs.Prelude.{Sent, posted}
+use Rattle.beam_laws.specs.Prelude.{posted_all}
 use Rattle.beam_codesrv.specs.Posting.{all_taken}
 use Rattle.beam_codesrv.proofs.Untaken.{all_untaken, posted_more}
 use Rattle.beam_codesrv.proofs.posting.post_all.Goals as goal

@@ -1,5 +1,5 @@
 use Rattle.std.proofs.Common.{◌≡◌, ℕ, true, ◌++◌}
-use Rattle.beam_machine.specs.State.{process_of}
+use Rattle.beam_machine.specs.Prelude.{process_of}
 use Rattle.beam_watches.specs.Origins.{origins_of}
 use Rattle.beam_watches.specs.MonitorEntries.{monitors_in}
 use Rattle.beam_codesrv.specs.Ends.{lingers_in, there_passes, origins_by}

@@ -1,6 +1,6 @@
 use Rattle.std.proofs.Common.{◌≡◌}
 use Rattle.std.specs.List.{list_any}
-use Rattle.beam_machine.specs.Row.{own_number}
+use Rattle.beam_machine.specs.Prelude.{own_number}
 use Rattle.beam_watches.specs.MonitorEntries.{monitors_in}
 use Rattle.beam_codesrv.specs.Ends.{lingers_in, number_passes}
 use Rattle.beam_codesrv.proofs.telling.are_of_one.Given as goal

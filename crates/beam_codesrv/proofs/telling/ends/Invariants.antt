@@ -1,6 +1,5 @@
-use Rattle.std.proofs.Common.{◌≡◌, ◌++◌, map, length}
-use Rattle.std.specs.Prelude.{flat_map}
-use Rattle.beam_machine.specs.Change.{pids_of}
+use Rattle.std.proofs.Common.{◌≡◌, ◌++◌, map, length, flat_map}
+use Rattle.beam_machine.specs.Prelude.{pids_of}
 use Rattle.beam_watches.specs.Origins.{origins_of}
 use Rattle.beam_codesrv.specs.Ends.{lingers_in, down_by}
 use Rattle.beam_codesrv.proofs.telling.ends.Given as goal

@@ -1,5 +1,5 @@
 use Rattle.std.proofs.Common.{◌≡◌, ℕ, true, ◌++◌, length}
-use Rattle.beam_machine.specs.State.{process_of}
+use Rattle.beam_machine.specs.Prelude.{process_of}
 use Rattle.beam_watches.specs.Origins.{origins_of}
 use Rattle.beam_codesrv.specs.Ends.{lingers_in, there_passes, monitor_origins}
 use Rattle.beam_codesrv.proofs.telling.origins_of_lingering.Given as goal

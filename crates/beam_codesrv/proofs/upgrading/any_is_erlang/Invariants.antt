@@ -1,6 +1,6 @@
 use Rattle.std.proofs.Common.{◌≡◌, length}
 use Rattle.std.specs.List.{list_any}
-use Rattle.beam_model.specs.NativeNames.{is_erlang}
+use Rattle.beam_model.specs.Prelude.{is_erlang}
 use Rattle.beam_codesrv.proofs.upgrading.any_is_erlang.Given as goal
 
 abbrev pub invariant-loop-image : goal.invariant-loop-image

@@ -1,5 +1,5 @@
 use Rattle.std.proofs.Common.{◌≡◌, length}
-use Rattle.beam_machine.specs.Next.{are_apart}
+use Rattle.beam_machine.specs.Prelude.{are_apart}
 use Rattle.beam_codesrv.proofs.Apart.{are_apart_after}
 use Rattle.beam_codesrv.proofs.upgrading.are_apart.Given as goal
 

@@ -1,7 +1,7 @@
 use Rattle.std.proofs.Common.{◌≡◌, sym, ap, ◌∙◌, rules}
 use Rattle.beam_machine.specs.declared.event.Event.TheVariants.{Steps}
-use Rattle.beam_machine.specs.Private.{Private, before_node_row}
-use Rattle.beam_proc.specs.Ending.{end_of}
+use Rattle.beam_machine.specs.Prelude.{Private, before_node_row}
+use Rattle.beam_proc.specs.Prelude.{end_of}
 use Rattle.beam_shape_laws.specs.Shaped.{IsFramedNode}
 use Rattle.beam_shape_laws.proofs.Nodes.{next_framed}
 use Rattle.beam_core.proofs.Effects.{ends_before, stands_in, effect, effect_keeps, goes_on_there, effect_and_row, stands_back, restored, part_in, rises_back}

@@ -1,6 +1,6 @@
 use Rattle.std.proofs.Common.{length}
 use Rattle.std.specs.List.{AllByRecursion}
-use Rattle.beam_model.specs.Heads.{CanLoad}
+use Rattle.beam_model.specs.Prelude.{CanLoad}
 use Rattle.beam_core.proofs.node.all_stand.Given as goal
 
 abbrev pub invariant-loop-image : goal.invariant-loop-image

@@ -1,10 +1,8 @@
 use Rattle.std.proofs.Common.{◌≡◌, ◌+◌, ◌<◌, ◌≤◌, Ok, Some, None, ap, subst, ◌∙◌, arith, rules}
 use Rattle.beam_machine.specs.declared.event.Then.TheVariants.{GoesOn, Waits, Ended}
-use Rattle.beam_machine.specs.Debug.{halting}
-use Rattle.beam_machine.specs.Quiet.{IsLoud}
-use Rattle.beam_machine.specs.State.{State, process_of}
-use Rattle.beam_rows.specs.Spots.{passes_after}
-use Rattle.beam_state.specs.Parts.{node}
+use Rattle.beam_machine.specs.Prelude.{halting, IsLoud, State, process_of}
+use Rattle.beam_rows.specs.Prelude.{passes_after}
+use Rattle.beam_state.specs.Prelude.{node}
 use Rattle.beam_core.specs.Rows.{StopsNext}
 use Rattle.beam_core.proofs.PreservedByAnswers.{turn_stays_framed}
 use Rattle.beam_core.proofs.Located.{halts_before}

@@ -1,9 +1,9 @@
 use Rattle.std.proofs.Common.{◌≡◌, ◌≤◌, ◌-◌, Some}
 use Rattle.beam_machine.specs.declared.event.Then.TheVariants.{GoesOn}
-use Rattle.beam_machine.specs.Debug.{halting}
-use Rattle.beam_rows.specs.Spots.{passes_after}
+use Rattle.beam_machine.specs.Prelude.{halting}
+use Rattle.beam_rows.specs.Prelude.{passes_after}
 use Rattle.beam_shape_laws.specs.Shaped.{IsFramedNode}
-use Rattle.beam_state.specs.Parts.{node, then_at}
+use Rattle.beam_state.specs.Prelude.{node, then_at}
 use Rattle.beam_core.specs.Halt.{rows_done}
 use Rattle.beam_core.proofs.steps.run_rows.Given as goal
 

@@ -1,7 +1,6 @@
 use Rattle.std.proofs.Common.{◌≡◌, false, Some, sym, ◌∙◌}
-use Rattle.beam_machine.specs.Process.{is_waiting}
-use Rattle.beam_machine.specs.State.{State, live_process}
-use Rattle.beam_state.specs.Parts.{node}
+use Rattle.beam_machine.specs.Prelude.{is_waiting, State, live_process}
+use Rattle.beam_state.specs.Prelude.{node}
 use Rattle.beam_core.proofs.Accepted.{rows_answered, steps_may}
 use Rattle.beam_core.proofs.Stepping.{never_stopped}
 use Rattle.beam_core.proofs.steps.steps.Goals as goal

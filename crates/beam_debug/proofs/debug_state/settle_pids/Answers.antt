@@ -1,6 +1,6 @@
 use Rattle.std.proofs.Common.{rules, tests}
 use Rattle.std.proofs.lemmas.Fn.{filter_same}
-use Rattle.beam_machine.specs.Debug.{is_live_process}
+use Rattle.beam_machine.specs.Prelude.{is_live_process}
 use Rattle.beam_debug.proofs.debug_state.settle_pids.Goals as goal
 
 pub returns-clause-items : goal.returns-clause-items

@@ -1,6 +1,6 @@
 use Rattle.std.proofs.Common.{rules, tests}
 use Rattle.std.proofs.lemmas.Fn.{filter_same}
-use Rattle.beam_machine.specs.Change.{is_live}
+use Rattle.beam_machine.specs.Prelude.{is_live}
 use Rattle.beam_debug.proofs.debug_state.settle_spots.Goals as goal
 
 pub returns : goal.returns

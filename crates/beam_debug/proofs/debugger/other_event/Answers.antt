@@ -1,8 +1,8 @@
 use Rattle.std.proofs.Common.{Ok, Err}
-use Rattle.beam_machine.specs.Debug.{Debugged}
+use Rattle.beam_machine.specs.Prelude.{Debugged}
 use Rattle.beam_machine.specs.declared.debug.DebugEvent.TheVariants.{Node as NodeEvent}
 use Rattle.beam_machine.specs.declared.debug.DebugReply.TheVariants.{Node}
-use Rattle.beam_debug.specs.DebuggedNode.{debugged}
+use Rattle.beam_debug.specs.Prelude.{debugged}
 use Rattle.beam_debug.proofs.Accepted.{event_may, event_loud}
 use Rattle.beam_debug.proofs.Changes.{with_state}
 use Rattle.beam_debug.proofs.Debugging.{answers_event, refuses_event}

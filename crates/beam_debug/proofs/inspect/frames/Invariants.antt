@@ -1,7 +1,6 @@
-use Rattle.std.proofs.Common.{◌≡◌, ◌++◌, length}
-use Rattle.std.specs.Prelude.{map}
-use Rattle.beam_machine.specs.View.{frame_view}
-use Rattle.beam_debug.specs.Seen.{frame_seen}
+use Rattle.std.proofs.Common.{◌≡◌, ◌++◌, length, map}
+use Rattle.beam_machine.specs.Prelude.{frame_view}
+use Rattle.beam_debug.specs.Prelude.{frame_seen}
 use Rattle.beam_debug.proofs.inspect.frames.Given as goal
 
 abbrev pub invariant-loop-walk : goal.invariant-loop-walk

@@ -1,16 +1,11 @@
-use Rattle.std.proofs.Common.{◌≡◌, ◌+◌, ◌<◌, ◌≤◌, ℕ, false, length, sym, ap, subst, ◌∙◌, arith}
-use Rattle.std.specs.Prelude.{vec_capacity}
-use Rattle.beam_machine.specs.declared.debug.DebugReply.TheVariants.{Node, Held}
+use Rattle.std.proofs.Common.{◌≡◌, ◌+◌, ◌<◌, ◌≤◌, ℕ, false, length, sym, ap, subst, ◌∙◌, arith, vec_capacity}
+use Rattle.beam_machine.specs.declared.debug.DebugReply.TheVariants.{Held, Node}
 use Rattle.beam_machine.specs.declared.event.Reply.TheVariants.{Ran}
 use Rattle.beam_machine.specs.declared.event.Then.{Then}
-use Rattle.beam_machine.specs.Debug.{Debugged, is_among, with_pid, passes_on}
-use Rattle.beam_machine.specs.Private.{Private}
-use Rattle.beam_machine.specs.State.{State}
-use Rattle.beam_proc.specs.Ending.{end_of}
+use Rattle.beam_machine.specs.Prelude.{Debugged, is_among, with_pid, passes_on, Private, State}
+use Rattle.beam_proc.specs.Prelude.{end_of}
 use Rattle.beam_core.specs.Installing.{Installed, node_rows}
-use Rattle.beam_debug.specs.Debugger.{capacity_of}
-use Rattle.beam_debug.specs.DebuggedNode.{debugged}
-use Rattle.beam_debug.specs.Capacity.{AreRising}
+use Rattle.beam_debug.specs.Prelude.{capacity_of, debugged, AreRising}
 use Rattle.beam_debug.proofs.Installs.{ends_at_spot, replies_with, slices_run, slices_stop}
 use Rattle.beam_debug.proofs.Capacities.{higher, place_left}
 use Rattle.beam_debug.proofs.installing.install.Goals as goal

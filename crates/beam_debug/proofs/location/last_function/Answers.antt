@@ -1,6 +1,5 @@
-use Rattle.std.proofs.Common.{◌≡◌, ◌+◌, ◌-◌, true, false, take, sym, ap, ◌∙◌, arith, rules}
-use Rattle.std.specs.Prelude.{None, is_some, option_and_then, slice_get}
-use Rattle.beam_machine.specs.View.{function_of, last_function}
+use Rattle.std.proofs.Common.{◌≡◌, ◌+◌, ◌-◌, true, false, take, sym, ap, ◌∙◌, arith, rules, None, is_some, option_and_then, slice_get}
+use Rattle.beam_machine.specs.Prelude.{function_of, last_function}
 use Rattle.beam_debug.proofs.Backwards.{function_here, no_function_here, no_function_left}
 use Rattle.beam_debug.proofs.location.last_function.Goals as goal
 

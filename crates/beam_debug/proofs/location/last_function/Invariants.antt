@@ -1,6 +1,5 @@
-use Rattle.std.proofs.Common.{◌≡◌, ◌+◌, take}
-use Rattle.std.specs.Prelude.{None}
-use Rattle.beam_machine.specs.View.{last_function}
+use Rattle.std.proofs.Common.{◌≡◌, ◌+◌, take, None}
+use Rattle.beam_machine.specs.Prelude.{last_function}
 use Rattle.beam_debug.proofs.location.last_function.Given as goal
 
 abbrev pub invariant-loop-found : goal.invariant-loop-found

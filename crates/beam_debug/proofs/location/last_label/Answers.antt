@@ -1,8 +1,7 @@
-use Rattle.std.proofs.Common.{◌≡◌, ◌+◌, ◌-◌, ◌≤◌, take, sym, ap, ◌∙◌, arith, rules}
-use Rattle.std.specs.Prelude.{slice_get}
-use Rattle.beam_machine.specs.View.{last_label}
+use Rattle.std.proofs.Common.{◌≡◌, ◌+◌, ◌-◌, ◌≤◌, take, sym, ap, ◌∙◌, arith, rules, slice_get}
+use Rattle.beam_machine.specs.Prelude.{last_label}
 use Rattle.beam_debug.specs.declared.label_or_rows.LabelOrRows.TheVariants.{Label, Rows}
-use Rattle.beam_debug.specs.LabelOrRows.{label_or_rows_at}
+use Rattle.beam_debug.specs.Prelude.{label_or_rows_at}
 use Rattle.beam_debug.proofs.Backwards.{none_passed, with_rows, label_found, rows_found, none_left}
 use Rattle.beam_debug.proofs.location.last_label.Goals as goal
 

@@ -1,5 +1,5 @@
 use Rattle.std.proofs.Common.{◌≡◌, ◌+◌, ◌≤◌, take}
-use Rattle.beam_machine.specs.View.{last_label}
+use Rattle.beam_machine.specs.Prelude.{last_label}
 use Rattle.beam_debug.proofs.Backwards.{none_passed, with_rows}
 use Rattle.beam_debug.proofs.location.last_label.Given as goal
 

@@ -1,7 +1,5 @@
-use Rattle.std.proofs.Common.{◌≡◌, sym, ap, ◌∙◌, rules}
-use Rattle.std.specs.Prelude.{None}
-use Rattle.beam_machine.specs.Code.{listing_of}
-use Rattle.beam_machine.specs.View.{instructions_of, location_in}
+use Rattle.std.proofs.Common.{◌≡◌, sym, ap, ◌∙◌, rules, None}
+use Rattle.beam_machine.specs.Prelude.{listing_of, instructions_of, location_in}
 use Rattle.beam_debug.proofs.Backwards.{standing_nowhere}
 use Rattle.beam_debug.proofs.location.location.Goals as goal
 

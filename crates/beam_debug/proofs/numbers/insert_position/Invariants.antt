@@ -1,5 +1,5 @@
 use Rattle.std.proofs.Common.{◌≡◌, ◌+◌, length}
-use Rattle.beam_debug.specs.InsertPosition.{insert_position}
+use Rattle.beam_debug.specs.Prelude.{insert_position}
 use Rattle.beam_debug.proofs.numbers.insert_position.Given as goal
 
 abbrev pub invariant-loop-first : goal.invariant-loop-first

@@ -1,5 +1,5 @@
 use Rattle.std.proofs.Common.{◌≡◌, length}
-use Rattle.beam_machine.specs.Debug.{is_among}
+use Rattle.beam_machine.specs.Prelude.{is_among}
 use Rattle.beam_debug.proofs.numbers.is_among.Given as goal
 
 abbrev pub invariant-loop-first : goal.invariant-loop-first

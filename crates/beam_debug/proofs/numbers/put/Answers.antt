@@ -1,6 +1,5 @@
-use Rattle.std.proofs.Common.{◌≡◌, ℕ, ap, ◌∙◌, rules}
-use Rattle.std.specs.Prelude.{Option, Some, None}
-use Rattle.beam_debug.specs.InsertPosition.{insert_position}
+use Rattle.std.proofs.Common.{◌≡◌, ℕ, ap, ◌∙◌, rules, Option, Some, None}
+use Rattle.beam_debug.specs.Prelude.{insert_position}
 use Rattle.beam_debug.proofs.Insertions.{opened, pid_put}
 use Rattle.beam_debug.proofs.numbers.put.Goals as goal
 

@@ -1,5 +1,5 @@
 use Rattle.std.proofs.Common.{◌≡◌, ◌+◌, length}
-use Rattle.beam_debug.specs.InsertPosition.{spot_insert_position}
+use Rattle.beam_debug.specs.Prelude.{spot_insert_position}
 use Rattle.beam_debug.proofs.places.insert_position.Given as goal
 
 abbrev pub invariant-loop-first : goal.invariant-loop-first

@@ -1,6 +1,5 @@
-use Rattle.std.proofs.Common.{◌≡◌, ℕ, ap, ◌∙◌, rules}
-use Rattle.std.specs.Prelude.{Option, Some, None}
-use Rattle.beam_debug.specs.InsertPosition.{spot_insert_position}
+use Rattle.std.proofs.Common.{◌≡◌, ℕ, ap, ◌∙◌, rules, Option, Some, None}
+use Rattle.beam_debug.specs.Prelude.{spot_insert_position}
 use Rattle.beam_debug.proofs.Insertions.{opened, spot_put}
 use Rattle.beam_debug.proofs.places.put.Goals as goal
 

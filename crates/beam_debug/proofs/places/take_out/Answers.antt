@@ -1,6 +1,6 @@
 use Rattle.std.proofs.Common.{not, rules, tests}
 use Rattle.std.proofs.lemmas.Fn.{filter_same}
-use Rattle.beam_model.specs.Place.{is_same_place}
+use Rattle.beam_model.specs.Prelude.{is_same_place}
 use Rattle.beam_debug.proofs.places.take_out.Goals as goal
 
 pub returns : goal.returns

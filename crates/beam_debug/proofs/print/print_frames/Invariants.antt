@@ -1,7 +1,6 @@
-use Rattle.std.proofs.Common.{◌≡◌, ◌++◌, length}
-use Rattle.std.specs.Prelude.{map}
-use Rattle.beam_machine.specs.View.{frames_text}
-use Rattle.beam_debug.specs.Seen.{frame_seen}
+use Rattle.std.proofs.Common.{◌≡◌, ◌++◌, length, map}
+use Rattle.beam_machine.specs.Prelude.{frames_text}
+use Rattle.beam_debug.specs.Prelude.{frame_seen}
 use Rattle.beam_debug.proofs.print.print_frames.Given as goal
 
 -- the text so far and the frames that are left make the text of all frames

@@ -1,8 +1,7 @@
-use Rattle.std.proofs.Common.{◌≡◌, ◌∙◌, ap, ℕ, List, ◌++◌, map}
-use Rattle.std.specs.Prelude.{codes}
+use Rattle.std.proofs.Common.{◌≡◌, ◌∙◌, ap, ℕ, List, ◌++◌, map, codes}
 use Rattle.std.specs.Fmt.{decimal}
-use Rattle.beam_machine.specs.View.{counts_text, frames_text, next_text, status_text, xs_text}
-use Rattle.beam_debug.specs.Seen.{frame_seen, live_seen, next_seen}
+use Rattle.beam_machine.specs.Prelude.{counts_text, frames_text, next_text, status_text, xs_text}
+use Rattle.beam_debug.specs.Prelude.{frame_seen, live_seen, next_seen}
 use Rattle.beam_debug.proofs.Printed.{piece_last, piece_more}
 use Rattle.beam_debug.proofs.print.print_live.Goals as goal
 

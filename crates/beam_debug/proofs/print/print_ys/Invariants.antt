@@ -1,5 +1,5 @@
 use Rattle.std.proofs.Common.{◌≡◌, ◌+◌, ◌++◌, length}
-use Rattle.beam_machine.specs.View.{ys_text}
+use Rattle.beam_machine.specs.Prelude.{ys_text}
 use Rattle.beam_debug.proofs.print.print_ys.Given as goal
 
 -- the text so far and the registers that are left make the text of all registers

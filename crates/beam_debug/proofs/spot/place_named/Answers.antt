@@ -1,7 +1,5 @@
-use Rattle.std.proofs.Common.{◌≡◌, sym, ◌∙◌, rules}
-use Rattle.std.specs.Prelude.{Some, option_map}
-use Rattle.beam_machine.specs.Code.{versions_of}
-use Rattle.beam_machine.specs.Debug.{row_in, instance_of_version}
+use Rattle.std.proofs.Common.{◌≡◌, sym, ◌∙◌, rules, Some, option_map}
+use Rattle.beam_machine.specs.Prelude.{versions_of, row_in, instance_of_version}
 use Rattle.beam_debug.proofs.Named.{found_by_number}
 use Rattle.beam_debug.proofs.spot.place_named.Goals as goal
 

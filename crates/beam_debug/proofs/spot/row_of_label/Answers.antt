@@ -1,7 +1,5 @@
-use Rattle.std.proofs.Common.{◌≡◌, ◌+◌, ◌≤◌, ◌<◌, true, false, length, sym, ◌∙◌, arith, rules}
-use Rattle.std.specs.Prelude.{Some, None}
-use Rattle.beam_model.specs.Fetch.{instruction_at}
-use Rattle.beam_model.specs.Listing.{is_this_number, label_of, next_at}
+use Rattle.std.proofs.Common.{◌≡◌, ◌+◌, ◌≤◌, ◌<◌, true, false, length, sym, ◌∙◌, arith, rules, Some, None}
+use Rattle.beam_model.specs.Prelude.{instruction_at, is_this_number, label_of, next_at}
 use Rattle.beam_debug.proofs.Named.{label_here, label_later, label_nowhere, next_above, at_within}
 use Rattle.beam_debug.proofs.spot.row_of_label.Goals as goal
 

@@ -1,5 +1,5 @@
 use Rattle.std.proofs.Common.{◌≡◌, ◌-◌, drop, length}
-use Rattle.beam_model.specs.Listing.{row_of_label}
+use Rattle.beam_model.specs.Prelude.{row_of_label}
 use Rattle.beam_debug.proofs.spot.row_of_label.Given as goal
 
 abbrev pub invariant-loop-next : goal.invariant-loop-next

@@ -1,6 +1,5 @@
-use Rattle.std.proofs.Common.{◌≡◌, sym, ◌∙◌, rules}
-use Rattle.std.specs.Prelude.{Some, None}
-use Rattle.beam_model.specs.Listing.{next_at}
+use Rattle.std.proofs.Common.{◌≡◌, sym, ◌∙◌, rules, Some, None}
+use Rattle.beam_model.specs.Prelude.{next_at}
 use Rattle.beam_debug.proofs.Named.{rows_later, rows_nowhere}
 use Rattle.beam_debug.proofs.spot.rows_after.Goals as goal
 

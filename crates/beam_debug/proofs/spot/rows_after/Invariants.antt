@@ -1,5 +1,5 @@
 use Rattle.std.proofs.Common.{◌≡◌}
-use Rattle.beam_machine.specs.Debug.{rows_after}
+use Rattle.beam_machine.specs.Prelude.{rows_after}
 use Rattle.beam_debug.proofs.spot.rows_after.Given as goal
 
 abbrev pub invariant-loop-next : goal.invariant-loop-next

@@ -1,14 +1,9 @@
-use Rattle.std.proofs.Common.{◌≡◌, ◌<◌, ◌≤◌, ◌+◌, List, length, Ok, Err, None, false, subst, sym, ap, ◌∙◌, rules, arith}
-use Rattle.std.specs.Prelude.{vec_capacity}
-use Rattle.beam_model.specs.Place.{Place}
+use Rattle.std.proofs.Common.{◌≡◌, ◌<◌, ◌≤◌, ◌+◌, List, length, Ok, Err, None, false, subst, sym, ap, ◌∙◌, rules, arith, vec_capacity}
 use Rattle.beam_machine.specs.declared.event.Refused.TheVariants.{NoMemory}
-use Rattle.beam_machine.specs.Debug.{Debugged, is_among}
-use Rattle.beam_machine.specs.State.{process_of}
+use Rattle.beam_machine.specs.Prelude.{Debugged, is_among, process_of}
+use Rattle.beam_model.specs.Prelude.{Place}
 use Rattle.beam_core.specs.Halt.{HaltsAt}
-use Rattle.beam_debug.specs.Answers.{answer_of}
-use Rattle.beam_debug.specs.Debugger.{capacity_of}
-use Rattle.beam_debug.specs.DebuggedNode.{debugged}
-use Rattle.beam_debug.specs.Capacity.{AreRising}
+use Rattle.beam_debug.specs.Prelude.{answer_of, capacity_of, debugged, AreRising}
 use Rattle.beam_debug.proofs.Accepted.{loud_if, rows_may}
 use Rattle.beam_debug.proofs.RowsToSpot.{some_rows}
 use Rattle.beam_debug.proofs.Debugging.{option_lives}

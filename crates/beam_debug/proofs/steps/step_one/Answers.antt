@@ -1,9 +1,7 @@
-use Rattle.std.proofs.Common.{◌≡◌, true, rules}
-use Rattle.std.specs.Prelude.{Some}
+use Rattle.std.proofs.Common.{◌≡◌, true, rules, Some}
 use Rattle.beam_machine.specs.declared.event.Then.TheVariants.{GoesOn}
-use Rattle.beam_machine.specs.Debug.{Debugged, is_among}
-use Rattle.beam_debug.specs.Halt.{then_at}
-use Rattle.beam_debug.specs.DebuggedNode.{debugged}
+use Rattle.beam_machine.specs.Prelude.{Debugged, is_among}
+use Rattle.beam_debug.specs.Prelude.{then_at, debugged}
 use Rattle.beam_debug.proofs.Accepted.{step_may}
 use Rattle.beam_debug.proofs.steps.step_one.Goals as goal
 

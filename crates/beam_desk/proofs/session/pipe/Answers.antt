@@ -1,7 +1,6 @@
 use Rattle.std.proofs.Common.{subst}
-use Rattle.beam_machine.specs.Debug.{Debugged}
-use Rattle.beam_remote.specs.Serving.{AllAnswered}
-use Rattle.beam_remote.specs.DeviceHistory.{EachRead}
+use Rattle.beam_machine.specs.Prelude.{Debugged}
+use Rattle.beam_remote.specs.Prelude.{AllAnswered, EachRead}
 use Rattle.beam_desk.specs.Answers.{NodeAnswers}
 use Rattle.beam_desk.proofs.session.pipe.Goals as goal
 

@@ -1,4 +1,4 @@
-use Rattle.beam_model.specs.Text.{text_of}
+use Rattle.beam_model.specs.Prelude.{text_of}
 use Rattle.beam_erltext.proofs.TermRoundTrip.{text_again}
 use Rattle.beam_erltext.proofs.ReadingSound.{text_spelled}
 use Rattle.beam_erltext.proofs.law.printed_text_is_read.Goals as goal

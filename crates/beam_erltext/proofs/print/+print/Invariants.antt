@@ -1,6 +1,6 @@
 use Rattle.std.proofs.Common.{◌≡◌, ◌≤◌, ◌+◌, ◌*◌, ◌++◌, [], drop}
-use Rattle.beam_term.specs.TermValue.{terms_of, pair_term, depth_of, items_depth}
-use Rattle.beam_model.specs.Text.{text_of, tail_text, items_text}
+use Rattle.beam_model.specs.Prelude.{text_of, tail_text, items_text}
+use Rattle.beam_term.specs.Prelude.{terms_of, pair_term, depth_of, items_depth}
 use Rattle.beam_erltext.proofs.print.+print.Given as goal
 
 -- the output so far, with the remaining elements printed, is the whole tuple

@@ -1,6 +1,6 @@
 use Rattle.std.proofs.Common.{◌≡◌, ◌++◌, drop}
 use Rattle.std.specs.List.{flat_map}
-use Rattle.beam_model.specs.Text.{escaped}
+use Rattle.beam_model.specs.Prelude.{escaped}
 use Rattle.beam_erltext.proofs.print.print_name.Given as goal
 
 -- the output so far, with the remaining bytes printed, is the whole name

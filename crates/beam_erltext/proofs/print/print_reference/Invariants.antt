@@ -1,7 +1,6 @@
-use Rattle.std.proofs.Common.{◌≡◌, ◌++◌, length}
-use Rattle.std.specs.Prelude.{reverse}
+use Rattle.std.proofs.Common.{◌≡◌, ◌++◌, length, reverse}
 use Rattle.std.specs.List.{flat_map}
-use Rattle.beam_model.specs.Text.{word_text}
+use Rattle.beam_model.specs.Prelude.{word_text}
 use Rattle.beam_erltext.proofs.print.print_reference.Given as goal
 
 -- the output so far, with the remaining words printed, is the whole

@@ -1,8 +1,6 @@
-use Rattle.std.proofs.Common.{◌≡◌, suc, ◌-◌, ◌+◌, ◌<◌, ◌≤◌, ◌^◌, ◌++◌, ◌∷◌, [], List, Ok, length, inl, inr, sym, ap, ◌∙◌, length-append, arith}
-use Rattle.std.proofs.lemmas.List.{append-nil}
-use Rattle.beam_term.specs.TermValue.{TermValue, terms_of, list_before, tuple_of, depth_of, items_depth}
-use Rattle.beam_term.specs.Elements.{items_depth-push}
-use Rattle.beam_model.specs.TextReading.{with_front, items_after, closed_by, tail_by, term_at, pairs_at, items_by}
+use Rattle.std.proofs.Common.{◌≡◌, suc, ◌-◌, ◌+◌, ◌<◌, ◌≤◌, ◌^◌, ◌++◌, ◌∷◌, [], List, Ok, length, inl, inr, sym, ap, ◌∙◌, length-append, arith, append-nil}
+use Rattle.beam_model.specs.Prelude.{with_front, items_after, closed_by, tail_by, term_at, pairs_at, items_by}
+use Rattle.beam_term.specs.Prelude.{TermValue, terms_of, list_before, tuple_of, depth_of, items_depth, items_depth-push}
 use Rattle.beam_erltext.specs.Puts.{tuple_elements_at}
 use Rattle.beam_erltext.specs.declared.read_fault.ReadFault.TheVariants as faults
 use Rattle.beam_erltext.proofs.Items.{IsLeft, item_faults, items_spent, after}

@@ -1,6 +1,6 @@
 use Rattle.std.proofs.Common.{◌≡◌, ◌≤◌, ◌-◌, ◌+◌, ◌*◌, ◌++◌, List, length}
-use Rattle.beam_term.specs.TermValue.{TermValue, list_before, terms_of, depth_of, items_depth}
-use Rattle.beam_model.specs.TextReading.{with_front, term_at, pairs_at, items_by}
+use Rattle.beam_model.specs.Prelude.{with_front, term_at, pairs_at, items_by}
+use Rattle.beam_term.specs.Prelude.{TermValue, list_before, terms_of, depth_of, items_depth}
 use Rattle.beam_erltext.proofs.Pairs.{before_list}
 use Rattle.beam_erltext.proofs.read.+read.Given as goal
 

@@ -1,6 +1,5 @@
-use Rattle.std.proofs.Common.{ap, drop, arith}
-use Rattle.std.proofs.lemmas.List.{length-drop}
-use Rattle.beam_term.specs.TermValue.{depth_of}
+use Rattle.std.proofs.Common.{ap, drop, arith, length-drop}
+use Rattle.beam_term.specs.Prelude.{depth_of}
 use Rattle.beam_erltext.proofs.Depths.{depth_of_characters}
 use Rattle.beam_erltext.proofs.read.character_list.Goals as goal
 

@@ -1,5 +1,5 @@
 use Rattle.std.proofs.Common.{◌≡◌, ◌<◌, List, Err, drop, take, subst, ap}
-use Rattle.beam_term.specs.TermValue.{TermValue, list_before, depth_of}
+use Rattle.beam_term.specs.Prelude.{TermValue, list_before, depth_of}
 use Rattle.beam_erltext.proofs.Stack.{below_start, from_start, popped, exit_deep}
 use Rattle.beam_erltext.proofs.read.put_list.Goals as goal
 

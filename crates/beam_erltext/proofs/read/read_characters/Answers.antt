@@ -1,5 +1,5 @@
 use Rattle.std.proofs.Common.{ap, arith}
-use Rattle.beam_term.specs.TermValue.{depth_of}
+use Rattle.beam_term.specs.Prelude.{depth_of}
 use Rattle.beam_erltext.proofs.Depths.{depth_of_characters}
 use Rattle.beam_erltext.proofs.read.read_characters.Goals as goal
 

@@ -1,5 +1,5 @@
 use Rattle.std.proofs.Common.{◌≡◌, ap, ◌∙◌, sym, Ok, Err}
-use Rattle.beam_model.specs.TextReading.{read_text, line_of, at_line, term_of_text}
+use Rattle.beam_model.specs.Prelude.{read_text, line_of, at_line, term_of_text}
 use Rattle.beam_erltext.proofs.ReadingSound.{text_spelled}
 use Rattle.beam_erltext.proofs.ReadingComplete.{text_found}
 use Rattle.beam_erltext.proofs.read.read_erl.Goals as goal

@@ -1,6 +1,6 @@
 use Rattle.std.proofs.Common.{List, ℕ, sym, ap, subst, ◌∙◌}
-use Rattle.beam_term.specs.TermValue.{TermValue}
-use Rattle.beam_model.specs.TextReading.{Reading, list_by, pairs_at}
+use Rattle.beam_model.specs.Prelude.{Reading, list_by, pairs_at}
+use Rattle.beam_term.specs.Prelude.{TermValue}
 use Rattle.beam_erltext.specs.Puts.{BeginsWith}
 use Rattle.beam_erltext.proofs.Pairs.{term_list}
 use Rattle.beam_erltext.proofs.read.read_front.Goals as goal

@@ -1,5 +1,5 @@
 use Rattle.std.proofs.Common.{◌≡◌, List, [], ap, ◌∙◌, arith}
-use Rattle.beam_term.specs.TermValue.{TermValue, tuple_of, depth_of}
+use Rattle.beam_term.specs.Prelude.{TermValue, tuple_of, depth_of}
 use Rattle.beam_erltext.proofs.read.tuple_front.Goals as goal
 
 pub returns-clause-fits : goal.returns-clause-fits

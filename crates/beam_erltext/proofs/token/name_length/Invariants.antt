@@ -1,5 +1,5 @@
 use Rattle.std.proofs.Common.{◌≡◌, ◌≤◌, ◌+◌, ◌-◌, length, drop}
-use Rattle.beam_model.specs.TextReading.{name_len}
+use Rattle.beam_model.specs.Prelude.{name_len}
 use Rattle.beam_erltext.proofs.token.name_length.Given as goal
 
 abbrev pub invariant-loop-length : goal.invariant-loop-length

@@ -1,5 +1,5 @@
 use Rattle.std.proofs.Common.{◌≡◌, ◌≤◌, ◌^◌, length}
-use Rattle.beam_model.specs.TextReading.{digits_after}
+use Rattle.beam_model.specs.Prelude.{digits_after}
 use Rattle.beam_erltext.proofs.token.read_digits.Given as goal
 
 abbrev pub invariant-loop-first : goal.invariant-loop-first

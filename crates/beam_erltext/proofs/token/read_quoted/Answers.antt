@@ -1,6 +1,6 @@
 use Rattle.std.proofs.Common.{◌≡◌, ◌∷◌, length}
 use Rattle.std.proofs.lemmas.Result.{err_from_is_err_and}
-use Rattle.beam_model.specs.TextReading.{quoted_at}
+use Rattle.beam_model.specs.Prelude.{quoted_at}
 use Rattle.beam_erltext.proofs.Quoted.{ends_short, closes, faults_in_escape, takes_escape, takes_byte}
 use Rattle.beam_erltext.proofs.token.read_quoted.Goals as goal
 use Rattle.beam_erltext.proofs.token.read_quoted.Goals.{then-first-eq92+in_ok-character+in_ok-push_character, else-first-eq92+in_ok-push}

@@ -1,5 +1,5 @@
 use Rattle.std.proofs.Common.{◌≡◌, ◌-◌, length}
-use Rattle.beam_model.specs.TextReading.{with_front, quoted_within, quoted_at}
+use Rattle.beam_model.specs.Prelude.{with_front, quoted_within, quoted_at}
 use Rattle.beam_erltext.proofs.token.read_quoted.Given as goal
 
 abbrev pub invariant-loop : goal.invariant-loop

@@ -1,5 +1,5 @@
 use Rattle.std.proofs.Common.{◌≡◌, length}
-use Rattle.beam_model.specs.TextReading.{after_blanks}
+use Rattle.beam_model.specs.Prelude.{after_blanks}
 use Rattle.beam_erltext.proofs.token.skip_blanks.Given as goal
 
 abbrev pub invariant-loop-first : goal.invariant-loop-first

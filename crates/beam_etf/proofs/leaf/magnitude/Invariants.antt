@@ -1,5 +1,5 @@
 use Rattle.std.proofs.Common.{◌≡◌, drop}
-use Rattle.beam_model.specs.External.{little}
+use Rattle.beam_model.specs.Prelude.{little}
 use Rattle.beam_etf.proofs.leaf.magnitude.Given as goal
 
 -- the highest bytes so far

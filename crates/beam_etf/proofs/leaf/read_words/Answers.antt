@@ -1,5 +1,5 @@
 use Rattle.std.proofs.Common.{arith}
-use Rattle.beam_model.specs.ExternalReading.{words_at}
+use Rattle.beam_model.specs.Prelude.{words_at}
 use Rattle.beam_etf.specs.Faults.{fault_of}
 use Rattle.beam_etf.proofs.Exits.{exit}
 use Rattle.beam_etf.proofs.Words.{words_go_on, words_end, words_done}

@@ -1,5 +1,5 @@
 use Rattle.std.proofs.Common.{◌≡◌, ◌-◌, vec_len}
-use Rattle.beam_model.specs.ExternalReading.{words_at}
+use Rattle.beam_model.specs.Prelude.{words_at}
 use Rattle.beam_etf.proofs.Words.{before_words}
 use Rattle.beam_etf.proofs.leaf.read_words.Given as goal
 

@@ -1,6 +1,6 @@
 use Rattle.std.proofs.Common.{◌≡◌, suc, ◌-◌, ◌++◌, ◌∷◌, [], length, Ok, inl, inr, sym, ap, ◌∙◌, arith}
-use Rattle.beam_term.specs.TermValue.{list_before, tuple_of}
-use Rattle.beam_model.specs.ExternalReading.{read_at, items_at}
+use Rattle.beam_model.specs.Prelude.{read_at, items_at}
+use Rattle.beam_term.specs.Prelude.{list_before, tuple_of}
 use Rattle.beam_etf.specs.Faults.{fault_of}
 use Rattle.beam_etf.proofs.ReadingSoundParts.{items_takes, read_takes, term_takes}
 use Rattle.beam_etf.proofs.Loops.{before_list, items_go_on, items_end, items_done, list_go_on, list_ends, list_tail}

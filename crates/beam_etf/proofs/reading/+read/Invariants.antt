@@ -1,6 +1,6 @@
 use Rattle.std.proofs.Common.{◌≡◌, ◌+◌, ◌-◌, ◌*◌, ◌++◌, List}
-use Rattle.beam_term.specs.TermValue.{TermValue}
-use Rattle.beam_model.specs.ExternalReading.{read_at, items_at}
+use Rattle.beam_model.specs.Prelude.{read_at, items_at}
+use Rattle.beam_term.specs.Prelude.{TermValue}
 use Rattle.beam_etf.proofs.Loops.{before_rest, before_list}
 use Rattle.beam_etf.proofs.reading.+read.Given as goal
 

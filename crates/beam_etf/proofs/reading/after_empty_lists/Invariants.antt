@@ -1,5 +1,5 @@
 use Rattle.std.proofs.Common.{◌≡◌, length}
-use Rattle.beam_model.specs.ExternalReading.{after_empty_lists}
+use Rattle.beam_model.specs.Prelude.{after_empty_lists}
 use Rattle.beam_etf.proofs.reading.after_empty_lists.Given as goal
 
 abbrev pub invariant-loop-rest : goal.invariant-loop-rest

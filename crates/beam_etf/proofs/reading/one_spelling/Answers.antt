@@ -1,7 +1,7 @@
 use Rattle.std.proofs.Common.{◌≡◌, ℕ, List, ◌++◌, sym, ap, ◌∙◌}
 use Rattle.std.proofs.lemmas.List.{append_cancel_right}
-use Rattle.beam_term.specs.TermValue.{TermValue}
-use Rattle.beam_model.specs.ExternalReading.{external_at}
+use Rattle.beam_model.specs.Prelude.{external_at}
+use Rattle.beam_term.specs.Prelude.{TermValue}
 use Rattle.beam_etf.proofs.ReadingComplete.{external_again}
 use Rattle.beam_etf.proofs.ReadingSound.{ok_is}
 use Rattle.beam_etf.proofs.reading.one_spelling.Goals as goal

@@ -1,5 +1,5 @@
 use Rattle.std.proofs.Common.{sym, ap, ◌∙◌}
-use Rattle.beam_model.specs.ExternalReading.{byte_at}
+use Rattle.beam_model.specs.Prelude.{byte_at}
 use Rattle.beam_model.specs.declared.external.Form.TheVariants as forms
 use Rattle.beam_etf.proofs.Empty.{no_empty}
 use Rattle.beam_etf.proofs.Tags.{tag_is}

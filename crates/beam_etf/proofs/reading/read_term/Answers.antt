@@ -1,8 +1,6 @@
-use Rattle.std.proofs.Common.{◌≡◌, ℕ, ◌-◌, List, Ok, length, take, drop, sym, ap, subst, ◌∙◌, arith}
-use Rattle.std.proofs.lemmas.List.{length-append, take_at, drop_at}
-use Rattle.beam_term.specs.TermValue.{TermValue}
-use Rattle.beam_model.specs.External.{IsExternal}
-use Rattle.beam_model.specs.ExternalReading.{external_at}
+use Rattle.std.proofs.Common.{◌≡◌, ℕ, ◌-◌, List, Ok, length, take, drop, sym, ap, subst, ◌∙◌, arith, length-append, take_at, drop_at}
+use Rattle.beam_model.specs.Prelude.{IsExternal, external_at}
+use Rattle.beam_term.specs.Prelude.{TermValue}
 use Rattle.beam_etf.specs.Faults.{fault_of}
 use Rattle.beam_etf.proofs.ReadingComplete.{external_again}
 use Rattle.beam_etf.proofs.Cut.{cut_short, exit_cut}

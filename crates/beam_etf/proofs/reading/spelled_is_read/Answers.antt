@@ -1,6 +1,6 @@
 use Rattle.std.proofs.Common.{◌≡◌, ℕ, List, sym, subst}
 use Rattle.std.proofs.lemmas.List.{append_cancel_right}
-use Rattle.beam_model.specs.External.{IsExternal}
+use Rattle.beam_model.specs.Prelude.{IsExternal}
 use Rattle.beam_etf.proofs.ReadingComplete.{external_again}
 use Rattle.beam_etf.proofs.ReadingSoundParts.{external_takes}
 use Rattle.beam_etf.proofs.reading.spelled_is_read.Goals as goal

@@ -1,5 +1,5 @@
 use Rattle.std.proofs.Common.{Err, ap, drop, arith, length-drop}
-use Rattle.beam_term.specs.TermValue.{depth_of}
+use Rattle.beam_term.specs.Prelude.{depth_of}
 use Rattle.beam_etf.proofs.Exits.{exit_memory}
 use Rattle.beam_etf.proofs.TextDepth.{text_depth}
 use Rattle.beam_etf.proofs.reading.text_list.Goals as goal

@@ -1,9 +1,7 @@
-use Rattle.std.proofs.Common.{◌≡◌, ℕ, List, ◌∷◌, [], ◌++◌, length, sym, ap, subst, ◌∙◌, append_assoc, arith}
-use Rattle.std.specs.Prelude.{OnOk, false, true}
-use Rattle.std.specs.Int.{w32, to_be_bytes}
-use Rattle.beam_term.specs.TermValue.{terms_of, IsInRange}
-use Rattle.beam_term.specs.Elements.{count_of-terms_of}
-use Rattle.beam_model.specs.External.{tuple_front, pair_count, written_part, all_written}
+use Rattle.std.proofs.Common.{◌≡◌, ℕ, List, ◌∷◌, [], ◌++◌, length, sym, ap, subst, ◌∙◌, append_assoc, arith, OnOk, false, true}
+use Rattle.std.specs.Int.{to_be_bytes, w32}
+use Rattle.beam_model.specs.Prelude.{tuple_front, pair_count, written_part, all_written}
+use Rattle.beam_term.specs.Prelude.{terms_of, IsInRange, count_of-terms_of}
 use Rattle.beam_etf.proofs.Lists.{string_is, list_is, item_depth}
 use Rattle.beam_etf.proofs.writing.+write.Goals as goal
 

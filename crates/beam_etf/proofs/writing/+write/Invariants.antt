@@ -1,6 +1,6 @@
 use Rattle.std.proofs.Common.{◌≡◌, ◌≤◌, ◌+◌, ◌*◌, ◌++◌, drop, true, false}
-use Rattle.beam_term.specs.TermValue.{terms_of, pair_term, depth_of, items_depth}
-use Rattle.beam_model.specs.External.{written_part, all_written}
+use Rattle.beam_model.specs.Prelude.{written_part, all_written}
+use Rattle.beam_term.specs.Prelude.{terms_of, pair_term, depth_of, items_depth}
 use Rattle.beam_etf.proofs.writing.+write.Given as goal
 
 abbrev pub decreases-write : goal.decreases-write

@@ -1,6 +1,6 @@
 use Rattle.std.proofs.Common.{◌≡◌, ◌+◌, ◌≤◌}
-use Rattle.beam_term.specs.TermValue.{depth_of}
-use Rattle.beam_model.specs.External.{pair_count}
+use Rattle.beam_model.specs.Prelude.{pair_count}
+use Rattle.beam_term.specs.Prelude.{depth_of}
 use Rattle.beam_etf.proofs.writing.pair_count.Given as goal
 
 abbrev pub invariant-loop-tail : goal.invariant-loop-tail

@@ -1,6 +1,6 @@
 use Rattle.std.proofs.Common.{arith}
-use Rattle.std.proofs.lemmas.Int.{ints, to_z-of_z}
 use Rattle.std.specs.Int.{w64}
+use Rattle.std.proofs.lemmas.Int.{ints, to_z-of_z}
 use Rattle.beam_etf.proofs.Integers.{small_is, word_below, word_above, big_below, big_above}
 use Rattle.beam_etf.proofs.writing.write_integer.Goals as goal
 

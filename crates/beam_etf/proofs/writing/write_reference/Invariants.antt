@@ -1,7 +1,7 @@
 use Rattle.std.proofs.Common.{◌≡◌, ◌++◌, drop}
-use Rattle.std.specs.Int.{w32, to_be_bytes}
 use Rattle.std.specs.List.{flat_map}
-use Rattle.beam_model.specs.External.{written_reference}
+use Rattle.std.specs.Int.{to_be_bytes, w32}
+use Rattle.beam_model.specs.Prelude.{written_reference}
 use Rattle.beam_etf.proofs.writing.write_reference.Given as goal
 
 -- the output so far, with the remaining words written, is the whole

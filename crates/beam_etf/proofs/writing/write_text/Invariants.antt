@@ -1,6 +1,5 @@
-use Rattle.std.proofs.Common.{◌≡◌, ◌++◌}
-use Rattle.std.specs.Prelude.{IsTrue}
-use Rattle.beam_model.specs.External.{is_byte_list, bytes_of_list}
+use Rattle.std.proofs.Common.{◌≡◌, ◌++◌, IsTrue}
+use Rattle.beam_model.specs.Prelude.{is_byte_list, bytes_of_list}
 use Rattle.beam_etf.proofs.writing.write_text.Given as goal
 
 -- the output so far, with the remaining bytes written, is the whole

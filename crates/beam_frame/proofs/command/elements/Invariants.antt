@@ -1,6 +1,6 @@
 use Rattle.std.proofs.Common.{◌≡◌, ◌++◌}
 use Rattle.std.specs.Option.{option_map}
-use Rattle.beam_model.specs.Native.{elements_in}
+use Rattle.beam_model.specs.Prelude.{elements_in}
 use Rattle.beam_frame.proofs.command.elements.Given as goal
 
 -- the elements so far, and then those of the rest, are the list's

@@ -1,6 +1,6 @@
 use Rattle.std.proofs.Common.{◌≡◌, ◌<◌, length, arith}
 use Rattle.std.proofs.lemmas.Result.{err_from_is_err_and}
-use Rattle.beam_machine.specs.Frames.{files_in}
+use Rattle.beam_machine.specs.Prelude.{files_in}
 use Rattle.beam_frame.proofs.Files.{goes_on, ends, is_done, goes_past}
 use Rattle.beam_frame.proofs.command.files.Goals as goal
 

@@ -1,5 +1,5 @@
 use Rattle.std.proofs.Common.{◌≡◌, ◌-◌}
-use Rattle.beam_machine.specs.Frames.{files_in}
+use Rattle.beam_machine.specs.Prelude.{files_in}
 use Rattle.beam_frame.proofs.Files.{with_front}
 use Rattle.beam_frame.proofs.command.files.Given as goal
 

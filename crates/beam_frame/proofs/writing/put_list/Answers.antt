@@ -1,8 +1,7 @@
-use Rattle.std.proofs.Common.{◌++◌, length, ap, ◌∙◌}
+use Rattle.std.proofs.Common.{◌++◌, length, ap, ◌∙◌, take_all}
 use Rattle.std.specs.List.{flat_map}
-use Rattle.std.proofs.lemmas.List.{take_all}
 use Rattle.byteorder.specs.Endian.{big_bytes}
-use Rattle.beam_machine.specs.Frames.{numbers_bytes}
+use Rattle.beam_machine.specs.Prelude.{numbers_bytes}
 use Rattle.beam_frame.proofs.Numbers.{goes_on}
 use Rattle.beam_frame.proofs.writing.put_list.Goals as goal
 

@@ -1,7 +1,7 @@
 use Rattle.std.proofs.Common.{◌≡◌, ◌++◌, length, take}
 use Rattle.std.specs.List.{flat_map}
 use Rattle.byteorder.specs.Endian.{big_bytes}
-use Rattle.beam_machine.specs.Frames.{numbers_bytes}
+use Rattle.beam_machine.specs.Prelude.{numbers_bytes}
 use Rattle.beam_frame.proofs.writing.put_list.Given as goal
 
 abbrev pub invariant-loop-numbers : goal.invariant-loop-numbers

@@ -1,8 +1,7 @@
 use Rattle.std.proofs.Common.{◌<◌, length, arith}
 use Rattle.std.proofs.lemmas.Result.{err_from_is_err_and}
-use Rattle.beam_model.specs.Form.{empty_form, Chunk, with_chunks}
+use Rattle.beam_model.specs.Prelude.{empty_form, Chunk, with_chunks, chunk_takes, after_chunk, is_done}
 use Rattle.beam_iff.specs.Chunks.{form_of}
-use Rattle.beam_model.specs.FormLaws.{chunk_takes, after_chunk, is_done}
 use Rattle.beam_iff.proofs.Loop.{ends_at_chunk, ends_in_chunk}
 use Rattle.beam_iff.proofs.read.all_chunks.Goals as goal
 

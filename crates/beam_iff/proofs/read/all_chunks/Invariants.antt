@@ -1,5 +1,5 @@
 use Rattle.std.proofs.Common.{◌≡◌, ◌≤◌, ℕ, length}
-use Rattle.beam_model.specs.Form.{empty_form, with_chunks}
+use Rattle.beam_model.specs.Prelude.{empty_form, with_chunks}
 use Rattle.beam_iff.specs.Chunks.{form_of}
 use Rattle.beam_iff.proofs.read.all_chunks.Given as goal
 

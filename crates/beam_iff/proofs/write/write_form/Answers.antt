@@ -1,7 +1,6 @@
 use Rattle.std.proofs.Common.{◌≡◌, ◌<◌, ◌^◌, rules, length, ap, ◌∙◌, arith}
 use Rattle.std.proofs.lemmas.Grind.{common_steps}
-use Rattle.beam_model.specs.Form.{form_body, form_bytes, form_at}
-use Rattle.beam_model.specs.FormLaws.{read_again}
+use Rattle.beam_model.specs.Prelude.{form_body, form_bytes, form_at, read_again}
 use Rattle.beam_iff.specs.Chunks.{form_of}
 use Rattle.beam_iff.proofs.write.write_form.Goals as goal
 

@@ -1,7 +1,5 @@
 use Rattle.std.proofs.Common.{refl}
-use Rattle.beam_machine.specs.Process.{ended}
-use Rattle.beam_machine.specs.State.{empty}
-use Rattle.beam_machine.specs.Run.{run}
+use Rattle.beam_machine.specs.Prelude.{ended, empty, run}
 use Rattle.beam_laws.proofs.Ending.{final}
 use Rattle.beam_laws.proofs.Orderly.{none_orderly, run_orderly, stays_over}
 use Rattle.beam_laws.proofs.ends.end_is_final.Goals as goal

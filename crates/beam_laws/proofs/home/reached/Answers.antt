@@ -1,4 +1,4 @@
-use Rattle.beam_machine.specs.State.{empty}
+use Rattle.beam_machine.specs.Prelude.{empty}
 use Rattle.beam_laws.proofs.Homes.{run_home}
 use Rattle.beam_laws.proofs.home.reached.Goals as goal
 

@@ -1,4 +1,4 @@
-use Rattle.beam_machine.specs.State.{empty}
+use Rattle.beam_machine.specs.Prelude.{empty}
 use Rattle.beam_laws.proofs.Rising.{next_rises, run_rises, run_count}
 use Rattle.beam_laws.proofs.monitors.references_rise.Goals as goal
 

@@ -1,5 +1,4 @@
-use Rattle.beam_machine.specs.State.{empty}
-use Rattle.beam_machine.specs.Run.{run}
+use Rattle.beam_machine.specs.Prelude.{empty, run}
 use Rattle.beam_laws.proofs.Orderly.{none_orderly, run_orderly, pid_is}
 use Rattle.beam_laws.proofs.pids.pids_are_positions.Goals as goal
 

@@ -1,10 +1,8 @@
-use Rattle.std.proofs.Common.{◌≡◌, List, ◌++◌, length}
-use Rattle.std.specs.Prelude.{unwrap_or}
+use Rattle.std.proofs.Common.{◌≡◌, List, ◌++◌, length, unwrap_or}
 use Rattle.indexmap.specs.IndexMap.{get}
 use Rattle.beam_model.specs.declared.function.Function.{Function}
 use Rattle.beam_model.specs.declared.function.Signature.{Signature}
-use Rattle.beam_model.specs.Loadable.{same_signature}
-use Rattle.beam_model.specs.ListingReading.{entry_label_of}
+use Rattle.beam_model.specs.Prelude.{same_signature, entry_label_of}
 use Rattle.beam_listing.proofs.entries.entries.Given as goal
 
 abbrev pub decreases-loop-function : goal.decreases-loop-function

@@ -1,5 +1,5 @@
 use Rattle.std.proofs.Common.{◌≡◌, ◌-◌, [], length}
-use Rattle.beam_model.specs.Forms.{elements_from}
+use Rattle.beam_model.specs.Prelude.{elements_from}
 use Rattle.beam_listing.proofs.forms.elements_up_to.Given as goal
 
 abbrev pub invariant-loop : goal.invariant-loop

@@ -1,6 +1,5 @@
-use Rattle.std.proofs.Common.{◌≡◌, ◌+◌, length}
-use Rattle.std.specs.Prelude.{reverse}
-use Rattle.beam_model.specs.Forms.{stop_from, stop_in}
+use Rattle.std.proofs.Common.{◌≡◌, ◌+◌, length, reverse}
+use Rattle.beam_model.specs.Prelude.{stop_from, stop_in}
 use Rattle.beam_listing.proofs.forms.stop.Given as goal
 
 abbrev pub invariant-loop-first : goal.invariant-loop-first

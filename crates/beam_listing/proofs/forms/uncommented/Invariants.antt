@@ -1,5 +1,5 @@
 use Rattle.std.proofs.Common.{◌≡◌, ◌++◌, length}
-use Rattle.beam_model.specs.Forms.{uncommented_from, uncommented}
+use Rattle.beam_model.specs.Prelude.{uncommented_from, uncommented}
 use Rattle.beam_listing.proofs.forms.uncommented.Given as goal
 
 abbrev pub invariant-loop-first : goal.invariant-loop-first

@@ -1,5 +1,5 @@
 use Rattle.std.proofs.Common.{◌≡◌, [], drop}
-use Rattle.beam_model.specs.ListingForms.{signatures_from}
+use Rattle.beam_model.specs.Prelude.{signatures_from}
 use Rattle.beam_listing.proofs.heads.signatures.Given as goal
 
 abbrev pub invariant-loop-part : goal.invariant-loop-part

@@ -1,8 +1,6 @@
-use Rattle.std.proofs.Common.{◌≡◌, ℕ, false, List, [], ◌∷◌, ◌++◌, length, Some, refl, rules}
-use Rattle.std.specs.Prelude.{◌==◌}
+use Rattle.std.proofs.Common.{◌≡◌, ℕ, false, List, [], ◌∷◌, ◌++◌, length, Some, refl, rules, ◌==◌}
 use Rattle.beam_model.specs.declared.opcode.Opcode.{Opcode}
-use Rattle.beam_model.specs.ListingForms.{instruction_of_parts, is_bif_shape, counted, bif_by}
-use Rattle.beam_model.specs.ListingShapes.{shape_of}
+use Rattle.beam_model.specs.Prelude.{instruction_of_parts, is_bif_shape, counted, bif_by, shape_of}
 use Rattle.beam_listing.proofs.instruction.bif_by.Goals as goal
 
 -- with arguments

@@ -1,7 +1,5 @@
-use Rattle.std.proofs.Common.{ap, ◌∙◌}
-use Rattle.std.specs.Prelude.{Result, Ok}
-use Rattle.beam_model.specs.Listing.{Listing}
-use Rattle.beam_model.specs.ListingReading.{ListingFault}
+use Rattle.std.proofs.Common.{ap, ◌∙◌, Result, Ok}
+use Rattle.beam_model.specs.Prelude.{Listing, ListingFault}
 use Rattle.beam_listing.proofs.RoundTrip.{printed_again}
 use Rattle.beam_listing.proofs.Canonical.{text_canonical}
 use Rattle.beam_listing.proofs.laws.read_is_printed.Goals as goal

@@ -1,5 +1,5 @@
 use Rattle.std.proofs.Common.{◌≡◌, [], drop}
-use Rattle.beam_model.specs.ListingForms.{operands_from}
+use Rattle.beam_model.specs.Prelude.{operands_from}
 use Rattle.beam_listing.proofs.operand.operands.Given as goal
 
 abbrev pub invariant-loop-part : goal.invariant-loop-part

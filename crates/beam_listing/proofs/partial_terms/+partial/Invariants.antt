@@ -1,6 +1,6 @@
 use Rattle.std.proofs.Common.{◌≡◌, ◌+◌, ◌*◌, drop}
 use Rattle.std.specs.List.{list_all}
-use Rattle.beam_model.specs.ListingReading.{is_partial_term}
+use Rattle.beam_model.specs.Prelude.{is_partial_term}
 use Rattle.beam_listing.proofs.partial_terms.+partial.Given as goal
 
 abbrev pub decreases-is_partial_term : goal.decreases-is_partial_term

@@ -1,6 +1,6 @@
 use Rattle.std.proofs.Common.{◌≡◌, ◌-◌, length}
-use Rattle.beam_model.specs.ListingReading.{body_from, no_body}
-use Rattle.beam_listing.specs.Reads.{body_of}
+use Rattle.beam_model.specs.Prelude.{body_from, no_body}
+use Rattle.beam_listing.specs.Prelude.{body_of}
 use Rattle.beam_listing.proofs.read.functions.Given as goal
 
 abbrev pub invariant-loop : goal.invariant-loop

@@ -1,5 +1,5 @@
 use Rattle.std.proofs.Common.{◌≡◌, ap, ◌∙◌}
-use Rattle.beam_model.specs.Forms.{uncommented}
+use Rattle.beam_model.specs.Prelude.{uncommented}
 use Rattle.beam_listing.proofs.ReadResults.{spelled, only}
 use Rattle.beam_listing.proofs.read.read_listing.Goals as goal
 

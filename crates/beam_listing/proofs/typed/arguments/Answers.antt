@@ -1,7 +1,6 @@
-use Rattle.std.proofs.Common.{take, subst, sym}
-use Rattle.std.proofs.lemmas.List.{take_all}
+use Rattle.std.proofs.Common.{take, subst, sym, take_all}
 use Rattle.std.proofs.lemmas.List.Elements.{All-more, All-same}
-use Rattle.beam_listing.specs.Typed.{IsArgument}
+use Rattle.beam_listing.specs.Prelude.{IsArgument}
 use Rattle.beam_listing.proofs.typed.arguments.Goals as goal
 
 pub loop-one-preserved : goal.loop-one-preserved

@@ -1,6 +1,6 @@
 use Rattle.std.proofs.Common.{take}
 use Rattle.std.specs.List.{All}
-use Rattle.beam_listing.specs.Typed.{IsExport}
+use Rattle.beam_listing.specs.Prelude.{IsExport}
 use Rattle.beam_listing.proofs.typed.exports.Given as goal
 
 abbrev pub invariant-loop-one : goal.invariant-loop-one

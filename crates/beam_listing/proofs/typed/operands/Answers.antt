@@ -1,5 +1,4 @@
-use Rattle.std.proofs.Common.{take, subst, sym}
-use Rattle.std.proofs.lemmas.List.{take_all}
+use Rattle.std.proofs.Common.{take, subst, sym, take_all}
 use Rattle.std.proofs.lemmas.List.Elements.{All-more, All-same}
 use Rattle.beam_listing.specs.Typed.{IsOperand}
 use Rattle.beam_listing.proofs.typed.operands.Goals as goal

@@ -1,5 +1,5 @@
 use Rattle.std.proofs.Common.{◌<◌, ◌≤◌, length, ap, ◌∙◌, rules}
-use Rattle.beam_model.specs.Mailbox.{message_at}
+use Rattle.beam_model.specs.Prelude.{message_at}
 use Rattle.beam_mailbox.proofs.Pointer.{peek_chunk, peek_last}
 use Rattle.beam_mailbox.proofs.Mailbox.peek.Goals as goal
 

@@ -1,7 +1,7 @@
 use Rattle.std.proofs.Common.{◌≡◌, ◌<◌, List, [], ◌∷◌, ◌++◌, length, ap, subst, sym, ◌∙◌, rules, arith}
 use Rattle.std.proofs.lemmas.List.Elements.{All-push}
-use Rattle.beam_term.specs.TermValue.{TermValue}
-use Rattle.beam_model.specs.Mailbox.{Mailbox}
+use Rattle.beam_model.specs.Prelude.{Mailbox}
+use Rattle.beam_term.specs.Prelude.{TermValue}
 use Rattle.beam_mailbox.specs.Chunks.{joined, AreFilled, IsAt}
 use Rattle.beam_mailbox.proofs.Pointer.{at_moved, sealed_messages}
 use Rattle.beam_mailbox.proofs.Mailbox.seal.Goals as goal

@@ -1,6 +1,6 @@
 use Rattle.std.proofs.Common.{◌≡◌, ◌≤◌, ◌+◌, ◌-◌, ◌++◌, vec_len}
-use Rattle.std.specs.Vec.{vec_capacity}
 use Rattle.std.specs.VecDeque.{deque_len}
+use Rattle.std.specs.Vec.{vec_capacity}
 use Rattle.beam_mailbox.proofs.chunk.move_first.Given as goal
 
 abbrev pub invariant-loop-queue : goal.invariant-loop-queue

@@ -1,5 +1,4 @@
-use Rattle.std.proofs.Common.{◌≡◌, ◌++◌, length, ap, rules, arith}
-use Rattle.std.proofs.lemmas.List.{length-append}
+use Rattle.std.proofs.Common.{◌≡◌, ◌++◌, length, ap, rules, arith, length-append}
 use Rattle.beam_mailbox.specs.Messages.{messages_of}
 use Rattle.beam_mailbox.proofs.Short.{messages_short}
 use Rattle.beam_mailbox.proofs.deliveries.append_all.Goals as goal

@@ -1,5 +1,5 @@
 use Rattle.std.proofs.Common.{sym, ap, ◌∙◌, ◌≡◌, length, arith}
-use Rattle.beam_machine.specs.Row.{is_this_term, is_of_reference}
+use Rattle.beam_machine.specs.Prelude.{is_this_term, is_of_reference}
 use Rattle.beam_mailbox.proofs.Flushed.{of_five}
 use Rattle.beam_mailbox.proofs.flushing.is_of_reference.Goals as goal
 

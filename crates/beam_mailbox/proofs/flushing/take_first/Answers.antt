@@ -1,5 +1,5 @@
 use Rattle.std.proofs.Common.{◌<◌, length, sym, ap, ◌∙◌, arith}
-use Rattle.beam_machine.specs.Row.{is_of_reference}
+use Rattle.beam_machine.specs.Prelude.{is_of_reference}
 use Rattle.beam_mailbox.proofs.Flushed.{from, taken_one, passed_one}
 use Rattle.beam_mailbox.proofs.flushing.take_first.Goals as goal
 

@@ -1,6 +1,6 @@
 use Rattle.std.proofs.Common.{◌≡◌, ◌-◌, length}
-use Rattle.beam_model.specs.Mailbox.{without_first}
-use Rattle.beam_machine.specs.Row.{is_of_reference}
+use Rattle.beam_machine.specs.Prelude.{is_of_reference}
+use Rattle.beam_model.specs.Prelude.{without_first}
 use Rattle.beam_mailbox.proofs.Flushed.{from}
 use Rattle.beam_mailbox.proofs.flushing.take_first.Given as goal
 

@@ -1,5 +1,5 @@
 use Rattle.std.proofs.lemmas.Result.{err_from_is_err_and}
-use Rattle.beam_model.specs.Compact.{members_at}
+use Rattle.beam_model.specs.Prelude.{members_at}
 use Rattle.beam_operand.proofs.Loop.{goes_on, ends, is_done}
 use Rattle.beam_operand.proofs.read.members.Goals as goal
 

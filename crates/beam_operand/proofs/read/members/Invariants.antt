@@ -1,5 +1,5 @@
 use Rattle.std.proofs.Common.{◌≡◌, ◌-◌}
-use Rattle.beam_model.specs.Compact.{members_at}
+use Rattle.beam_model.specs.Prelude.{members_at}
 use Rattle.beam_operand.proofs.Loop.{with_front}
 use Rattle.beam_operand.proofs.read.members.Given as goal
 

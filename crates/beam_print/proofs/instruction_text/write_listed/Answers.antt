@@ -1,10 +1,10 @@
 use Rattle.std.proofs.Common.{◌≡◌, ◌∙◌, ap, ℕ, List, [], ◌∷◌, ◌++◌}
+use Rattle.beam_lemmas.proofs.AnyError.{on_err}
 use Rattle.beam_model.specs.declared.instruction.Argument.{Argument}
 use Rattle.beam_model.specs.declared.instruction.Operand.{Operand}
+use Rattle.beam_model.specs.Prelude.{arguments_text, operands_text, plain_text, atom_text}
 use Rattle.beam_model.specs.declared.instruction.Operand.TheVariants as operand
-use Rattle.beam_model.specs.ListingText.{arguments_text, operands_text, plain_text}
-use Rattle.beam_model.specs.Text.{atom_text}
-use Rattle.beam_print.proofs.Begun.{begun_longer, between, closed, not_begun, on_err, stopped}
+use Rattle.beam_print.proofs.Begun.{begun_longer, between, closed, not_begun, stopped}
 use Rattle.beam_print.proofs.Listed.{listed_is}
 use Rattle.beam_print.proofs.instruction_text.write_listed.Goals as goal
 

@@ -1,5 +1,5 @@
 use Rattle.std.proofs.Common.{◌≡◌, length}
-use Rattle.beam_model.specs.ListingText.{after_leading_lines}
+use Rattle.beam_model.specs.Prelude.{after_leading_lines}
 use Rattle.beam_print.proofs.listing_text.after_leading_lines.Given as goal
 
 -- no instruction but lines was passed

@@ -1,7 +1,8 @@
 use Rattle.std.proofs.Common.{◌≡◌, ◌+◌, ◌<◌, ap, rules, [], ◌∷◌, ◌++◌, drop, length, List, ℕ}
+use Rattle.beam_lemmas.proofs.AnyError.{on_err}
 use Rattle.beam_model.specs.declared.function.Export.{Export}
-use Rattle.beam_model.specs.ListingText.{export_text, exports_text}
-use Rattle.beam_print.proofs.Begun.{at_item, on_err, step, step_begun}
+use Rattle.beam_model.specs.Prelude.{export_text, exports_text}
+use Rattle.beam_print.proofs.Begun.{at_item, step, step_begun}
 use Rattle.beam_print.proofs.listing_text.write_exports.Goals as goal
 
 pub returns-in_err-write_export-clause-begun : goal.returns-in_err-write_export-clause-begun

@@ -1,5 +1,5 @@
 use Rattle.std.proofs.Common.{[], ◌++◌, drop}
-use Rattle.beam_model.specs.ListingText.{exports_text}
+use Rattle.beam_model.specs.Prelude.{exports_text}
 use Rattle.beam_print.specs.Begun.{IsWrittenUpTo}
 use Rattle.beam_print.proofs.listing_text.write_exports.Given as goal
 

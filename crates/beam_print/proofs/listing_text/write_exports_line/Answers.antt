@@ -1,7 +1,8 @@
 use Rattle.std.proofs.Common.{◌≡◌, ◌∙◌, ap, append_assoc, ℕ, List, [], ◌∷◌, ◌++◌}
+use Rattle.beam_lemmas.proofs.AnyError.{on_err}
 use Rattle.beam_model.specs.declared.function.Export.{Export}
-use Rattle.beam_model.specs.ListingText.{exports_line, exports_text, stop}
-use Rattle.beam_print.proofs.Begun.{begun_longer, between, closed, not_begun, on_err, stopped}
+use Rattle.beam_model.specs.Prelude.{exports_line, exports_text, stop}
+use Rattle.beam_print.proofs.Begun.{begun_longer, between, closed, not_begun, stopped}
 use Rattle.beam_print.proofs.listing_text.write_exports_line.Goals as goal
 
 -- the text before the exports, and the text after them

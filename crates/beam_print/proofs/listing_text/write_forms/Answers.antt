@@ -1,9 +1,9 @@
 use Rattle.std.proofs.Common.{◌≡◌, ◌∙◌, ap, append_assoc, refl, rules, sym, ℕ, List, ◌++◌}
+use Rattle.beam_lemmas.proofs.AnyError.{on_err}
 use Rattle.beam_model.specs.declared.function.Export.{Export}
 use Rattle.beam_model.specs.declared.instruction.Instruction.{Instruction}
-use Rattle.beam_model.specs.Listing.{Listing}
-use Rattle.beam_model.specs.ListingText.{exports_line, instructions_text, labels_lines, listing_text, module_line}
-use Rattle.beam_print.proofs.Begun.{begun_longer, begun_on, between, closed, err_more, go_on, not_begun, ok_more, on_err, stopped}
+use Rattle.beam_model.specs.Prelude.{Listing, exports_line, instructions_text, labels_lines, listing_text, module_line}
+use Rattle.beam_print.proofs.Begun.{begun_longer, begun_on, between, closed, err_more, go_on, not_begun, ok_more, stopped}
 use Rattle.beam_print.proofs.listing_text.write_forms.Goals as goal
 
 -- the text of the listing, in the pieces in which it is written

@@ -1,6 +1,7 @@
 use Rattle.std.proofs.Common.{◌≡◌, ap, rules, ◌∷◌, ◌++◌, List, ℕ}
-use Rattle.beam_model.specs.ListingText.{before_text, instruction_text, instructions_text, stop}
-use Rattle.beam_print.proofs.Begun.{on_err, step, step_begun}
+use Rattle.beam_lemmas.proofs.AnyError.{on_err}
+use Rattle.beam_model.specs.Prelude.{before_text, instruction_text, instructions_text, stop}
+use Rattle.beam_print.proofs.Begun.{step, step_begun}
 use Rattle.beam_print.proofs.listing_text.write_instructions.Goals as goal
 
 pub returns-in_err-write_line-clause-begun : goal.returns-in_err-write_line-clause-begun

@@ -1,5 +1,5 @@
 use Rattle.std.proofs.Common.{◌++◌, length}
-use Rattle.beam_model.specs.ListingText.{instructions_text}
+use Rattle.beam_model.specs.Prelude.{instructions_text}
 use Rattle.beam_print.specs.Begun.{IsWrittenUpTo}
 use Rattle.beam_print.proofs.listing_text.write_instructions.Given as goal
 

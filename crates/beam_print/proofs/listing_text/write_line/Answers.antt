@@ -1,6 +1,7 @@
 use Rattle.std.proofs.Common.{◌≡◌, ◌++◌, ℕ, List}
-use Rattle.beam_model.specs.ListingText.{before_text, instruction_text, stop}
-use Rattle.beam_print.proofs.Begun.{begun_longer, between, closed, not_begun, on_err, stopped}
+use Rattle.beam_lemmas.proofs.AnyError.{on_err}
+use Rattle.beam_model.specs.Prelude.{before_text, instruction_text, stop}
+use Rattle.beam_print.proofs.Begun.{begun_longer, between, closed, not_begun, stopped}
 use Rattle.beam_print.proofs.listing_text.write_line.Goals as goal
 
 -- the text of the line, in the pieces in which it is written

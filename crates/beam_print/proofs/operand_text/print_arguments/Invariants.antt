@@ -1,5 +1,5 @@
 use Rattle.std.proofs.Common.{◌≡◌, ◌++◌, [], drop}
-use Rattle.beam_model.specs.ListingText.{arguments_text}
+use Rattle.beam_model.specs.Prelude.{arguments_text}
 use Rattle.beam_print.proofs.operand_text.print_arguments.Given as goal
 
 -- the output so far, with the remaining arguments printed, is the whole

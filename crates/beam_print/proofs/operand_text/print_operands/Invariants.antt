@@ -1,5 +1,5 @@
 use Rattle.std.proofs.Common.{◌≡◌, ◌++◌, drop}
-use Rattle.beam_model.specs.ListingText.{operands_text}
+use Rattle.beam_model.specs.Prelude.{operands_text}
 use Rattle.beam_print.proofs.operand_text.print_operands.Given as goal
 
 -- the output so far, with the remaining operands printed, is the whole

@@ -1,7 +1,8 @@
 use Rattle.std.proofs.Common.{◌≡◌, ◌+◌, ◌<◌, ap, rules, [], ◌∷◌, ◌++◌, drop, length, List, ℕ}
+use Rattle.beam_lemmas.proofs.AnyError.{on_err}
 use Rattle.beam_model.specs.declared.instruction.Argument.{Argument}
-use Rattle.beam_model.specs.ListingText.{argument_text, arguments_text}
-use Rattle.beam_print.proofs.Begun.{at_item, on_err, step, step_begun}
+use Rattle.beam_model.specs.Prelude.{argument_text, arguments_text}
+use Rattle.beam_print.proofs.Begun.{at_item, step, step_begun}
 use Rattle.beam_print.proofs.operand_text.write_members.Goals as goal
 
 pub returns-in_err-write_member-clause-begun : goal.returns-in_err-write_member-clause-begun

@@ -1,5 +1,5 @@
 use Rattle.std.proofs.Common.{[], ◌++◌, drop}
-use Rattle.beam_model.specs.ListingText.{arguments_text}
+use Rattle.beam_model.specs.Prelude.{arguments_text}
 use Rattle.beam_print.specs.Begun.{IsWrittenUpTo}
 use Rattle.beam_print.proofs.operand_text.write_members.Given as goal
 

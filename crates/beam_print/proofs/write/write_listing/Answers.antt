@@ -1,5 +1,5 @@
 use Rattle.std.proofs.Common.{◌≡◌, rules, subst, sym, ℕ, List, ◌++◌}
-use Rattle.beam_model.specs.ListingText.{listing_text}
+use Rattle.beam_model.specs.Prelude.{listing_text}
 use Rattle.beam_print.specs.Begun.{IsWrittenUpTo}
 use Rattle.beam_print.proofs.Begun.{begun_on, err_more}
 use Rattle.beam_print.proofs.write.write_listing.Goals as goal

@@ -1,6 +1,6 @@
 use Rattle.std.proofs.Common.{◌≡◌, ◌++◌, length}
 use Rattle.beam_mailbox.specs.Messages.{messages_of}
-use Rattle.beam_proc.specs.Deliveries.{arriving, but_of}
+use Rattle.beam_proc.specs.Prelude.{arriving, but_of}
 use Rattle.beam_proc.proofs.delivering.arriving.Given as goal
 
 abbrev pub invariant-loop-signal : goal.invariant-loop-signal

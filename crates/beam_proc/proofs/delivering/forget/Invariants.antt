@@ -1,5 +1,5 @@
 use Rattle.std.proofs.Common.{◌≡◌, fold, length}
-use Rattle.beam_proc.specs.Deliveries.{left_by}
+use Rattle.beam_proc.specs.Prelude.{left_by}
 use Rattle.beam_proc.proofs.delivering.forget.Given as goal
 
 abbrev pub invariant-loop-signal : goal.invariant-loop-signal

@@ -1,6 +1,6 @@
 use Rattle.std.proofs.Common.{◌≡◌, length}
 use Rattle.std.specs.List.{list_any}
-use Rattle.beam_proc.specs.Deliveries.{is_down}
+use Rattle.beam_proc.specs.Prelude.{is_down}
 use Rattle.beam_proc.proofs.delivering.has_down.Given as goal
 
 abbrev pub invariant-loop-signal : goal.invariant-loop-signal

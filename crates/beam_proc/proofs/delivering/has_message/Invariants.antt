@@ -1,7 +1,7 @@
 use Rattle.std.proofs.Common.{◌≡◌, length}
 use Rattle.beam_machine.specs.declared.process.Status.{Status}
 use Rattle.beam_mailbox.specs.Messages.{messages_of}
-use Rattle.beam_proc.specs.Deliveries.{woken}
+use Rattle.beam_proc.specs.Prelude.{woken}
 use Rattle.beam_proc.proofs.delivering.has_message.Given as goal
 
 abbrev pub invariant-loop-signal : goal.invariant-loop-signal

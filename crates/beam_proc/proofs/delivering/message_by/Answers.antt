@@ -1,8 +1,7 @@
-use Rattle.std.proofs.Common.{◌≡◌, Some, ap, sym, ◌∙◌}
-use Rattle.std.specs.Prelude.{option_map}
+use Rattle.std.proofs.Common.{◌≡◌, Some, ap, sym, ◌∙◌, option_map}
 use Rattle.std.specs.Option.{option_copied}
-use Rattle.beam_machine.specs.Process.{monitor_of}
-use Rattle.beam_proc.specs.Deliveries.{but_of, message_by}
+use Rattle.beam_machine.specs.Prelude.{monitor_of}
+use Rattle.beam_proc.specs.Prelude.{but_of, message_by}
 use Rattle.beam_proc.proofs.Arriving.{down_brings}
 use Rattle.beam_proc.proofs.delivering.message_by.Goals as goal
 

@@ -1,8 +1,7 @@
-use Rattle.std.proofs.Common.{nat_eq, ap, sym, ◌∙◌}
+use Rattle.std.proofs.Common.{nat_eq, ap, sym, ◌∙◌, option_map}
 use Rattle.std.proofs.lemmas.Bool.{not-true, not-false}
 use Rattle.std.specs.List.{list_any}
-use Rattle.std.specs.Prelude.{option_map}
-use Rattle.beam_proc.specs.Deliveries.{but_of}
+use Rattle.beam_proc.specs.Prelude.{but_of}
 use Rattle.beam_proc.proofs.Arriving.{once, twice, without_but}
 use Rattle.beam_proc.proofs.delivering.pid_once.Goals as goal
 

@@ -1,6 +1,6 @@
 use Rattle.std.proofs.Common.{◌∙◌, ap, subst}
-use Rattle.beam_term.specs.TermValue.{IsTerm, nil_term, pair_term}
-use Rattle.beam_machine.specs.Process.{read_x}
+use Rattle.beam_machine.specs.Prelude.{read_x}
+use Rattle.beam_term.specs.Prelude.{IsTerm, nil_term, pair_term}
 use Rattle.beam_proc.proofs.Emptied.{given_back, given_else}
 use Rattle.beam_proc.proofs.pairs.put_before.Goals as goal
 

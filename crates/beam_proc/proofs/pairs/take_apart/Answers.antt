@@ -1,5 +1,5 @@
 use Rattle.std.proofs.Common.{◌∙◌, sym}
-use Rattle.beam_term.specs.TermValue.{nil_term}
+use Rattle.beam_term.specs.Prelude.{nil_term}
 use Rattle.beam_proc.proofs.Emptied.{given_back, given_behind}
 use Rattle.beam_proc.proofs.pairs.take_apart.Goals as goal
 

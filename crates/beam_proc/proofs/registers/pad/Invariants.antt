@@ -1,5 +1,5 @@
 use Rattle.std.proofs.Common.{◌≡◌, ◌+◌, ◌++◌, replicate, vec_len, vec_capacity}
-use Rattle.beam_term.specs.TermValue.{nil_term}
+use Rattle.beam_term.specs.Prelude.{nil_term}
 use Rattle.beam_proc.proofs.registers.pad.Given as goal
 
 abbrev pub invariant-loop-done : goal.invariant-loop-done

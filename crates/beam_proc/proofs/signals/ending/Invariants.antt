@@ -1,5 +1,5 @@
 use Rattle.std.proofs.Common.{◌≡◌, length}
-use Rattle.beam_proc.specs.Deliveries.{ending}
+use Rattle.beam_proc.specs.Prelude.{ending}
 use Rattle.beam_proc.proofs.signals.ending.Given as goal
 
 abbrev pub invariant-loop-signal : goal.invariant-loop-signal

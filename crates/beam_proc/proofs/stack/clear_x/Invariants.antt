@@ -1,5 +1,5 @@
 use Rattle.std.proofs.Common.{◌≡◌, length}
-use Rattle.beam_proc.specs.Frames.{cleared_x}
+use Rattle.beam_proc.specs.Prelude.{cleared_x}
 use Rattle.beam_proc.proofs.stack.clear_x.Given as goal
 
 abbrev pub invariant-loop-register : goal.invariant-loop-register

@@ -1,5 +1,5 @@
 use Rattle.std.proofs.Common.{◌≡◌, true, length}
-use Rattle.beam_proc.specs.Frames.{all_there, cleared_y}
+use Rattle.beam_proc.specs.Prelude.{all_there, cleared_y}
 use Rattle.beam_proc.proofs.stack.clear_y.Given as goal
 
 abbrev pub invariant-loop-register : goal.invariant-loop-register

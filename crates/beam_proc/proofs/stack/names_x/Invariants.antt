@@ -1,6 +1,6 @@
 use Rattle.std.proofs.Common.{◌≡◌, List, length}
-use Rattle.beam_term.specs.TermValue.{TermValue}
-use Rattle.beam_proc.specs.Frames.{cleared_x}
+use Rattle.beam_term.specs.Prelude.{TermValue}
+use Rattle.beam_proc.specs.Prelude.{cleared_x}
 use Rattle.beam_proc.proofs.stack.names_x.Given as goal
 
 abbrev pub invariant-loop-register : goal.invariant-loop-register

@@ -1,7 +1,5 @@
 use Rattle.std.proofs.Common.{◌≡◌, ◌+◌, ℕ, length}
-use Rattle.beam_queue.specs.Closing.{HaveNoStealers}
-use Rattle.beam_queue.specs.Counting.{total, times}
-use Rattle.beam_queue.specs.RunQueues.{enqueued_by, taken_by}
+use Rattle.beam_queue.specs.Prelude.{HaveNoStealers, total, times, enqueued_by, taken_by}
 use Rattle.beam_queue.proofs.closing.drain_all.Given as goal
 
 -- the pids that were left in the queues so far are in the list

@@ -1,5 +1,5 @@
 use Rattle.std.proofs.Common.{◌<◌, length, arith}
-use Rattle.beam_queue.specs.RunQueues.{lent_of}
+use Rattle.beam_queue.specs.Prelude.{lent_of}
 use Rattle.beam_queue.proofs.Sums.{none_more}
 use Rattle.beam_queue.proofs.closing.lender.Goals as goal
 

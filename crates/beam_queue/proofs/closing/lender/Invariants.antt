@@ -1,6 +1,5 @@
 use Rattle.std.proofs.Common.{◌≡◌, take}
-use Rattle.beam_queue.specs.Counting.{total}
-use Rattle.beam_queue.specs.RunQueues.{lent_of}
+use Rattle.beam_queue.specs.Prelude.{total, lent_of}
 use Rattle.beam_queue.proofs.closing.lender.Given as goal
 
 abbrev pub invariant-loop-at : goal.invariant-loop-at

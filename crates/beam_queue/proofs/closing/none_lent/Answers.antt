@@ -1,5 +1,5 @@
 use Rattle.std.proofs.Common.{◌<◌, length, true≢false, sym, arith}
-use Rattle.beam_queue.specs.Closing.{lent}
+use Rattle.beam_queue.specs.Prelude.{lent}
 use Rattle.beam_queue.proofs.Sums.{none_more, none_there}
 use Rattle.beam_queue.proofs.closing.none_lent.Goals as goal
 

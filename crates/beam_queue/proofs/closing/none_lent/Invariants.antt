@@ -1,6 +1,5 @@
 use Rattle.std.proofs.Common.{◌≡◌, take}
-use Rattle.beam_queue.specs.Closing.{lent}
-use Rattle.beam_queue.specs.Counting.{total}
+use Rattle.beam_queue.specs.Prelude.{lent, total}
 use Rattle.beam_queue.proofs.closing.none_lent.Given as goal
 
 abbrev pub invariant-loop-at : goal.invariant-loop-at

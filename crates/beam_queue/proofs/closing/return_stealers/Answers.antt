@@ -1,7 +1,5 @@
 use Rattle.std.proofs.Common.{◌≡◌, ◌<◌, List, length, set, get_or, sym, ap, subst, arith}
-use Rattle.beam_queue.specs.Closing.{stealer_count, lent, KeepsCounts}
-use Rattle.beam_queue.specs.Counting.{total}
-use Rattle.beam_queue.specs.RunQueues.{RunQueue, lent_of}
+use Rattle.beam_queue.specs.Prelude.{stealer_count, lent, KeepsCounts, total, RunQueue, lent_of}
 use Rattle.beam_queue.proofs.ReturningStealers.{gives_back, keeps_both, have_all_stealers, none_lent_more}
 use Rattle.beam_queue.proofs.closing.return_stealers.Goals as goal
 

@@ -1,5 +1,4 @@
-use Rattle.beam_queue.specs.Closing.{stealer_count, KeepsCounts}
-use Rattle.beam_queue.specs.Counting.{total}
+use Rattle.beam_queue.specs.Prelude.{stealer_count, KeepsCounts, total}
 use Rattle.beam_queue.proofs.closing.return_stealers.Given as goal
 
 abbrev pub invariant-loop-stealer : goal.invariant-loop-stealer

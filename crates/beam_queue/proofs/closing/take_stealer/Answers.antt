@@ -1,8 +1,6 @@
 use Rattle.std.proofs.Common.{◌≡◌, ◌+◌, ◌<◌, List, length, take, set, ap, ◌∙◌, arith}
 use Rattle.std.proofs.lemmas.List.{set-get_or}
-use Rattle.beam_queue.specs.Closing.{stealer_count}
-use Rattle.beam_queue.specs.Counting.{total}
-use Rattle.beam_queue.specs.RunQueues.{RunQueue}
+use Rattle.beam_queue.specs.Prelude.{stealer_count, total, RunQueue}
 use Rattle.beam_queue.proofs.Draining.{gives_at}
 use Rattle.beam_queue.proofs.Sums.{none_more}
 use Rattle.beam_queue.proofs.closing.take_stealer.Goals as goal

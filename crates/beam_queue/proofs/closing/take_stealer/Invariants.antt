@@ -1,6 +1,5 @@
 use Rattle.std.proofs.Common.{◌≡◌, take}
-use Rattle.beam_queue.specs.Closing.{stealer_count}
-use Rattle.beam_queue.specs.Counting.{total}
+use Rattle.beam_queue.specs.Prelude.{stealer_count, total}
 use Rattle.beam_queue.proofs.closing.take_stealer.Given as goal
 
 -- no run queue so far has a stealer

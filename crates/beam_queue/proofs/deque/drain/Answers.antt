@@ -1,7 +1,7 @@
 use Rattle.std.proofs.Common.{◌≡◌, ◌++◌, ◌∷◌, [], ap, ◌∙◌, arith}
 use Rattle.crossbeam_deque.specs.Handles.{worker_view}
 use Rattle.beam_queue.specs.declared.contribution.Contribution.{Contribution}
-use Rattle.beam_queue.specs.Counting.{times, one_if}
+use Rattle.beam_queue.specs.Prelude.{times, one_if}
 use Rattle.beam_queue.proofs.Moves.{takes, finds}
 use Rattle.beam_queue.proofs.Sums.{total_snoc}
 use Rattle.beam_queue.proofs.deque.drain.Goals as goal

@@ -1,6 +1,6 @@
 use Rattle.std.proofs.Common.{◌≡◌, ℕ, ◌+◌}
 use Rattle.crossbeam_deque.specs.Handles.{worker_view, worker_flavor}
-use Rattle.beam_queue.specs.Counting.{times}
+use Rattle.beam_queue.specs.Prelude.{times}
 use Rattle.beam_queue.proofs.deque.drain.Given as goal
 
 -- the pids that were taken stand after those that were there

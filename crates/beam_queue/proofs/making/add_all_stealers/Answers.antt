@@ -1,6 +1,6 @@
 use Rattle.std.proofs.Common.{◌≡◌, ◌+◌, inl, inr, Err, length, ap, sym, ◌∙◌, subst, arith}
 use Rattle.std.proofs.lemmas.Result.{err_from_is_err_and}
-use Rattle.beam_queue.specs.Making.{LentAtMost, AddsStealersInRange}
+use Rattle.beam_queue.specs.Prelude.{LentAtMost, AddsStealersInRange}
 use Rattle.beam_queue.specs.declared.making.NotMade.TheVariants.{TooMany}
 use Rattle.std.specs.List.{range_with_len}
 use Rattle.beam_queue.proofs.AddingStealers.{furnishes, as_long, most_later, most_first}

@@ -1,6 +1,6 @@
 use Rattle.std.proofs.Common.{◌≡◌, ◌≢◌, ◌<◌, ◌≤◌, ⊎_elim, length, map, ap, sym, ◌∙◌, arith}
 use Rattle.std.proofs.lemmas.List.{length-map}
-use Rattle.beam_queue.specs.Making.{number_of}
+use Rattle.beam_queue.specs.Prelude.{number_of}
 use Rattle.beam_queue.proofs.AddingStealers.{adds_none, adds_more, adds_one, number_at}
 use Rattle.beam_queue.proofs.making.add_stealers_in_range.Goals as goal
 

@@ -1,5 +1,5 @@
 use Rattle.std.proofs.Common.{◌≤◌}
-use Rattle.beam_queue.specs.Making.{AddsStealersInRange}
+use Rattle.beam_queue.specs.Prelude.{AddsStealersInRange}
 use Rattle.beam_queue.proofs.making.add_stealers_in_range.Given as goal
 
 -- the stealers so far

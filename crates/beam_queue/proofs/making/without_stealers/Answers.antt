@@ -3,7 +3,7 @@ use Rattle.std.specs.List.{range_with_len}
 use Rattle.std.proofs.lemmas.List.{length-map, nil_from_length}
 use Rattle.crossbeam_deque.specs.Handles.{worker_deque}
 use Rattle.beam_queue.specs.declared.making.FreshDeque.{FreshDeque}
-use Rattle.beam_queue.specs.RunQueues.{new_run_queue}
+use Rattle.beam_queue.specs.Prelude.{new_run_queue}
 use Rattle.beam_queue.proofs.Named.{named_at, one_run_queue, equal_lengths}
 use Rattle.beam_queue.proofs.making.without_stealers.Goals as goal
 

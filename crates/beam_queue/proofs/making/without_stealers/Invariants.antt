@@ -1,6 +1,6 @@
 use Rattle.std.proofs.Common.{◌≡◌, ◌++◌, length, map}
 use Rattle.std.specs.List.{range_with_len}
-use Rattle.beam_queue.specs.RunQueues.{new_run_queue}
+use Rattle.beam_queue.specs.Prelude.{new_run_queue}
 use Rattle.beam_queue.proofs.making.without_stealers.Given as goal
 
 -- a run queue for each queue so far

@@ -1,7 +1,6 @@
 use Rattle.std.proofs.Common.{◌≡◌, ◌∙◌, ℕ, List, false, rules, subst, sym, true≢false}
 use Rattle.beam_disasm.specs.Refusals.{Refuses, is_memory}
-use Rattle.beam_model.specs.File.{listing_of_file}
-use Rattle.beam_model.specs.FileForm.{IsFile}
+use Rattle.beam_model.specs.Prelude.{listing_of_file, IsFile}
 use Rattle.beam_remote.proofs.answer.prepare.Goals as goal
 
 pub returns-else-is_memory-clause-err : goal.returns-else-is_memory-clause-err

@@ -1,5 +1,5 @@
 use Rattle.std.proofs.Common.{take}
-use Rattle.beam_remote.specs.Serving.{ArePrepared}
+use Rattle.beam_remote.specs.Prelude.{ArePrepared}
 use Rattle.beam_remote.proofs.answer.prepare_all.Given as goal
 
 -- the files so far are prepared, as the listings so far

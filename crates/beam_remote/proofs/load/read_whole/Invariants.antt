@@ -1,5 +1,5 @@
 use Rattle.std.proofs.Common.{◌≡◌, ◌-◌, length}
-use Rattle.beam_remote.specs.DeviceHistory.{appended}
+use Rattle.beam_remote.specs.Prelude.{appended}
 use Rattle.beam_remote.proofs.load.read_whole.Given as goal
 
 abbrev pub invariant-loop-buffer : goal.invariant-loop-buffer

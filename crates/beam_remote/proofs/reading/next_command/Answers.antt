@@ -1,5 +1,4 @@
-use Rattle.std.proofs.Common.{◌≡◌, ◌<◌, ◌+◌, ◌∙◌, ℕ, List, ◌++◌, ap, append_assoc, arith, length, length-append, take}
-use Rattle.std.proofs.lemmas.List.{length-take-le}
+use Rattle.std.proofs.Common.{◌≡◌, ◌<◌, ◌+◌, ◌∙◌, ℕ, List, ◌++◌, ap, append_assoc, arith, length, length-append, take, length-take-le}
 use Rattle.beam_frame.specs.Reader.{Reader}
 use Rattle.beam_remote.proofs.Bytes.{joined}
 use Rattle.beam_remote.proofs.Frames.{none_is_short}

@@ -1,6 +1,5 @@
 use Rattle.std.proofs.Common.{◌≡◌, ◌-◌, ℕ, List, ◌++◌, length, false}
-use Rattle.beam_remote.specs.Found.{IsNeeded}
-use Rattle.beam_remote.specs.DeviceHistory.{EachRead, appended}
+use Rattle.beam_remote.specs.Prelude.{IsNeeded, EachRead, appended}
 use Rattle.beam_remote.proofs.reading.next_command.Given as goal
 
 abbrev pub invariant-loop-command : goal.invariant-loop-command

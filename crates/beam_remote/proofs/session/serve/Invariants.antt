@@ -1,6 +1,5 @@
 use Rattle.std.proofs.Common.{◌≡◌, false}
-use Rattle.beam_remote.specs.Serving.{AllAnswered}
-use Rattle.beam_remote.specs.DeviceHistory.{EachRead}
+use Rattle.beam_remote.specs.Prelude.{AllAnswered, EachRead}
 use Rattle.beam_remote.proofs.InProgress.{Session}
 use Rattle.beam_remote.proofs.session.serve.Given as goal
 

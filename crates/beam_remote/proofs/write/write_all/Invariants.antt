@@ -1,5 +1,5 @@
 use Rattle.std.proofs.Common.{◌≡◌, ℕ, List, ◌++◌, length}
-use Rattle.beam_remote.specs.DeviceHistory.{appended}
+use Rattle.beam_remote.specs.Prelude.{appended}
 use Rattle.beam_remote.proofs.write.write_all.Given as goal
 
 abbrev pub invariant-loop-rest : goal.invariant-loop-rest

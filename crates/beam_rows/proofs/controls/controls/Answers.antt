@@ -1,8 +1,7 @@
 use Rattle.std.proofs.Common.{refl, subst, sym}
 use Rattle.beam_machine.specs.declared.action.Control.{Control as TheControl}
-use Rattle.beam_machine.specs.Row.{controls}
-use Rattle.beam_rows.specs.Asked.{Performs}
-use Rattle.beam_rows.specs.Reads.{selects_by_size, selects_by_value}
+use Rattle.beam_machine.specs.Prelude.{controls}
+use Rattle.beam_rows.specs.Prelude.{Performs, selects_by_size, selects_by_value}
 use Rattle.beam_rows.proofs.Finished.{row_does}
 use Rattle.beam_rows.proofs.controls.controls.Goals as goal
 

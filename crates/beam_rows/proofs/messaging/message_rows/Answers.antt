@@ -1,12 +1,9 @@
 use Rattle.std.proofs.Common.{◌≡◌, ◌&&◌, false, true, Some, None, OnErr, sym, subst}
 use Rattle.beam_machine.specs.declared.action.Messaging.{Messaging as TheMessaging}
 use Rattle.beam_machine.specs.declared.action.Messaging.TheVariants as messaging
-use Rattle.beam_machine.specs.Quiet.{is_quiet_message, is_calm}
-use Rattle.beam_machine.specs.Row.{goes_on, makes, message_rows, peeks}
-use Rattle.beam_model.specs.Mailbox.{message_at, with_reset}
-use Rattle.beam_rows.specs.Asked.{Performs, without_exception}
-use Rattle.beam_rows.specs.Reads.{removes, skips}
-use Rattle.beam_rows.specs.RowErrors.{Why}
+use Rattle.beam_model.specs.Prelude.{message_at, with_reset}
+use Rattle.beam_machine.specs.Prelude.{is_quiet_message, is_calm, goes_on, makes, message_rows, peeks}
+use Rattle.beam_rows.specs.Prelude.{Performs, without_exception, removes, skips, Why}
 use Rattle.beam_rows.proofs.Finished.{row_does, row_fails}
 use Rattle.beam_rows.proofs.messaging.message_rows.Goals as goal
 

@@ -1,6 +1,6 @@
 use Rattle.std.proofs.Common.{Ok, option_map, ap, ◌∙◌}
-use Rattle.beam_machine.specs.Row.{makes, answers, changed_by, arguments_of}
-use Rattle.beam_rows.specs.OfProcess.{without}
+use Rattle.beam_machine.specs.Prelude.{makes, answers, changed_by, arguments_of}
+use Rattle.beam_rows.specs.Prelude.{without}
 use Rattle.beam_rows.proofs.OfProcess.{answered_without}
 use Rattle.beam_rows.proofs.of_process.call_of_process.Goals as goal
 

@@ -1,11 +1,9 @@
 use Rattle.std.proofs.Common.{◌≡◌, ◌∙◌, ℕ, ◌&&◌, false, OnErr, sym, ap, subst}
 use Rattle.beam_machine.specs.declared.action.Action.{Action}
+use Rattle.beam_machine.specs.Prelude.{goes_on, makes, moves, perform, stacks, is_quiet_action, is_calm, Process}
 use Rattle.beam_machine.specs.declared.action.Action.TheVariants.{Test}
-use Rattle.beam_machine.specs.Row.{goes_on, makes, moves, perform, stacks}
-use Rattle.beam_machine.specs.Quiet.{is_quiet_action, is_calm}
-use Rattle.beam_model.specs.Place.{Place}
-use Rattle.beam_machine.specs.Process.{Process}
-use Rattle.beam_rows.specs.Asked.{Performs, without_exception}
+use Rattle.beam_model.specs.Prelude.{Place}
+use Rattle.beam_rows.specs.Prelude.{Performs, without_exception}
 use Rattle.beam_rows.proofs.Finished.{row_does, row_goes, row_fails}
 use Rattle.beam_rows.proofs.Made.{row_made}
 use Rattle.beam_rows.proofs.row.perform.Goals as goal

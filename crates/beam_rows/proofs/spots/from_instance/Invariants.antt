@@ -1,5 +1,5 @@
 use Rattle.std.proofs.Common.{length}
-use Rattle.beam_rows.specs.Spots.{HasSpotsOf}
+use Rattle.beam_rows.specs.Prelude.{HasSpotsOf}
 use Rattle.beam_rows.proofs.spots.from_instance.Given as goal
 
 abbrev pub invariant-loop-first : goal.invariant-loop-first

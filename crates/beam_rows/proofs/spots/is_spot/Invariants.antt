@@ -1,5 +1,5 @@
 use Rattle.std.proofs.Common.{◌≡◌, length}
-use Rattle.beam_machine.specs.Debug.{is_spot}
+use Rattle.beam_machine.specs.Prelude.{is_spot}
 use Rattle.beam_rows.proofs.spots.is_spot.Given as goal
 
 abbrev pub invariant-loop-first : goal.invariant-loop-first

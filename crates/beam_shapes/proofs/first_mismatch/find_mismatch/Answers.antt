@@ -1,7 +1,7 @@
 use Rattle.std.proofs.Common.{◌≡◌, List, sym, subst, rules}
 use Rattle.beam_model.specs.declared.instruction.Instruction.{Instruction}
-use Rattle.beam_model.specs.Framed.{frame_effect, row_at}
-use Rattle.beam_shapes.specs.Shown.{IsSmall}
+use Rattle.beam_model.specs.Prelude.{frame_effect, row_at}
+use Rattle.beam_shapes.specs.Prelude.{IsSmall}
 use Rattle.beam_shapes.proofs.Small.{small_rows}
 use Rattle.beam_shapes.proofs.first_mismatch.find_mismatch.Goals as goal
 

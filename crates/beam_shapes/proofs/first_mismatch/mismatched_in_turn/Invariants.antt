@@ -1,5 +1,5 @@
 use Rattle.std.proofs.Common.{◌≡◌, ◌+◌, length}
-use Rattle.beam_shapes.specs.Forced.{room}
+use Rattle.beam_shapes.specs.Prelude.{room}
 use Rattle.beam_shapes.proofs.first_mismatch.mismatched_in_turn.Given as goal
 
 abbrev pub invariant-loop-at : goal.invariant-loop-at

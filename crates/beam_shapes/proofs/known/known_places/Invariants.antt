@@ -1,5 +1,4 @@
-use Rattle.std.proofs.Common.{◌≡◌, ℕ, None, get_or}
-use Rattle.std.specs.Prelude.{◌&&◌, nat_eq, nat_lt, is_some}
+use Rattle.std.proofs.Common.{◌≡◌, ℕ, None, get_or, ◌&&◌, nat_eq, nat_lt, is_some}
 use Rattle.std.specs.List.{list_any}
 use Rattle.beam_shapes.proofs.known.known_places.Given as goal
 

@@ -1,6 +1,6 @@
 use Rattle.std.proofs.Common.{◌≡◌, ◌++◌, length}
 use Rattle.std.specs.List.{flat_map}
-use Rattle.beam_shapes.specs.OperandRoles.{numbers_of}
+use Rattle.beam_shapes.specs.Prelude.{numbers_of}
 use Rattle.beam_shapes.proofs.named.push_arguments.Given as goal
 
 -- the numbers so far, and then those of the remaining arguments, are the result

@@ -1,7 +1,6 @@
-use Rattle.std.proofs.Common.{◌≡◌, [], ◌++◌, length}
-use Rattle.std.specs.Prelude.{if◌then◌else◌}
+use Rattle.std.proofs.Common.{◌≡◌, [], ◌++◌, length, if◌then◌else◌}
 use Rattle.std.specs.List.{flat_map, zip}
-use Rattle.beam_shapes.specs.OperandRoles.{is_of, numbers_in, named}
+use Rattle.beam_shapes.specs.Prelude.{is_of, numbers_in, named}
 use Rattle.beam_shapes.proofs.named.push_each.Given as goal
 
 -- the numbers so far, and then those of the remaining operands, are the result

@@ -1,5 +1,5 @@
 use Rattle.std.proofs.Common.{◌≡◌, false}
-use Rattle.beam_shapes.specs.OperandRoles.{may_name_some}
+use Rattle.beam_shapes.specs.Prelude.{may_name_some}
 use Rattle.beam_shapes.proofs.Nothing.{nothing_more}
 use Rattle.beam_shapes.proofs.named.push_named.Goals as goal
 

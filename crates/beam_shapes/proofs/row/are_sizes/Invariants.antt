@@ -1,5 +1,5 @@
 use Rattle.std.proofs.Common.{◌≡◌, length}
-use Rattle.beam_model.specs.Framed.{is_size, are_choices}
+use Rattle.beam_model.specs.Prelude.{is_size, are_choices}
 use Rattle.beam_shapes.proofs.row.are_sizes.Given as goal
 
 -- the remaining arguments decide

@@ -1,8 +1,8 @@
 use Rattle.beam_shapes.proofs.Listed.{does_both}
 use Rattle.std.proofs.Common.{◌≡◌, length, true}
 use Rattle.std.specs.List.{list_all}
-use Rattle.beam_model.specs.Framed.{begins_bare, entries}
-use Rattle.beam_shapes.specs.Forced.{BeginBelow}
+use Rattle.beam_model.specs.Prelude.{begins_bare, entries}
+use Rattle.beam_shapes.specs.Prelude.{BeginBelow}
 use Rattle.beam_shapes.proofs.search.begin_again.Goals as goal
 
 pub returns : goal.returns

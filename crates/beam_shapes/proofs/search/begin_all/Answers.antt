@@ -1,17 +1,14 @@
-use Rattle.std.proofs.Common.{◌≡◌, ◌∙◌, ℕ, Bool, true, List, [], length, ◌∷◌, ◌++◌, sym, subst, ap, refl, arith, rules}
+use Rattle.std.proofs.Common.{◌≡◌, ◌∙◌, ℕ, Bool, true, List, length, ◌∷◌, ◌++◌, sym, subst, ap, rules}
 use Rattle.std.specs.List.{list_all}
 use Rattle.std.proofs.lemmas.Result.{err_from_is_err_and}
+use Rattle.std.proofs.lemmas.List.{nil_from_length}
 use Rattle.beam_model.specs.declared.instruction.Instruction.{Instruction}
-use Rattle.beam_model.specs.Framed.{Assignment, begins_bare, entries, entry_by, in_list}
-use Rattle.beam_shapes.specs.Forced.{assigned, Forces, Fails}
+use Rattle.beam_model.specs.Prelude.{Assignment, begins_bare, entries, entry_by, in_list}
+use Rattle.beam_shapes.specs.Prelude.{assigned, Forces, Fails}
 use Rattle.beam_shapes.proofs.Forced.{forces_none}
 use Rattle.beam_shapes.proofs.Listed.{forces_all, fails_others, fails_some}
 use Rattle.beam_shapes.proofs.Fits.{does_err}
 use Rattle.beam_shapes.proofs.search.begin_all.Goals as goal
-
-empty : (is : List Instruction) → length is ≡ 0 → is ≡ []
-empty [] e = refl
-empty (i ∷ is) e = absurd (omega (arith, e))
 
 entries_are : (rest others : List Instruction) (i : Instruction) (labels : List ℕ) → rest ≡ i ∷ others → labels ≡ entry_by i.opcode others → labels ++ entries others ≡ entries rest
 entries_are rest others i labels is entry = ap (λ (ls : List ℕ). ls ++ entries others) entry ∙ ap entries (sym is)
@@ -44,7 +41,7 @@ pub returns : goal.returns
 returns c =
     let f : Assignment → ℕ → Bool = λ a label. begins_bare a c.args.code.now label in
     let zero : length c.loop-instruction.rest.now ≡ 0 = search rules in
-    let none = empty c.loop-instruction.rest.now zero in
+    let none = nil_from_length c.loop-instruction.rest.now zero in
     let k = c.loop-instruction.known in
     c.loop-instruction.invariant.forces k
     (forces_none (λ a. list_all (f a) (entries c.loop-instruction.rest.now) ≡ true) k (ap (λ (is : List Instruction). list_all (f (assigned k.known)) (entries is)) none))

@@ -1,7 +1,7 @@
 use Rattle.std.proofs.Common.{◌≡◌, true, length}
 use Rattle.std.specs.List.{list_all}
-use Rattle.beam_model.specs.Framed.{begins_bare, entries}
-use Rattle.beam_shapes.specs.Forced.{ShapeState, Forces, Fails}
+use Rattle.beam_model.specs.Prelude.{begins_bare, entries}
+use Rattle.beam_shapes.specs.Prelude.{ShapeState, Forces, Fails}
 use Rattle.beam_shapes.specs.declared.error.FrameCheckError.{FrameCheckError}
 use Rattle.beam_shapes.proofs.search.begin_all.Given as goal
 

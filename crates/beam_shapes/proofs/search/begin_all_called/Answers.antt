@@ -1,6 +1,6 @@
 use Rattle.std.proofs.Common.{◌≡◌, ◌∙◌, ◌<◌, length, ap, subst, arith, ℕ}
 use Rattle.std.proofs.lemmas.Result.{err_from_is_err_and}
-use Rattle.beam_shapes.specs.Forced.{Forces, BeginsAt, BeginBelow}
+use Rattle.beam_shapes.specs.Prelude.{Forces, BeginsAt, BeginBelow}
 use Rattle.beam_shapes.proofs.Fits.{does_err}
 use Rattle.beam_shapes.proofs.Looked.{forces_row, fails_row}
 use Rattle.beam_shapes.proofs.search.begin_all_called.Goals as goal

@@ -1,5 +1,5 @@
 use Rattle.std.proofs.Common.{◌≡◌, length}
-use Rattle.beam_shapes.specs.Forced.{Forces, BeginBelow}
+use Rattle.beam_shapes.specs.Prelude.{Forces, BeginBelow}
 use Rattle.beam_shapes.proofs.search.begin_all_called.Given as goal
 
 -- the functions that the rows so far call begin without y registers

@@ -1,7 +1,7 @@
 use Rattle.std.proofs.Common.{◌≡◌, [], ◌∙◌, List, length, Option, ap, sym, subst}
 use Rattle.std.proofs.lemmas.Result.{err_from_is_err_and}
-use Rattle.beam_model.specs.Framed.{Shape, Assignment}
-use Rattle.beam_shapes.specs.Forced.{assigned, IsBelow, Forces, Settles, IsAssignment, BeginBare}
+use Rattle.beam_model.specs.Prelude.{Assignment, Shape}
+use Rattle.beam_shapes.specs.Prelude.{assigned, IsBelow, Forces, Settles, IsAssignment, BeginBare}
 use Rattle.beam_shapes.proofs.Forced.{fails_as, fails_from}
 use Rattle.beam_shapes.proofs.Fits.{fails_later, match_err}
 use Rattle.beam_shapes.proofs.Looked.{looked_first, looked_spreads, looked_all, begins_of}

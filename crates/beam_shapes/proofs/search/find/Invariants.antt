@@ -1,6 +1,6 @@
 use Rattle.std.proofs.Common.{◌≡◌, [], length}
-use Rattle.beam_model.specs.Framed.{Assignment}
-use Rattle.beam_shapes.specs.Forced.{IsBelow, IsAssignment, AreLookedAt, room}
+use Rattle.beam_model.specs.Prelude.{Assignment}
+use Rattle.beam_shapes.specs.Prelude.{IsBelow, IsAssignment, AreLookedAt, room}
 use Rattle.beam_shapes.proofs.search.find.Given as goal
 
 -- the known shapes stay below each assignment, and each row was looked at

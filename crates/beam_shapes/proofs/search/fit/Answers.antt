@@ -1,11 +1,8 @@
 use Rattle.std.proofs.Common.{◌≡◌, ◌∙◌, ℕ, true, sym, subst, ap}
 use Rattle.std.proofs.lemmas.Result.{err_from_is_err_and}
 use Rattle.beam_model.specs.declared.instruction.Instruction.{Instruction}
-use Rattle.beam_model.specs.Listing.{next_row}
-use Rattle.beam_model.specs.Framed.{Shape, Assignment, targets, may_fall_through, leads, fits, may_have, row_at}
-use Rattle.beam_shapes.specs.Forced.{assigned, MayGo, Flows, Forces, Fails}
-use Rattle.beam_shapes.specs.Shown.{shown}
-use Rattle.beam_shapes.specs.Trees.{Parts}
+use Rattle.beam_model.specs.Prelude.{next_row, Assignment, targets, may_fall_through, leads, fits, may_have, row_at, Shape}
+use Rattle.beam_shapes.specs.Prelude.{assigned, MayGo, Flows, Forces, Fails, shown, Parts}
 use Rattle.beam_shapes.proofs.Fits.{never_fits, fails_leading, fits_alone, fits_on, fails_on, flows_alone, flows_on, on_within, does_err}
 use Rattle.beam_shapes.proofs.Looked.{labels_up}
 use Rattle.beam_shapes.proofs.Registers.{shape_stays}

@@ -1,8 +1,8 @@
 use Rattle.std.proofs.Common.{◌≡◌, true}
 use Rattle.std.specs.List.{list_all}
 use Rattle.std.proofs.lemmas.Result.{err_from_is_err_and}
-use Rattle.beam_model.specs.Framed.{begins_bare, entries}
-use Rattle.beam_shapes.specs.Forced.{IsAssignment}
+use Rattle.beam_model.specs.Prelude.{begins_bare, entries}
+use Rattle.beam_shapes.specs.Prelude.{IsAssignment}
 use Rattle.beam_shapes.proofs.Forced.{fails_as}
 use Rattle.beam_shapes.proofs.Fits.{match_err, settles_from}
 use Rattle.beam_shapes.proofs.search.flow.Goals as goal

@@ -1,8 +1,7 @@
 use Rattle.std.proofs.Common.{◌≡◌, List, sym, subst, rules}
 use Rattle.beam_model.specs.declared.instruction.Instruction.{Instruction}
-use Rattle.beam_model.specs.Framed.{frame_effect, row_at, AreFramed}
-use Rattle.beam_shapes.specs.Shown.{IsSmall}
-use Rattle.beam_shapes.specs.Forced.{Fails, IsAssignment}
+use Rattle.beam_model.specs.Prelude.{frame_effect, row_at, AreFramed}
+use Rattle.beam_shapes.specs.Prelude.{IsSmall, Fails, IsAssignment}
 use Rattle.beam_shapes.specs.declared.error.FrameCheckError.{FrameCheckError}
 use Rattle.beam_shapes.specs.declared.error.FrameCheckError.TheVariants.{FrameMismatch}
 use Rattle.beam_shapes.proofs.Small.{small_rows}

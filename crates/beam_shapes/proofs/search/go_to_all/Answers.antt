@@ -1,20 +1,15 @@
-use Rattle.std.proofs.Common.{◌≡◌, ◌∙◌, ℕ, Bool, true, List, [], ◌∷◌, length, sym, subst, ap, refl, arith, rules}
+use Rattle.std.proofs.Common.{◌≡◌, ◌∙◌, ℕ, Bool, true, List, ◌∷◌, length, sym, subst, ap, refl, rules}
 use Rattle.std.specs.List.{list_all}
 use Rattle.std.proofs.lemmas.Bool.{and_from}
 use Rattle.std.proofs.lemmas.Result.{err_from_is_err_and}
-use Rattle.beam_model.specs.Framed.{Assignment, may_have, shape_of_label}
-use Rattle.beam_shapes.specs.Forced.{Forces, Fails, MayGo, assigned}
-use Rattle.beam_shapes.specs.Shown.{shown}
-use Rattle.beam_shapes.specs.Trees.{Parts}
+use Rattle.std.proofs.lemmas.List.{nil_from_length}
+use Rattle.beam_model.specs.Prelude.{Assignment, may_have, shape_of_label}
+use Rattle.beam_shapes.specs.Prelude.{Forces, Fails, MayGo, assigned, shown, Parts}
 use Rattle.beam_shapes.proofs.Forced.{forces_none, spreads_none, spreads_both}
 use Rattle.beam_shapes.proofs.Listed.{forces_next, fails_next, fails_now}
 use Rattle.beam_shapes.proofs.Fits.{does_err}
 use Rattle.beam_shapes.proofs.Looked.{label_up}
 use Rattle.beam_shapes.proofs.search.go_to_all.Goals as goal
-
-empty : (ls : List ℕ) → length ls ≡ 0 → ls ≡ []
-empty [] e = refl
-empty (n ∷ ls) e = absurd (omega (arith, e))
 
 pub returns-in_err-go_to-clause-does : goal.returns-in_err-go_to-clause-does
 returns-in_err-go_to-clause-does c =
@@ -54,7 +49,7 @@ pub returns-clause-does : goal.returns-clause-does
 returns-clause-does c =
     let f : Assignment → ℕ → Bool = λ a label. may_have (shown c.args.known.now.parts c.args.shape) (shape_of_label a c.args.code.now label) in
     let zero : length c.loop-label.rest.now ≡ 0 = search rules in
-    let none = empty c.loop-label.rest.now zero in
+    let none = nil_from_length c.loop-label.rest.now zero in
     let k = c.loop-label.known in
     c.loop-label.invariant.forces k (forces_none (λ a. list_all (f a) c.loop-label.rest.now ≡ true) k (ap (list_all (f (assigned k.known))) none))
 
@@ -62,6 +57,6 @@ pub returns-clause-goes : goal.returns-clause-goes
 returns-clause-goes c =
     let s = shown c.args.known.now.parts c.args.shape in
     let zero : length c.loop-label.rest.now ≡ 0 = search rules in
-    let none = empty c.loop-label.rest.now zero in
+    let none = nil_from_length c.loop-label.rest.now zero in
     let k = c.loop-label.known in
     c.loop-label.invariant.goes k (spreads_none k) (subst (λ (ls : List ℕ). MayGo (assigned k.known) c.args.code.now s ls) (sym none) refl)

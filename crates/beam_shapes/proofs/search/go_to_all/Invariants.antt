@@ -1,8 +1,7 @@
 use Rattle.std.proofs.Common.{◌≡◌, Bool, true, ℕ, length}
 use Rattle.std.specs.List.{list_all}
-use Rattle.beam_model.specs.Framed.{Assignment, may_have, shape_of_label}
-use Rattle.beam_shapes.specs.Forced.{ShapeState, assigned, Spreads, MayGo, Forces, Fails}
-use Rattle.beam_shapes.specs.Shown.{shown}
+use Rattle.beam_model.specs.Prelude.{Assignment, may_have, shape_of_label}
+use Rattle.beam_shapes.specs.Prelude.{ShapeState, assigned, Spreads, MayGo, Forces, Fails, shown}
 use Rattle.beam_shapes.specs.declared.error.FrameCheckError.{FrameCheckError}
 use Rattle.beam_shapes.proofs.search.go_to_all.Given as goal
 

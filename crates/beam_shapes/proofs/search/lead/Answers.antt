@@ -1,11 +1,8 @@
-use Rattle.std.proofs.Common.{◌≡◌, ◌∙◌, ℕ, Bool, true, List, Option, subst}
-use Rattle.std.specs.Prelude.{IfOk}
+use Rattle.std.proofs.Common.{◌≡◌, ◌∙◌, ℕ, Bool, true, List, Option, subst, IfOk}
 use Rattle.std.specs.List.{list_all}
 use Rattle.std.proofs.lemmas.Bool.{and_parts, and_from}
-use Rattle.beam_model.specs.Framed.{Assignment, begins_bare, in_list, called, targets, may_have, shape_of_label, leads}
-use Rattle.beam_shapes.specs.Forced.{Forces, Does, MayGo, assigned}
-use Rattle.beam_shapes.specs.Shown.{shown}
-use Rattle.beam_shapes.specs.Trees.{Parts}
+use Rattle.beam_model.specs.Prelude.{Assignment, begins_bare, in_list, called, targets, may_have, shape_of_label, leads}
+use Rattle.beam_shapes.specs.Prelude.{Forces, Does, MayGo, assigned, shown, Parts}
 use Rattle.beam_shapes.proofs.Listed.{does_as, does_both}
 use Rattle.beam_shapes.proofs.search.lead.Goals as goal
 

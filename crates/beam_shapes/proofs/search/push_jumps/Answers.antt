@@ -1,6 +1,6 @@
 use Rattle.std.proofs.Common.{◌≡◌, false}
 use Rattle.beam_shapes.specs.declared.named.OperandRole.TheVariants as part
-use Rattle.beam_shapes.specs.OperandRoles.{may_name_some}
+use Rattle.beam_shapes.specs.Prelude.{may_name_some}
 use Rattle.beam_shapes.proofs.Nothing.{no_jumps_more}
 use Rattle.beam_shapes.proofs.search.push_jumps.Goals as goal
 

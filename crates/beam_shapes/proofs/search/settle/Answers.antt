@@ -1,7 +1,7 @@
 use Rattle.std.proofs.Common.{◌∙◌, List, Option, length, ap, sym, subst, arith}
 use Rattle.std.proofs.lemmas.Result.{err_from_is_err_and}
-use Rattle.beam_model.specs.Framed.{Shape}
-use Rattle.beam_shapes.specs.Forced.{IsBelow, room, Forces, FitsAt}
+use Rattle.beam_model.specs.Prelude.{Shape}
+use Rattle.beam_shapes.specs.Prelude.{IsBelow, room, Forces, FitsAt}
 use Rattle.beam_shapes.proofs.Fits.{fails_at, fails_later, match_err}
 use Rattle.beam_shapes.proofs.Looked.{looked_step, looked_same}
 use Rattle.beam_shapes.proofs.search.settle.Goals as goal

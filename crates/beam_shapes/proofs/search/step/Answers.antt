@@ -1,8 +1,6 @@
 use Rattle.std.proofs.Common.{◌≡◌, true, rules}
-use Rattle.beam_model.specs.Listing.{is_row, next_row}
-use Rattle.beam_model.specs.Framed.{row_at}
-use Rattle.beam_shapes.specs.Forced.{assigned}
-use Rattle.beam_shapes.specs.Shown.{shown}
+use Rattle.beam_model.specs.Prelude.{is_row, next_row, row_at}
+use Rattle.beam_shapes.specs.Prelude.{assigned, shown}
 use Rattle.beam_shapes.proofs.Fits.{does_step}
 use Rattle.beam_shapes.proofs.Looked.{flows_step}
 use Rattle.beam_shapes.proofs.search.step.Goals as goal

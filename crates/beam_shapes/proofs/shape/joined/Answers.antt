@@ -1,12 +1,10 @@
-use Rattle.std.proofs.Common.{◌≡◌, ◌<◌, ℕ, true, false, Option, Some, ap, sym, ◌∙◌, subst}
-use Rattle.std.specs.Prelude.{not, option_map, is_some}
-use Rattle.std.proofs.lemmas.Bool.{true≢false, or_left, or_right}
-use Rattle.beam_model.specs.Framed.{any, first_tag, may_have}
-use Rattle.beam_shapes.specs.Forced.{LiesUnder, Rises, room_of}
-use Rattle.beam_shapes.specs.Shown.{shown}
+use Rattle.std.proofs.Common.{◌≡◌, ◌<◌, ℕ, true, false, Option, Some, ap, sym, ◌∙◌, subst, not, option_map, is_some, true≢false}
+use Rattle.std.proofs.lemmas.Bool.{or_left, or_right}
+use Rattle.beam_lemmas.proofs.Options.{not_some}
+use Rattle.beam_model.specs.Prelude.{any, first_tag, may_have}
+use Rattle.beam_shapes.specs.Prelude.{LiesUnder, Rises, room_of, shown}
 use Rattle.beam_shapes.specs.declared.shape.Shape.{Shape as Kept}
 use Rattle.beam_shapes.proofs.Lower.{never_both, any_both, room_falls, itself, rises_any}
-use Rattle.beam_shapes.proofs.Put.{not_some}
 use Rattle.beam_shapes.proofs.shape.joined.Goals as goal
 
 pub returns-then-is_some-clause-joined : goal.returns-then-is_some-clause-joined

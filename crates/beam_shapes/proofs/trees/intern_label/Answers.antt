@@ -1,6 +1,4 @@
-use Rattle.std.proofs.Common.{refl}
-use Rattle.std.specs.Prelude.{nat_eq}
-use Rattle.std.proofs.lemmas.Bool.{eqb-true, eq-eqb}
+use Rattle.std.proofs.Common.{refl, nat_eq, eqb-true, eq-eqb}
 use Rattle.beam_shapes.proofs.Interned.{interned}
 use Rattle.beam_shapes.proofs.trees.intern_label.Goals as goal
 

@@ -1,5 +1,5 @@
 use Rattle.std.proofs.Common.{◌≡◌, length}
-use Rattle.beam_shared.specs.Invariant.{entry_of}
+use Rattle.beam_shared.specs.Prelude.{entry_of}
 use Rattle.beam_shared.proofs.checked_out.entry_of.Given as goal
 
 abbrev pub invariant-loop-entry : goal.invariant-loop-entry

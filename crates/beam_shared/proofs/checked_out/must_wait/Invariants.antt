@@ -1,6 +1,5 @@
 use Rattle.std.proofs.Common.{◌≡◌, length, map}
-use Rattle.beam_shared.specs.Invariant.{checked_out_of}
-use Rattle.beam_shared.specs.Refusals.{must_wait}
+use Rattle.beam_shared.specs.Prelude.{checked_out_of, must_wait}
 use Rattle.beam_shared.proofs.checked_out.must_wait.Given as goal
 
 abbrev pub invariant-loop-entry : goal.invariant-loop-entry

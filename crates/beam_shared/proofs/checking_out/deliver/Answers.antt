@@ -3,8 +3,8 @@ use Rattle.beam_machine.specs.declared.debug.DebugEvent.TheVariants.{Node as Nod
 use Rattle.beam_machine.specs.declared.debug.DebugReply.TheVariants.{Node as NodeReply}
 use Rattle.beam_machine.specs.declared.event.Event.TheVariants.{Deliver}
 use Rattle.beam_machine.specs.declared.event.Reply.TheVariants.{Done}
-use Rattle.beam_debug.specs.Answers.{reply_of}
-use Rattle.beam_shared.specs.Node.{deliveries}
+use Rattle.beam_debug.specs.Prelude.{reply_of}
+use Rattle.beam_shared.specs.Prelude.{deliveries}
 use Rattle.beam_shared.proofs.HandedOut.{said_done}
 use Rattle.beam_shared.proofs.checking_out.deliver.Goals as goal
 

@@ -1,5 +1,5 @@
-use Rattle.std.specs.Prelude.{None}
-use Rattle.beam_debug.specs.Answers.{reply_of}
+use Rattle.std.proofs.Common.{None}
+use Rattle.beam_debug.specs.Prelude.{reply_of}
 use Rattle.beam_journal.specs.Entering.{entry_of}
 use Rattle.beam_shared.proofs.checking_out.deliver.Given as goal
 

@@ -1,5 +1,4 @@
-use Rattle.std.proofs.Common.{◌≡◌, ◌+◌, ◌≤◌, ◌<◌, Some, true, false, length, refl, sym, ap, subst, ◌∙◌, arith, true≢false}
-use Rattle.std.specs.Prelude.{slice_get, slice_index_or as get_or, slice_set as set}
+use Rattle.std.proofs.Common.{◌≡◌, ◌+◌, ◌≤◌, ◌<◌, Some, true, false, length, refl, sym, ap, subst, ◌∙◌, arith, true≢false, slice_get, slice_index_or as get_or, slice_set as set}
 use Rattle.beam_receipts.specs.Receipts.{of_seat}
 use Rattle.beam_shared.proofs.Seating.{AreNoted, none_noted, one_more, noted_twice, all_agree, all_below, all_distinct, written_back, read_is, seat_at}
 use Rattle.beam_shared.proofs.closing.are_distinct.Goals as goal

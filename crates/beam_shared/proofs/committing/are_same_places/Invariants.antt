@@ -1,5 +1,5 @@
 use Rattle.std.proofs.Common.{◌≡◌, length}
-use Rattle.beam_shared.specs.Returned.{same_places}
+use Rattle.beam_shared.specs.Prelude.{same_places}
 use Rattle.beam_shared.proofs.committing.are_same_places.Given as goal
 
 abbrev pub invariant-loop-spot : goal.invariant-loop-spot

@@ -1,6 +1,6 @@
 use Rattle.std.proofs.Common.{◌≡◌, length}
 use Rattle.std.specs.List.{list_any}
-use Rattle.beam_stack.specs.Words.{is_word_in}
+use Rattle.beam_stack.specs.Prelude.{is_word_in}
 use Rattle.beam_stack.proofs.word.are_in_any.Given as goal
 
 abbrev pub invariant-loop-word : goal.invariant-loop-word

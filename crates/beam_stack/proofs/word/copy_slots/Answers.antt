@@ -1,5 +1,5 @@
 use Rattle.std.proofs.Common.{◌≡◌, ◌++◌, [], ◌∷◌, Some, ap, sym, ◌∙◌, append_assoc}
-use Rattle.beam_stack.specs.Words.{slots_with, slot_in}
+use Rattle.beam_stack.specs.Prelude.{slots_with, slot_in}
 use Rattle.beam_stack.proofs.Lists.{with_word, held_last}
 use Rattle.beam_stack.proofs.word.copy_slots.Goals as goal
 

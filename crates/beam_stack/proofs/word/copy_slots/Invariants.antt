@@ -1,5 +1,5 @@
 use Rattle.std.proofs.Common.{◌≡◌, ◌++◌, [], length}
-use Rattle.beam_stack.specs.Words.{slots_with}
+use Rattle.beam_stack.specs.Prelude.{slots_with}
 use Rattle.beam_stack.proofs.word.copy_slots.Given as goal
 
 abbrev pub invariant-loop-word : goal.invariant-loop-word

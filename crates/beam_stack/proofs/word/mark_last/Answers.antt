@@ -1,5 +1,5 @@
 use Rattle.std.proofs.Common.{◌≡◌, ◌++◌, [], ◌∷◌, length, ap, ◌∙◌}
-use Rattle.beam_stack.specs.Words.{marked}
+use Rattle.beam_stack.specs.Prelude.{marked}
 use Rattle.beam_stack.proofs.Lists.{get_last, set_last}
 use Rattle.beam_stack.proofs.word.mark_last.Goals as goal
 

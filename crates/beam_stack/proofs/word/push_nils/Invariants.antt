@@ -1,5 +1,5 @@
 use Rattle.std.proofs.Common.{◌≡◌, ◌≤◌, ◌+◌, ◌-◌, ◌++◌, replicate, vec_len, vec_capacity}
-use Rattle.beam_term.specs.TermValue.{nil_term}
+use Rattle.beam_term.specs.Prelude.{nil_term}
 use Rattle.beam_stack.specs.Word as word
 use Rattle.beam_stack.proofs.word.push_nils.Given as goal
 

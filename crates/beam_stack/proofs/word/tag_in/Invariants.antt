@@ -1,6 +1,6 @@
 use Rattle.std.proofs.Common.{◌≡◌, [], length}
-use Rattle.beam_machine.specs.Row.{tag_in}
-use Rattle.beam_stack.specs.Words.{slots_with}
+use Rattle.beam_machine.specs.Prelude.{tag_in}
+use Rattle.beam_stack.specs.Prelude.{slots_with}
 use Rattle.beam_stack.proofs.word.tag_in.Given as goal
 
 abbrev pub invariant-loop-word : goal.invariant-loop-word

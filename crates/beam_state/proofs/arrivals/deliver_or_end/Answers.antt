@@ -1,8 +1,7 @@
-use Rattle.std.proofs.Common.{◌≡◌, [], slice_get, subst}
+use Rattle.std.proofs.Common.{◌≡◌, [], slice_get, subst, IfSome}
 use Rattle.std.proofs.Math.ListN.{set}
-use Rattle.std.specs.Prelude.{IfSome}
-use Rattle.beam_machine.specs.Next.{delivered}
-use Rattle.beam_proc.specs.Deliveries.{ending}
+use Rattle.beam_machine.specs.Prelude.{delivered}
+use Rattle.beam_proc.specs.Prelude.{ending}
 use Rattle.beam_state.proofs.Delivered.{Arrives, ends, goes_on, if_ok}
 use Rattle.beam_state.proofs.arrivals.deliver_or_end.Goals as goal
 

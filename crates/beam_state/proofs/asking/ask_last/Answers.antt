@@ -1,14 +1,10 @@
-use Rattle.std.proofs.Common.{◌≡◌, ◌<◌, length, ◌∙◌, Some, Ok, Err, slice_get, refl, sym, ap, subst, rules}
+use Rattle.std.proofs.Common.{◌≡◌, ◌<◌, length, ◌∙◌, Some, Ok, Err, slice_get, refl, sym, ap, subst, rules, IfSome}
 use Rattle.std.proofs.Math.ListN.{set}
-use Rattle.std.specs.Prelude.{IfSome}
 use Rattle.beam_model.specs.declared.exception.Exception.TheVariants as exception
 use Rattle.beam_machine.specs.declared.process.Status.TheVariants.{Running}
-use Rattle.beam_machine.specs.NodeNative.{answer_of}
-use Rattle.beam_machine.specs.Process.{Process, then_of}
-use Rattle.beam_machine.specs.Row.{answers}
-use Rattle.beam_state.specs.Asking.{CanDrop, IsAsking, AnswersNative, MadeBy, bare_if}
+use Rattle.beam_machine.specs.Prelude.{answer_of, Process, then_of, answers}
+use Rattle.beam_state.specs.Prelude.{CanDrop, IsAsking, AnswersNative, MadeBy, bare_if, AreLawful}
 use Rattle.beam_codesrv.specs.Posting.{all_taken}
-use Rattle.beam_state.specs.Posting.{AreLawful}
 use Rattle.beam_state.proofs.Askers.{goes_last, fault_answers}
 use Rattle.beam_state.proofs.Keeping.{answers_keep}
 use Rattle.beam_state.proofs.Lasting.{makes_is, told_alone, told_lawful, told_back, value_is, count_is, cur_is, fault_is, fault_stays, fault_counts, still_there, cur_within, cur_lives, cur_runs, cur_drops, cur_wrote}

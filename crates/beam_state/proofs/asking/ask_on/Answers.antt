@@ -1,13 +1,9 @@
-use Rattle.std.proofs.Common.{◌≡◌, ◌<◌, length, ◌∙◌, Some, Ok, Err, slice_get, refl, sym, ap, subst, rules}
+use Rattle.std.proofs.Common.{◌≡◌, ◌<◌, length, ◌∙◌, Some, Ok, Err, slice_get, refl, sym, ap, subst, rules, IfSome}
 use Rattle.std.proofs.Math.ListN.{set}
-use Rattle.std.specs.Prelude.{IfSome}
 use Rattle.beam_model.specs.declared.exception.Exception.TheVariants as exception
 use Rattle.beam_machine.specs.declared.process.Status.TheVariants.{Running}
-use Rattle.beam_machine.specs.NodeNative.{answer_of}
-use Rattle.beam_machine.specs.Process.{Process, then_of}
-use Rattle.beam_machine.specs.Row.{answers}
-use Rattle.beam_state.specs.Asking.{CanDrop, IsAsking, AnswersNative, MadeBy, bare_if}
-use Rattle.beam_state.specs.Posting.{AreLawful}
+use Rattle.beam_machine.specs.Prelude.{answer_of, Process, then_of, answers}
+use Rattle.beam_state.specs.Prelude.{CanDrop, IsAsking, AnswersNative, MadeBy, bare_if, AreLawful}
 use Rattle.beam_state.proofs.Askers.{left_within, left_lives, left_runs, left_drops, left_wrote, goes_on, fault_answers, fault_left}
 use Rattle.beam_state.proofs.Keeping.{answers_keep}
 use Rattle.beam_state.proofs.Lasting.{makes_is}

@@ -1,8 +1,7 @@
 use Rattle.std.proofs.Common.{◌<◌, ◌+◌, ◌^◌, rules, Ok, Err, refl, sym, ap, subst}
-use Rattle.beam_machine.specs.NodeNative.{answer_of}
+use Rattle.beam_machine.specs.Prelude.{answer_of}
 use Rattle.beam_model.specs.declared.native.NodeNative.TheVariants as native
-use Rattle.beam_state.specs.Returns.{IsNext}
-use Rattle.beam_state.specs.Posting.{AreLawful}
+use Rattle.beam_state.specs.Prelude.{IsNext, AreLawful}
 use Rattle.beam_state.proofs.Askers.{made_answers, fault_answers}
 use Rattle.beam_state.proofs.asking.make_ref.Goals as goal
 

@@ -1,6 +1,6 @@
 use Rattle.std.proofs.Common.{◌<◌, length, Ok, sym, ap, subst, ◌∙◌, rules}
 use Rattle.beam_machine.specs.declared.event.Then.TheVariants.{Ended}
-use Rattle.beam_state.specs.Posting.{AreLawful}
+use Rattle.beam_state.specs.Prelude.{AreLawful}
 use Rattle.beam_state.proofs.Askers.{Did, asker_runs, asker_within, end_said, went_on, waited}
 use Rattle.beam_state.proofs.Keeping.{answer_keeps}
 use Rattle.beam_state.proofs.asking.return_value.Goals as goal

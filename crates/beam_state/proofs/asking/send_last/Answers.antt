@@ -1,12 +1,8 @@
-use Rattle.std.proofs.Common.{◌≡◌, ◌<◌, length, ◌∙◌, Some, Ok, Err, slice_get, refl, sym, ap, subst, rules}
+use Rattle.std.proofs.Common.{◌≡◌, ◌<◌, length, ◌∙◌, Some, Ok, Err, slice_get, refl, sym, ap, subst, rules, IfSome}
 use Rattle.std.proofs.Math.ListN.{set}
-use Rattle.std.specs.Prelude.{IfSome}
 use Rattle.beam_machine.specs.declared.process.Status.TheVariants.{Running}
-use Rattle.beam_machine.specs.NodeNative.{answer_of}
-use Rattle.beam_machine.specs.Process.{Process, then_of}
-use Rattle.beam_machine.specs.Row.{answers}
-use Rattle.beam_state.specs.Asking.{CanDrop, bare_if}
-use Rattle.beam_state.specs.Returns.{Sends}
+use Rattle.beam_machine.specs.Prelude.{answer_of, Process, then_of, answers}
+use Rattle.beam_state.specs.Prelude.{CanDrop, bare_if, Sends}
 use Rattle.beam_state.proofs.Askers.{goes_last, fault_answers}
 use Rattle.beam_state.proofs.Keeping.{answers_keep}
 use Rattle.beam_state.proofs.Lasting.{sent_value, sent_counts, sent_is, sends_other, still_there, cur_within, cur_lives, cur_runs, cur_drops, cur_wrote}

@@ -1,10 +1,10 @@
 use Rattle.std.proofs.Common.{◌≡◌, ◌++◌, List, length, take, drop, map, sym, ap, subst, ◌∙◌, arith}
 use Rattle.std.proofs.lemmas.Grind.{common_steps}
 use Rattle.indexmap.specs.IndexMap.{get}
-use Rattle.beam_model.specs.SameText.{same_text}
-use Rattle.beam_machine.specs.Process.{Process}
+use Rattle.beam_machine.specs.Prelude.{Process}
+use Rattle.beam_model.specs.Prelude.{same_text}
 use Rattle.beam_codesrv.specs.Replacement.{node}
-use Rattle.beam_state.specs.Indexed.{entry_of, IsIndexed}
+use Rattle.beam_state.specs.Prelude.{entry_of, IsIndexed}
 use Rattle.beam_state.proofs.Indexing.{KeepNames, as_many, all_indexed, all_monitored_if, purged_keeps, if_err}
 use Rattle.beam_state.proofs.changes.purge.Goals as goal
 

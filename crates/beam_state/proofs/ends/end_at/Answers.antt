@@ -1,5 +1,5 @@
 use Rattle.std.proofs.Common.{◌≡◌, false, rules}
-use Rattle.beam_machine.specs.Process.{is_ended}
+use Rattle.beam_machine.specs.Prelude.{is_ended}
 use Rattle.beam_state.proofs.Ended.{ended_keeps, mid_within, mid_lives, ended_ok, ended_err}
 use Rattle.beam_state.proofs.ends.end_at.Goals as goal
 

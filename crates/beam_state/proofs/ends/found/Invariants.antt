@@ -1,6 +1,5 @@
-use Rattle.std.proofs.Common.{◌≡◌, ◌++◌, map}
-use Rattle.std.specs.Prelude.{filter}
-use Rattle.beam_state.specs.MonitorKeys.{is_key_of, is_told, down_of}
+use Rattle.std.proofs.Common.{◌≡◌, ◌++◌, map, filter}
+use Rattle.beam_state.specs.Prelude.{is_key_of, is_told, down_of}
 use Rattle.beam_state.proofs.ends.found.Given as goal
 
 abbrev pub invariant-loop-key : goal.invariant-loop-key

@@ -1,5 +1,4 @@
-use Rattle.std.proofs.Common.{◌≡◌, ◌<◌, ◌++◌, subst, arith}
-use Rattle.std.specs.Prelude.{IfOk}
+use Rattle.std.proofs.Common.{◌≡◌, ◌<◌, ◌++◌, subst, arith, IfOk}
 use Rattle.beam_state.proofs.ends.notices.Goals as goal
 
 pub returns-in-Some-clause-ok : goal.returns-in-Some-clause-ok

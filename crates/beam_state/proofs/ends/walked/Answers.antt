@@ -1,8 +1,7 @@
 use Rattle.std.proofs.Common.{◌≡◌, ◌<◌, ◌==◌, ◌++◌, cond, [], length, take, map, append-nil, append_assoc, sym, ap, subst, ◌∙◌, rules}
-use Rattle.beam_machine.specs.Process.{Process}
-use Rattle.beam_machine.specs.State.{downs}
-use Rattle.beam_state.specs.Posting.{notices_of}
-use Rattle.beam_laws.specs.Monitors.{AreRising}
+use Rattle.beam_machine.specs.Prelude.{Process, downs}
+use Rattle.beam_state.specs.Prelude.{notices_of}
+use Rattle.beam_laws.specs.Prelude.{AreRising}
 use Rattle.beam_state.proofs.Telling.{none_to_send, notices_more}
 use Rattle.beam_state.proofs.ends.walked.Goals as goal
 

@@ -1,5 +1,5 @@
 use Rattle.std.proofs.Common.{◌≡◌, ◌++◌, take}
-use Rattle.beam_state.specs.Posting.{notices_of}
+use Rattle.beam_state.specs.Prelude.{notices_of}
 use Rattle.beam_state.proofs.ends.walked.Given as goal
 
 abbrev pub invariant-loop-index : goal.invariant-loop-index

@@ -1,6 +1,5 @@
-use Rattle.std.proofs.Common.{◌≡◌, ◌<◌, false, length, slice_get, rules, subst}
-use Rattle.std.specs.Prelude.{IfSome}
-use Rattle.beam_machine.specs.Process.{is_ended}
+use Rattle.std.proofs.Common.{◌≡◌, ◌<◌, false, length, slice_get, rules, subst, IfSome}
+use Rattle.beam_machine.specs.Prelude.{is_ended}
 use Rattle.beam_state.proofs.Monitored.{DoesMonitor, below_there, keeps_ok, keeps_err}
 use Rattle.beam_state.proofs.natives.keep.Goals as goal
 

@@ -1,5 +1,5 @@
 use Rattle.std.proofs.Common.{sym, subst}
-use Rattle.beam_laws.specs.Monitors.{AreRising}
+use Rattle.beam_laws.specs.Prelude.{AreRising}
 use Rattle.beam_state.proofs.Monitored.{are_below}
 use Rattle.beam_state.proofs.natives.monitors.Goals as goal
 

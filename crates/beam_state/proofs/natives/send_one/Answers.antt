@@ -1,6 +1,6 @@
 use Rattle.std.proofs.Common.{Ok, sym, ap, subst, ◌∙◌}
-use Rattle.beam_machine.specs.NodeNative.{answer, answer_of}
-use Rattle.beam_state.specs.Returns.{Sends}
+use Rattle.beam_machine.specs.Prelude.{answer, answer_of}
+use Rattle.beam_state.specs.Prelude.{Sends}
 use Rattle.beam_state.proofs.natives.send_one.Goals as goal
 
 pub returns-in_ok-post_if-in-Ok : goal.returns-in_ok-post_if-in-Ok

@@ -1,5 +1,5 @@
 use Rattle.std.proofs.Common.{◌≡◌, take}
-use Rattle.beam_laws.specs.Private.{posted_all}
+use Rattle.beam_laws.specs.Prelude.{posted_all}
 use Rattle.beam_state.proofs.posting.post_all.Given as goal
 
 abbrev pub invariant-loop-index : goal.invariant-loop-index

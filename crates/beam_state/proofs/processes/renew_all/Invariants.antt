@@ -1,5 +1,5 @@
 use Rattle.std.proofs.Common.{◌≡◌, ◌++◌, map, take, drop}
-use Rattle.beam_state.specs.Indexed.{entry_of}
+use Rattle.beam_state.specs.Prelude.{entry_of}
 use Rattle.beam_state.proofs.processes.renew_all.Given as goal
 
 abbrev pub invariant-loop-index : goal.invariant-loop-index

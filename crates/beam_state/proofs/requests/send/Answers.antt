@@ -1,8 +1,7 @@
-use Rattle.std.proofs.Common.{◌≡◌, slice_get, refl, ◌∙◌, rules}
+use Rattle.std.proofs.Common.{◌≡◌, slice_get, refl, ◌∙◌, rules, IfSome}
 use Rattle.std.proofs.Math.ListN.{set}
-use Rattle.std.specs.Prelude.{IfSome}
-use Rattle.beam_machine.specs.Process.{Process, read_x}
-use Rattle.beam_proc.specs.Undoing.{stepped_back}
+use Rattle.beam_machine.specs.Prelude.{Process, read_x}
+use Rattle.beam_proc.specs.Prelude.{stepped_back}
 use Rattle.beam_state.proofs.Asked.{Steps, read_runs, sent, unsent}
 use Rattle.beam_state.proofs.requests.send.Goals as goal
 

@@ -1,5 +1,5 @@
-use Rattle.beam_step.proofs.Spots.{without_spots}
+use Rattle.beam_laws.proofs.Spots.{spot_none}
 use Rattle.beam_step.proofs.laws.rows_without_spots.Goals as goal
 
 pub returns : goal.returns
-returns c = without_spots
+returns c = spot_none

@@ -1,5 +1,5 @@
 use Rattle.std.proofs.Common.{refl, ap}
-use Rattle.beam_machine.specs.Process.{is_running}
+use Rattle.beam_machine.specs.Prelude.{is_running}
 use Rattle.beam_step.proofs.Rows.{rows_at_limit, rows_after, rows_ending, rows_at_spot, rows_cut, rows_asking, rows_refused, rows_sending}
 use Rattle.beam_step.proofs.row.some_rows.Goals as goal
 

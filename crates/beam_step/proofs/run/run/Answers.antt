@@ -1,6 +1,5 @@
 use Rattle.std.proofs.Common.{◌≡◌, ◌-◌, ◌≤◌, Some, false, arith, rules}
-use Rattle.beam_machine.specs.Process.{is_running}
-use Rattle.beam_machine.specs.Private.{after_row}
+use Rattle.beam_machine.specs.Prelude.{is_running, after_row}
 use Rattle.beam_step.specs.Slices.{DoesRows}
 use Rattle.beam_step.proofs.Finding.{made_finds}
 use Rattle.beam_step.proofs.Rows.{stopped, halted, all_done, rows_in_all}

@@ -1,5 +1,5 @@
 use Rattle.std.proofs.lemmas.Result.{err_from_is_err_and}
-use Rattle.beam_model.specs.Tables.{entries_at, literal_at}
+use Rattle.beam_model.specs.Prelude.{entries_at, literal_at}
 use Rattle.beam_tables.proofs.Loop.{goes_on, ends, is_done}
 use Rattle.beam_tables.proofs.literal.literal_entries.Goals as goal
 

@@ -1,5 +1,5 @@
 use Rattle.std.proofs.Common.{◌≡◌, ◌-◌}
-use Rattle.beam_model.specs.Tables.{entries_at, literal_at}
+use Rattle.beam_model.specs.Prelude.{entries_at, literal_at}
 use Rattle.beam_tables.proofs.Loop.{with_front}
 use Rattle.beam_tables.proofs.literal.literal_entries.Given as goal
 

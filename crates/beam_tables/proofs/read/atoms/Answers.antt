@@ -1,6 +1,5 @@
 use Rattle.std.proofs.Common.{arith}
-use Rattle.beam_model.specs.Tables.{table_atom_at}
-use Rattle.beam_model.specs.TablesLaws.{length-entries}
+use Rattle.beam_model.specs.Prelude.{table_atom_at, length-entries}
 use Rattle.beam_tables.proofs.read.atoms.Goals as goal
 
 pub invariant_of-result : goal.invariant_of-result

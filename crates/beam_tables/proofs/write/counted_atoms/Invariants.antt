@@ -1,5 +1,5 @@
 use Rattle.std.proofs.Common.{◌≡◌, drop}
-use Rattle.beam_model.specs.Tables.{atom_bytes, entries_bytes, table_bytes}
+use Rattle.beam_model.specs.Prelude.{atom_bytes, entries_bytes, table_bytes}
 use Rattle.beam_tables.specs.Readings.{with_before}
 use Rattle.beam_tables.proofs.write.counted_atoms.Given as goal
 

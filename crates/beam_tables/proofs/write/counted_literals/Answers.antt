@@ -1,9 +1,8 @@
-use Rattle.std.proofs.Common.{drop, take, subst, sym, arith, length-drop}
+use Rattle.std.proofs.Common.{drop, take, subst, sym, arith, length-drop, take_all}
 use Rattle.std.proofs.lemmas.Result.{err_from_is_err_and}
-use Rattle.std.proofs.lemmas.List.{take_all}
 use Rattle.std.proofs.lemmas.List.Elements.{All-more, All-same}
-use Rattle.beam_term.specs.TermValue.{IsTerm}
-use Rattle.beam_model.specs.Tables.{literal_bytes, table_bytes}
+use Rattle.beam_model.specs.Prelude.{literal_bytes, table_bytes}
+use Rattle.beam_term.specs.Prelude.{IsTerm}
 use Rattle.beam_tables.proofs.Writing.{goes_on, ends, is_done}
 use Rattle.beam_tables.proofs.write.counted_literals.Goals as goal
 

@@ -1,7 +1,7 @@
 use Rattle.std.proofs.Common.{◌≡◌, drop, take}
 use Rattle.std.specs.List.{All}
-use Rattle.beam_term.specs.TermValue.{IsTerm}
-use Rattle.beam_model.specs.Tables.{literal_bytes, entries_bytes, table_bytes}
+use Rattle.beam_model.specs.Prelude.{literal_bytes, entries_bytes, table_bytes}
+use Rattle.beam_term.specs.Prelude.{IsTerm}
 use Rattle.beam_tables.specs.Readings.{with_before}
 use Rattle.beam_tables.proofs.write.counted_literals.Given as goal
 

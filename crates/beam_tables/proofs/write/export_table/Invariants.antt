@@ -1,5 +1,5 @@
 use Rattle.std.proofs.Common.{◌≡◌, drop}
-use Rattle.beam_model.specs.Tables.{export_bytes, entries_bytes, table_bytes}
+use Rattle.beam_model.specs.Prelude.{export_bytes, entries_bytes, table_bytes}
 use Rattle.beam_tables.specs.Readings.{with_before}
 use Rattle.beam_tables.proofs.write.export_table.Given as goal
 

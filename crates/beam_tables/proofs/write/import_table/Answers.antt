@@ -1,6 +1,6 @@
 use Rattle.std.proofs.Common.{drop, arith, length-drop}
 use Rattle.std.proofs.lemmas.Result.{err_from_is_err_and}
-use Rattle.beam_model.specs.Tables.{import_bytes, table_bytes}
+use Rattle.beam_model.specs.Prelude.{import_bytes, table_bytes}
 use Rattle.beam_tables.proofs.Writing.{goes_on, ends, is_done}
 use Rattle.beam_tables.proofs.write.import_table.Goals as goal
 

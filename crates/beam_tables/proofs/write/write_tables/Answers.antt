@@ -1,6 +1,5 @@
 use Rattle.std.proofs.Common.{rules}
-use Rattle.beam_model.specs.Tables.{tables_bytes}
-use Rattle.beam_model.specs.TablesLaws.{tables_again}
+use Rattle.beam_model.specs.Prelude.{tables_bytes, tables_again}
 use Rattle.beam_etf.proofs.RoundTrip.{written_back}
 use Rattle.beam_tables.specs.Written.{chunks_of, tables_of}
 use Rattle.beam_tables.proofs.write.write_tables.Goals as goal

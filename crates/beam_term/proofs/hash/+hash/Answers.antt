@@ -1,11 +1,7 @@
-use Rattle.std.proofs.Common.{◌++◌, ℕ, ap, sym, ◌∙◌, arith}
-use Rattle.std.specs.Prelude.{fold}
+use Rattle.std.proofs.Common.{◌++◌, ℕ, ap, sym, ◌∙◌, arith, fold}
 use Rattle.std.specs.Hash as fed
 use Rattle.std.specs.Hash.DefaultHasher as sip
-use Rattle.beam_term.specs.TermValue.{TermValue, terms_of, depth_of}
-use Rattle.beam_term.specs.TermFalls.{most_size-le}
-use Rattle.beam_term.specs.Elements.{count_of-terms_of}
-use Rattle.beam_term.specs.Hashed.{term_fed, terms_fed}
+use Rattle.beam_term.specs.Prelude.{TermValue, terms_of, depth_of, most_size-le, count_of-terms_of, term_fed, terms_fed}
 use Rattle.beam_term.proofs.hash.+hash.Goals as goal
 
 pub hash_term-hash_items-requires : goal.hash_term-hash_items-requires

@@ -1,8 +1,6 @@
-use Rattle.std.proofs.Common.{◌≡◌, ◌≤◌, drop}
-use Rattle.std.specs.Prelude.{fold}
+use Rattle.std.proofs.Common.{◌≡◌, ◌≤◌, drop, fold}
 use Rattle.std.specs.Hash.DefaultHasher as sip
-use Rattle.beam_term.specs.TermValue.{terms_of, depth_of}
-use Rattle.beam_term.specs.Hashed.{term_fed, terms_fed}
+use Rattle.beam_term.specs.Prelude.{terms_of, depth_of, term_fed, terms_fed}
 use Rattle.beam_term.proofs.hash.+hash.Given as goal
 
 -- the hash so far, fed with the rest, is that of the whole

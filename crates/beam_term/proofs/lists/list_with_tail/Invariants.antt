@@ -1,5 +1,5 @@
 use Rattle.std.proofs.Common.{◌≡◌, length}
-use Rattle.beam_term.specs.TermValue.{list_before}
+use Rattle.beam_term.specs.Prelude.{list_before}
 use Rattle.beam_term.proofs.lists.list_with_tail.Given as goal
 
 -- the remaining elements before the list so far are the whole list

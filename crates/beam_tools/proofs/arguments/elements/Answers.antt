@@ -1,5 +1,5 @@
 use Rattle.std.proofs.Common.{arith, rules, ◌≡◌, ◌∙◌, ap, List, length}
-use Rattle.beam_term.specs.TermValue.{TermValue, list_before, pair_term}
+use Rattle.beam_term.specs.Prelude.{TermValue, list_before, pair_term}
 use Rattle.beam_tools.proofs.Elements.{list_before-push, longer, no_list}
 use Rattle.beam_tools.proofs.arguments.elements.Goals as goal
 

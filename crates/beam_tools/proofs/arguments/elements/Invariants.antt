@@ -1,5 +1,5 @@
 use Rattle.std.proofs.Common.{◌≡◌, ◌≤◌, vec_len}
-use Rattle.beam_term.specs.TermValue.{list_before}
+use Rattle.beam_term.specs.Prelude.{list_before}
 use Rattle.beam_tools.proofs.arguments.elements.Given as goal
 
 abbrev pub invariant-loop-items : goal.invariant-loop-items

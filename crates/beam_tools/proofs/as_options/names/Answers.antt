@@ -2,8 +2,7 @@ use Rattle.std.proofs.Common.{refl, ◌≡◌, List}
 use Rattle.std.proofs.lemmas.Result.{IfErr-weaker}
 use Rattle.clap.specs.Walk.{texts}
 use Rattle.clap.specs.Words.{Row, found_of, matches_of, rows_of}
-use Rattle.beam_tools.specs.Assembler.{as_app}
-use Rattle.beam_tools.specs.Lines.{NamesStop, StopSays}
+use Rattle.beam_tools.specs.Prelude.{as_app, NamesStop, StopSays}
 use Rattle.beam_tools.proofs.Stops.{names_say}
 use Rattle.beam_tools.proofs.as_options.names.Goals as goal
 

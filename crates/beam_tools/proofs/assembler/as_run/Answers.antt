@@ -1,7 +1,6 @@
 use Rattle.std.proofs.Common.{subst, List, ℕ}
 use Rattle.clap.specs.Walk.{texts}
-use Rattle.beam_tools.specs.Assembler.{IsReportedBeside, as_app}
-use Rattle.beam_tools.specs.Lines.{IsAnswer}
+use Rattle.beam_tools.specs.Prelude.{IsReportedBeside, as_app, IsAnswer}
 use Rattle.beam_tools.specs.declared.program.Program.TheVariants.{Assembler}
 use Rattle.beam_tools.proofs.Left.{same_above}
 use Rattle.beam_tools.proofs.assembler.as_run.Goals as goal

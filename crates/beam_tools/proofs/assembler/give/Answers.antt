@@ -1,9 +1,8 @@
 use Rattle.std.proofs.Common.{inr, refl}
 use Rattle.std.proofs.lemmas.Result.{IfErr-weaker}
 use Rattle.clap.specs.Walk.{texts}
-use Rattle.beam_tools.specs.Assembler.{FaultSays, as_app}
-use Rattle.beam_tools.specs.Files.{Contents}
-use Rattle.beam_tools.specs.Lines.{IsAnswer, LineFault}
+use Rattle.beam_tools.specs.Assembler.{FaultSays}
+use Rattle.beam_tools.specs.Prelude.{as_app, Contents, IsAnswer, LineFault}
 use Rattle.beam_tools.specs.declared.program.Program.TheVariants.{Assembler}
 use Rattle.beam_tools.proofs.Faults.{as_line_says}
 use Rattle.beam_tools.proofs.Left.{left_by_name}

@@ -2,7 +2,7 @@ use Rattle.std.proofs.Common.{ap, subst, sym, ◌≡◌, ◌∙◌, ◌⊎◌}
 use Rattle.clap.specs.Walk.{texts}
 use Rattle.clap.specs.Words.{App, HasMatchesOf, IsAmong, app_of, fault_of, is_simple_and_free}
 use Rattle.clap.specs.declared.error.kind.ErrorKind.TheVariants.{OutOfMemory}
-use Rattle.beam_tools.specs.Rules.{app_by}
+use Rattle.beam_tools.specs.Prelude.{app_by}
 use Rattle.beam_tools.proofs.Stops.{stop_said}
 use Rattle.beam_tools.proofs.command.parse.Goals as goal
 

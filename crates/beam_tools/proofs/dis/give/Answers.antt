@@ -1,9 +1,8 @@
 use Rattle.std.proofs.Common.{inl, inr}
 use Rattle.std.proofs.lemmas.Result.{IfErr-weaker}
 use Rattle.clap.specs.Walk.{texts}
-use Rattle.beam_tools.specs.Dis.{FaultSays, IsListingTextOf, Prints, dis_app}
-use Rattle.beam_tools.specs.Files.{Contents}
-use Rattle.beam_tools.specs.Lines.{IsAnswer, LineFault}
+use Rattle.beam_tools.specs.Dis.{FaultSays, Prints}
+use Rattle.beam_tools.specs.Prelude.{IsListingTextOf, dis_app, Contents, IsAnswer, LineFault}
 use Rattle.beam_tools.specs.declared.program.Program.TheVariants.{Disassembler}
 use Rattle.beam_tools.proofs.Faults.{dis_line_says}
 use Rattle.beam_tools.proofs.Left.{dis_left_more, dis_line_left}

@@ -1,7 +1,6 @@
 use Rattle.std.proofs.Common.{refl}
-use Rattle.beam_model.specs.ListingText.{listing_text}
-use Rattle.beam_tools.specs.Dis.{IsListingTextOf}
-use Rattle.beam_tools.specs.Files.{Contents}
+use Rattle.beam_model.specs.Prelude.{listing_text}
+use Rattle.beam_tools.specs.Prelude.{IsListingTextOf, Contents}
 use Rattle.beam_tools.proofs.Left.{dis_left_begun, stops_says, unlisted}
 use Rattle.beam_tools.proofs.Stops.{done_more}
 use Rattle.beam_tools.proofs.dis.print_file.Goals as goal

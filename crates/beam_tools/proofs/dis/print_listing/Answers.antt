@@ -1,7 +1,8 @@
-use Rattle.beam_model.specs.ListingText.{listing_text}
-use Rattle.beam_tools.proofs.Left.{err_always, flushed}
+use Rattle.beam_lemmas.proofs.AnyError.{on_err}
+use Rattle.beam_model.specs.Prelude.{listing_text}
+use Rattle.beam_tools.proofs.Left.{flushed}
 use Rattle.beam_tools.proofs.dis.print_listing.Goals as goal
 
 pub returns-in-Ok-clause-begun : goal.returns-in-Ok-clause-begun
 returns-in-Ok-clause-begun g c =
-    err_always c.flush.result _ (flushed _ _ _ (listing_text c.args.listing.now) c.in-Ok.ensures.written c.flush.ensures.kept)
+    on_err c.flush.result _ (flushed _ _ _ (listing_text c.args.listing.now) c.in-Ok.ensures.written c.flush.ensures.kept)

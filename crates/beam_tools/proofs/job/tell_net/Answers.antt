@@ -1,6 +1,6 @@
 use Rattle.std.proofs.Common.{rules, ◌≡◌, ◌∙◌, ap, codes, ℕ, List, ◌++◌}
-use Rattle.std.specs.Io.KnownBytes.{append_known}
 use Rattle.std.specs.Fmt.{decimal}
+use Rattle.std.specs.Io.KnownBytes.{append_known}
 use Rattle.beam_tools.proofs.job.tell_net.Goals as goal
 
 pub returns : goal.returns

@@ -1,6 +1,6 @@
 use Rattle.std.proofs.Common.{rules, ◌≡◌, ◌∙◌, ap, codes, ℕ, List, ◌++◌}
 use Rattle.std.specs.Io.KnownBytes.{append_known}
-use Rattle.beam_tools.specs.Names.{newline, session_name}
+use Rattle.beam_tools.specs.Prelude.{newline, session_name}
 use Rattle.beam_tools.proofs.job.tell_session.Goals as goal
 
 pub returns : goal.returns

@@ -1,6 +1,6 @@
 use Rattle.std.proofs.Common.{rules, ◌≡◌, ◌∙◌, ap, codes, ℕ, List, ◌++◌}
 use Rattle.std.specs.Io.KnownBytes.{append_known}
-use Rattle.beam_tools.specs.Names.{newline, refusal_name}
+use Rattle.beam_tools.specs.Prelude.{newline, refusal_name}
 use Rattle.beam_tools.proofs.job.tell_start.Goals as goal
 
 pub returns : goal.returns

@@ -1,7 +1,7 @@
 use Rattle.std.proofs.Common.{◌≡◌, ◌∙◌, ap, List, Option, ℕ}
 use Rattle.std.specs.Io.KnownBytes.{append_known}
 use Rattle.clap.specs.Walk.{texts}
-use Rattle.beam_tools.specs.Report.{report_text}
+use Rattle.beam_tools.specs.Prelude.{report_text}
 use Rattle.beam_tools.specs.declared.program.Program.TheVariants.{Assembler}
 use Rattle.beam_tools.proofs.AppendedTexts.{two}
 use Rattle.beam_tools.proofs.listing_report.report_beside.Goals as goal

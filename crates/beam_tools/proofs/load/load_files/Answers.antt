@@ -1,6 +1,6 @@
 use Rattle.std.proofs.Common.{◌∙◌, [], Bor, get_or}
 use Rattle.clap.specs.Walk.{Text}
-use Rattle.beam_tools.specs.Files.{Contents}
+use Rattle.beam_tools.specs.Prelude.{Contents}
 use Rattle.beam_tools.proofs.Loaded.{first_unloaded, one_more_load, same_file}
 use Rattle.beam_tools.proofs.load.load_files.Goals as goal
 

@@ -1,7 +1,7 @@
 use Rattle.std.proofs.Common.{◌≡◌, List, take}
 use Rattle.clap.specs.Walk.{Text, texts}
-use Rattle.beam_model.specs.Listing.{Listing}
-use Rattle.beam_tools.specs.Call.{AreFilesOf, Loads}
+use Rattle.beam_model.specs.Prelude.{Listing}
+use Rattle.beam_tools.specs.Prelude.{AreFilesOf, Loads}
 use Rattle.beam_tools.proofs.load.load_files.Given as goal
 
 abbrev pub invariant-loop-name : goal.invariant-loop-name

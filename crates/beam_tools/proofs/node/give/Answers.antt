@@ -1,10 +1,8 @@
 use Rattle.std.proofs.Common.{◌≡◌, inl, inr, refl, rules, Some}
 use Rattle.std.proofs.lemmas.Result.{IfErr-weaker}
 use Rattle.clap.specs.Walk.{texts}
-use Rattle.beam_tools.specs.Files.{Contents}
-use Rattle.beam_tools.specs.Lines.{IsAnswer, LineFault}
-use Rattle.beam_tools.specs.Node.{FaultSays, IsValueLine, Prints, RunSays, value_line}
-use Rattle.beam_tools.specs.Options.{call, call_line, line_of, node_app}
+use Rattle.beam_tools.specs.Prelude.{Contents, IsAnswer, LineFault, IsValueLine, RunSays, value_line, call, call_line, line_of, node_app}
+use Rattle.beam_tools.specs.Node.{FaultSays, Prints}
 use Rattle.beam_tools.specs.declared.program.Program.TheVariants.{Node}
 use Rattle.beam_tools.proofs.Faults.{node_line_says, run_says}
 use Rattle.beam_tools.proofs.Jobs.{no_service, printed_done, printed_fails, printed_left}

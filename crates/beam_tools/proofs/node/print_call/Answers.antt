@@ -1,7 +1,5 @@
 use Rattle.std.proofs.Common.{◌≡◌}
-use Rattle.beam_tools.specs.Files.{Contents}
-use Rattle.beam_tools.specs.Node.{IsValueLine, value_line}
-use Rattle.beam_tools.specs.Options.{call_line}
+use Rattle.beam_tools.specs.Prelude.{Contents, IsValueLine, value_line, call_line}
 use Rattle.beam_tools.proofs.Left.{left_more, untouched}
 use Rattle.beam_tools.proofs.node.print_call.Goals as goal
 

@@ -1,5 +1,5 @@
 use Rattle.std.proofs.Common.{rules, ◌≡◌}
-use Rattle.beam_tools.specs.Node.{value_line}
+use Rattle.beam_tools.specs.Prelude.{value_line}
 use Rattle.beam_tools.proofs.Left.{left_begun}
 use Rattle.beam_tools.proofs.node.print_value.Goals as goal
 

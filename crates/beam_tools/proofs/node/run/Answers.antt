@@ -1,7 +1,5 @@
 use Rattle.std.proofs.lemmas.Result.{IfErr-weaker}
-use Rattle.beam_tools.specs.Files.{Contents}
-use Rattle.beam_tools.specs.Node.{OutcomeSays, RunSays}
-use Rattle.beam_tools.specs.Options.{call_line}
+use Rattle.beam_tools.specs.Prelude.{Contents, OutcomeSays, RunSays, call_line}
 use Rattle.beam_tools.proofs.Faults.{call_unprinted, outcome_runs}
 use Rattle.beam_tools.proofs.node.run.Goals as goal
 

@@ -1,10 +1,8 @@
-use Rattle.std.proofs.Common.{ap, sym, ◌≡◌, ◌∙◌, refl, true, List, Option}
-use Rattle.std.specs.Prelude.{option_and_then}
+use Rattle.std.proofs.Common.{ap, sym, ◌≡◌, ◌∙◌, refl, true, List, Option, option_and_then}
 use Rattle.std.proofs.lemmas.Result.{IfErr-weaker, IfOk-weaker}
 use Rattle.clap.specs.Walk.{texts}
 use Rattle.clap.specs.Words.{Row, Text, is_simple, is_simple_and_free, subcommand_of, subcommand_rows_of}
-use Rattle.beam_tools.specs.Lines.{OptionsStop, StopSays}
-use Rattle.beam_tools.specs.Options.{line_in, node_app}
+use Rattle.beam_tools.specs.Prelude.{OptionsStop, StopSays, line_in, node_app}
 use Rattle.beam_tools.proofs.Stops.{always, options_say}
 use Rattle.beam_tools.proofs.options.options.Goals as goal
 

@@ -1,9 +1,7 @@
-use Rattle.std.proofs.Common.{codes, ap, ◌≡◌, ◌∙◌, List, Some}
-use Rattle.std.specs.Prelude.{option_and_then}
+use Rattle.std.proofs.Common.{codes, ap, ◌≡◌, ◌∙◌, List, Some, option_and_then}
 use Rattle.std.proofs.lemmas.Result.{IfErr-weaker, IfOk-weaker}
 use Rattle.clap.specs.Words.{Row, found_of, rows_of, subcommand_rows_of}
-use Rattle.beam_tools.specs.Lines.{IsNoLine, OptionsStop, ServeStops}
-use Rattle.beam_tools.specs.Options.{call_in, line_in}
+use Rattle.beam_tools.specs.Prelude.{IsNoLine, OptionsStop, ServeStops, call_in, line_in}
 use Rattle.beam_tools.proofs.Entered.{entered_as}
 use Rattle.beam_tools.proofs.Stops.{call_stops, serve_stops}
 use Rattle.beam_tools.proofs.options.options_in.Goals as goal

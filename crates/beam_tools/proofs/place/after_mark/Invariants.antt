@@ -1,5 +1,5 @@
 use Rattle.std.proofs.Common.{◌≡◌, length}
-use Rattle.beam_tools.specs.Place.{after_mark}
+use Rattle.beam_tools.specs.Prelude.{after_mark}
 use Rattle.beam_tools.proofs.place.after_mark.Given as goal
 
 -- no mark was passed

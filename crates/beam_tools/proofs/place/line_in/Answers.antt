@@ -1,5 +1,5 @@
 use Rattle.std.proofs.Common.{arith, ◌+◌, ◌-◌, ◌≡◌, ◌∙◌, ap, sym, ℕ}
-use Rattle.beam_tools.specs.Place.{after_lines, up_to}
+use Rattle.beam_tools.specs.Prelude.{after_lines, up_to}
 use Rattle.beam_tools.proofs.TextLines.{line_passed, no_line_left}
 use Rattle.beam_tools.proofs.place.line_in.Goals as goal
 

@@ -1,5 +1,5 @@
 use Rattle.std.proofs.Common.{◌≡◌, ◌-◌}
-use Rattle.beam_tools.specs.Place.{after_lines}
+use Rattle.beam_tools.specs.Prelude.{after_lines}
 use Rattle.beam_tools.proofs.place.line_in.Given as goal
 
 -- passing the lines that are left, from the rest on, leads where passing all of them leads from the text

@@ -1,8 +1,7 @@
 use Rattle.std.proofs.Common.{rules, ◌≡◌, ◌∙◌, ap, codes, ℕ, List, ◌++◌}
-use Rattle.std.specs.Io.KnownBytes.{append_known}
 use Rattle.std.specs.Fmt.{decimal}
-use Rattle.beam_tools.specs.Names.{newline}
-use Rattle.beam_tools.specs.Place.{byte_text}
+use Rattle.std.specs.Io.KnownBytes.{append_known}
+use Rattle.beam_tools.specs.Prelude.{newline, byte_text}
 use Rattle.beam_tools.proofs.AppendedTexts.{one_three}
 use Rattle.beam_tools.proofs.place.tell_opcode.Goals as goal
 

@@ -1,5 +1,5 @@
 use Rattle.std.proofs.Common.{◌≡◌, ◌++◌, ◌-◌, length, take, drop}
-use Rattle.beam_tools.specs.Place.{up_to}
+use Rattle.beam_tools.specs.Prelude.{up_to}
 use Rattle.beam_tools.proofs.place.up_to.Given as goal
 
 -- no mark was passed

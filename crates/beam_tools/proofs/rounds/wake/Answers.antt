@@ -1,7 +1,6 @@
 use Rattle.std.proofs.Common.{arith, ◌+◌, ◌-◌, ◌≡◌, ◌∙◌, ap, sym, ℕ}
-use Rattle.beam_machine.specs.NodeNative.{most_processes}
-use Rattle.beam_machine.specs.State.{State}
-use Rattle.beam_tools.specs.Rounds.{woken}
+use Rattle.beam_machine.specs.Prelude.{most_processes, State}
+use Rattle.beam_tools.specs.Prelude.{woken}
 use Rattle.beam_tools.proofs.Turns.{woken_due, woken_late, woken_none, woken_zero}
 use Rattle.beam_tools.proofs.rounds.wake.Goals as goal
 

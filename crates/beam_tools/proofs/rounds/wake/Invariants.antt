@@ -1,6 +1,6 @@
 use Rattle.std.proofs.Common.{◌≡◌, ◌-◌}
-use Rattle.beam_machine.specs.NodeNative.{most_processes}
-use Rattle.beam_tools.specs.Rounds.{woken}
+use Rattle.beam_machine.specs.Prelude.{most_processes}
+use Rattle.beam_tools.specs.Prelude.{woken}
 use Rattle.beam_tools.proofs.rounds.wake.Given as goal
 
 abbrev pub invariant-loop : goal.invariant-loop

@@ -1,5 +1,5 @@
 use Rattle.clap.specs.Words.{app_of}
-use Rattle.beam_tools.specs.Rules.{app_by}
+use Rattle.beam_tools.specs.Prelude.{app_by}
 use Rattle.beam_tools.proofs.Rows.{subcommand_more}
 use Rattle.beam_tools.proofs.table.command.Goals as goal
 

@@ -1,6 +1,6 @@
 use Rattle.std.proofs.Common.{drop, ◌≡◌}
 use Rattle.clap.specs.Words.{app_of}
-use Rattle.beam_tools.specs.Rules.{app_by, with_subcommands}
+use Rattle.beam_tools.specs.Prelude.{app_by, with_subcommands}
 use Rattle.beam_tools.proofs.table.command.Given as goal
 
 abbrev pub invariant-loop-row : goal.invariant-loop-row

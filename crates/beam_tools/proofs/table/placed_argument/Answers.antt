@@ -1,5 +1,4 @@
-use Rattle.std.proofs.Common.{ap, ◌∙◌}
-use Rattle.std.specs.Prelude.{Some, length, map}
+use Rattle.std.proofs.Common.{ap, ◌∙◌, Some, length, map}
 use Rattle.clap.specs.Words.{Rule, rule_of}
 use Rattle.clap.specs.declared.builder.arg.Arg.{Arg}
 use Rattle.beam_tools.proofs.table.placed_argument.Goals as goal

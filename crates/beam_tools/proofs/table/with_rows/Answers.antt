@@ -1,7 +1,6 @@
-use Rattle.std.proofs.Common.{ap, ap₂, Bool, ◌∙◌}
-use Rattle.std.specs.Prelude.{◌||◌}
+use Rattle.std.proofs.Common.{ap, ap₂, Bool, ◌∙◌, ◌||◌}
 use Rattle.clap.specs.Words.{App, app_of, with_rule}
-use Rattle.beam_tools.specs.Rules.{with_rows}
+use Rattle.beam_tools.specs.Prelude.{with_rows}
 use Rattle.beam_tools.proofs.Rows.{row_more}
 use Rattle.beam_tools.proofs.table.with_rows.Goals as goal
 

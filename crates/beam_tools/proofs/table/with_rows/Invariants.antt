@@ -1,7 +1,7 @@
 use Rattle.std.proofs.Common.{drop, false, ◌≡◌}
 use Rattle.clap.specs.Words.{app_of}
 use Rattle.clap.specs.declared.builder.command.Command.TheViews.{out-Command as fields_of}
-use Rattle.beam_tools.specs.Rules.{with_rows}
+use Rattle.beam_tools.specs.Prelude.{with_rows}
 use Rattle.beam_tools.proofs.table.with_rows.Given as goal
 
 abbrev pub invariant-loop-row : goal.invariant-loop-row

@@ -1,9 +1,8 @@
-use Rattle.std.proofs.Common.{arith, ◌≡◌, ◌∙◌, ap}
-use Rattle.std.specs.Prelude.{option_and_then}
+use Rattle.std.proofs.Common.{arith, ◌≡◌, ◌∙◌, ap, option_and_then}
 use Rattle.std.specs.Str.Parse.{ParsesUnsigned, ExplainsUnsignedError, HasUnsignedDigitsIfOk}
 use Rattle.clap.specs.Words.{found_of, one_of, one_text, rows_of}
 use Rattle.clap.proofs.WalkLemmas.{one_text-rows}
-use Rattle.beam_tools.specs.Options.{number_of}
+use Rattle.beam_tools.specs.Prelude.{number_of}
 use Rattle.beam_tools.proofs.Numbers.{option_read}
 use Rattle.beam_tools.proofs.values.number_of.Goals as goal
 

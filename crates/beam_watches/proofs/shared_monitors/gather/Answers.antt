@@ -1,5 +1,4 @@
-use Rattle.std.proofs.Common.{rules, ◌≡◌, ◌++◌, ◌∷◌, sym, ap, ◌∙◌}
-use Rattle.std.proofs.lemmas.List.{append_assoc}
+use Rattle.std.proofs.Common.{rules, ◌≡◌, ◌++◌, ◌∷◌, sym, ap, ◌∙◌, append_assoc}
 use Rattle.beam_watches.proofs.shared_monitors.gather.Goals as goal
 
 pub loop-reference-preserved : goal.loop-reference-preserved

@@ -1,7 +1,7 @@
-use Rattle.std.specs.Prelude.{length, Some}
+use Rattle.std.proofs.Common.{length, Some}
 use Rattle.beam_machine.specs.declared.debug.DebugEvent.TheVariants.{Resume}
-use Rattle.beam_machine.specs.declared.debug.DebugReply.TheVariants.{Node}
 use Rattle.beam_machine.specs.declared.event.Reply.TheVariants.{Done}
+use Rattle.beam_machine.specs.declared.debug.DebugReply.TheVariants.{Node}
 use Rattle.beam_receipts.specs.Receipts.{no_entry, no_origin}
 use Rattle.sched_tests.proofs.receipts.scenario.Given as goal
 

@@ -1,5 +1,5 @@
 use Rattle.std.proofs.Common.{ap, ◌∙◌}
-use Rattle.beam_agenda.specs.First.{first_ready}
+use Rattle.beam_agenda.specs.Prelude.{first_ready}
 use Rattle.beam_agenda.proofs.FlagsAndTimes.{ready_from, ready_within}
 use Rattle.beam_agenda.proofs.agenda.Agenda.first_ready.Goals as goal
 

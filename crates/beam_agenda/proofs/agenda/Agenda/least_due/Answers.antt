@@ -1,6 +1,5 @@
-use Rattle.std.proofs.Common.{length, sym, ap, ◌∙◌, arith}
-use Rattle.std.specs.Prelude.{Some, None}
-use Rattle.beam_agenda.specs.First.{least_due}
+use Rattle.std.proofs.Common.{length, sym, ap, ◌∙◌, arith, Some, None}
+use Rattle.beam_agenda.specs.Prelude.{least_due}
 use Rattle.beam_agenda.proofs.FlagsAndTimes.{length-entries_of, no_least, least_is}
 use Rattle.beam_agenda.proofs.agenda.Agenda.least_due.Goals as goal
 

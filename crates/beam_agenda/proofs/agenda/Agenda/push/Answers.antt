@@ -1,9 +1,7 @@
 use Rattle.std.proofs.Common.{◌≡◌, [], ◌∷◌, ◌++◌, length, rules, sym, ap, subst, ◌∙◌, arith}
 use Rattle.std.proofs.Math.ListN.{set}
 use Rattle.std.specs.Int.{from_bool}
-use Rattle.beam_agenda.specs.Entries.{earlier}
-use Rattle.beam_agenda.specs.Least.{least_of}
-use Rattle.beam_agenda.specs.FlagsAndTimes.{entries_of, Covers}
+use Rattle.beam_agenda.specs.Prelude.{earlier, least_of, entries_of, Covers}
 use Rattle.beam_agenda.proofs.FlagsAndTimes.{room_made, pushed, Covers-push, least_of-append}
 use Rattle.beam_agenda.proofs.agenda.Agenda.push.Goals as goal
 

@@ -3,7 +3,7 @@ use Rattle.std.proofs.Math.ListN.{set}
 use Rattle.std.specs.Int.{from_bool}
 use Rattle.beam_agenda.specs.declared.agenda.Agenda.TheInside.{Inside}
 use Rattle.beam_agenda.specs.declared.entry.AgendaEntry.{AgendaEntry}
-use Rattle.beam_agenda.specs.FlagsAndTimes.{entries_of, Covers}
+use Rattle.beam_agenda.specs.Prelude.{entries_of, Covers}
 use Rattle.beam_agenda.proofs.FlagsAndTimes.{length-entries_of, length-Covers, set_same, changed, Covers-set}
 use Rattle.beam_agenda.proofs.Same.{same_due}
 use Rattle.beam_agenda.proofs.agenda.Agenda.set.Goals as goal

@@ -1,8 +1,6 @@
-use Rattle.std.proofs.Common.{◌≡◌, ◌+◌, ◌*◌, ◌/◌, ℕ, List, length, take, ap, subst, ◌∙◌, arith}
-use Rattle.std.specs.Prelude.{None}
+use Rattle.std.proofs.Common.{◌≡◌, ◌+◌, ◌*◌, ◌/◌, ℕ, List, length, take, ap, subst, ◌∙◌, arith, None}
 use Rattle.beam_agenda.specs.FlagLevels.{LevelsAgree}
-use Rattle.beam_agenda.specs.Groups.{is_set}
-use Rattle.beam_agenda.specs.Positions.{position_from}
+use Rattle.beam_agenda.specs.Prelude.{is_set, position_from}
 use Rattle.beam_agenda.proofs.Counting.{length-above, first_same_group, no_later_group, first_later_group}
 use Rattle.beam_agenda.proofs.Positions.{position_within, all_within}
 use Rattle.beam_agenda.proofs.flags.Flags.+first_from.Goals as goal

@@ -1,9 +1,8 @@
-use Rattle.std.proofs.Common.{◌≡◌, ◌<◌, ◌≤◌, ◌+◌, ◌-◌, ◌/◌, ℕ, true, List, length, get_or, slice_get, rules, sym, ap, subst, ◌∙◌, arith}
+use Rattle.std.proofs.Common.{◌≡◌, ◌<◌, ◌≤◌, ◌+◌, ◌-◌, ◌/◌, ℕ, true, List, length, get_or, slice_get, rules, sym, ap, subst, ◌∙◌, arith, Some}
 use Rattle.std.proofs.Math.ListN.{set, length-set}
 use Rattle.std.proofs.lemmas.List.{get_or_read}
-use Rattle.std.specs.Prelude.{Some}
 use Rattle.beam_agenda.specs.FlagLevels.{LevelsAgree}
-use Rattle.beam_agenda.specs.Groups.{is_set, all_groups}
+use Rattle.beam_agenda.specs.Prelude.{is_set, all_groups}
 use Rattle.beam_agenda.proofs.Counting.{both_set, one_set, above_shorter, group_within, count_small, count_has, levels_same, set_above, one_more, one_fewer}
 use Rattle.beam_agenda.proofs.flags.Flags.+set.Goals as goal
 use Rattle.beam_agenda.proofs.flags.Flags.+set.Goals.{in-Top, in-Level, then-is_set, else-is_set}

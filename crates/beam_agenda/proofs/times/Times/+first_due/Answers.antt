@@ -1,8 +1,6 @@
-use Rattle.std.proofs.Common.{◌≡◌, ℕ, List, slice_get, sym, ap, subst, ◌∙◌}
+use Rattle.std.proofs.Common.{◌≡◌, ℕ, List, slice_get, sym, ap, subst, ◌∙◌, Option, Some}
 use Rattle.std.proofs.lemmas.Option.{slice_get-get_or}
-use Rattle.std.specs.Prelude.{Option, Some}
-use Rattle.beam_agenda.specs.Entries.{is_due_by}
-use Rattle.beam_agenda.specs.Positions.{position_from}
+use Rattle.beam_agenda.specs.Prelude.{is_due_by, position_from}
 use Rattle.beam_agenda.specs.TimeLevels.{LevelsAgree}
 use Rattle.beam_agenda.proofs.Due.{pair_within, climbs_some, climbs_none}
 use Rattle.beam_agenda.proofs.Positions.{position_within}

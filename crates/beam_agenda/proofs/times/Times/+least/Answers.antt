@@ -1,5 +1,5 @@
 use Rattle.std.proofs.Common.{ap, subst, ◌∙◌}
-use Rattle.beam_agenda.specs.Least.{least_of}
+use Rattle.beam_agenda.specs.Prelude.{least_of}
 use Rattle.beam_agenda.specs.TimeLevels.{LevelsAgree}
 use Rattle.beam_agenda.proofs.Pairing.{least_of-pairs}
 use Rattle.beam_agenda.proofs.times.Times.+least.Goals as goal

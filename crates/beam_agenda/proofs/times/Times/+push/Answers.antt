@@ -1,5 +1,4 @@
-use Rattle.std.proofs.Common.{◌≡◌, ℕ, ◌%◌, ◌≤◌, List, [], ◌∷◌, ◌++◌, length, ap, subst, ◌∙◌, length-append, arith}
-use Rattle.std.specs.Prelude.{Option}
+use Rattle.std.proofs.Common.{◌≡◌, ℕ, ◌%◌, ◌≤◌, List, [], ◌∷◌, ◌++◌, length, ap, subst, ◌∙◌, length-append, arith, Option}
 use Rattle.beam_agenda.specs.declared.times.Above.TheVariants.{Top, Level}
 use Rattle.beam_agenda.specs.declared.times.Times.TheInside.{Inside}
 use Rattle.beam_agenda.specs.TimeLevels.{LevelsAgree}

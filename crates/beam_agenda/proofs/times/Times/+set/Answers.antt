@@ -1,7 +1,6 @@
-use Rattle.std.proofs.Common.{◌≡◌, ℕ, ◌<◌, ◌≤◌, List, length, rules, sym, ap, subst, ◌∙◌, arith}
+use Rattle.std.proofs.Common.{◌≡◌, ℕ, ◌<◌, ◌≤◌, List, length, rules, sym, ap, subst, ◌∙◌, arith, Option}
 use Rattle.std.proofs.Math.ListN.{set, length-set}
 use Rattle.std.proofs.lemmas.List.{set-get_or}
-use Rattle.std.specs.Prelude.{Option}
 use Rattle.beam_agenda.specs.TimeLevels.{LevelsAgree}
 use Rattle.beam_agenda.proofs.Same.{same_due}
 use Rattle.beam_agenda.proofs.LevelAbove.{above_shorter, half_within, set_above}

@@ -1,6 +1,5 @@
 use Rattle.std.proofs.Common.{arith}
-use Rattle.beam_code.specs.ReadChunk.{tables_of}
-use Rattle.beam_code.specs.ChunkLayout.{chunk_with}
+use Rattle.beam_code.specs.Prelude.{tables_of, chunk_with}
 use Rattle.beam_code.proofs.Lent.{atom_within, atom_lent}
 use Rattle.beam_code.proofs.bytes.CodeBytes.atom.Goals as goal
 

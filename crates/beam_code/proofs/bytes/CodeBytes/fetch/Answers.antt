@@ -1,5 +1,5 @@
 use Rattle.std.proofs.Common.{subst}
-use Rattle.beam_code.specs.Bytes.{AreStarts}
+use Rattle.beam_code.specs.Prelude.{AreStarts}
 use Rattle.beam_code.proofs.InstructionsAtStarts.{spells}
 use Rattle.beam_code.proofs.bytes.CodeBytes.fetch.Goals as goal
 

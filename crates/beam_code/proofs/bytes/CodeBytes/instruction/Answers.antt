@@ -1,5 +1,4 @@
-use Rattle.beam_code.specs.ReadChunk.{tables_of}
-use Rattle.beam_code.specs.ChunkLayout.{chunk_with}
+use Rattle.beam_code.specs.Prelude.{tables_of, chunk_with}
 use Rattle.beam_code.proofs.InstructionsAtStarts.{read_is}
 use Rattle.beam_code.proofs.bytes.CodeBytes.instruction.Goals as goal
 

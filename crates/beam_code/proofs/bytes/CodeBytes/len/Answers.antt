@@ -1,7 +1,5 @@
 use Rattle.std.proofs.Common.{length, ap, arith}
-use Rattle.beam_code.specs.Bytes.{CodeBytes, instructions_in}
-use Rattle.beam_code.specs.ReadChunk.{tables_of}
-use Rattle.beam_code.specs.ChunkLayout.{chunk_with}
+use Rattle.beam_code.specs.Prelude.{CodeBytes, instructions_in, tables_of, chunk_with}
 use Rattle.beam_code.proofs.InstructionsAtStarts.{how_many}
 use Rattle.beam_code.proofs.bytes.CodeBytes.len.Goals as goal
 

@@ -1,7 +1,6 @@
-use Rattle.std.proofs.Common.{ℕ, List, sym, ap, subst, arith}
-use Rattle.std.specs.Prelude.{IsSome}
+use Rattle.std.proofs.Common.{ℕ, List, sym, ap, subst, arith, IsSome}
 use Rattle.beam_model.specs.declared.compact.Compact.{Compact}
-use Rattle.beam_code.specs.Operands.{argument_of, meant_in}
+use Rattle.beam_code.specs.Prelude.{argument_of, meant_in}
 use Rattle.beam_code.proofs.Lent.{lendable, same_read, no_fault, read_shorter, next_fits, lent_is}
 use Rattle.beam_code.proofs.bytes.CodeBytes.long_argument.Goals as goal
 

@@ -1,6 +1,5 @@
 use Rattle.std.proofs.Common.{refl}
-use Rattle.beam_code.specs.ReadChunk.{tables_of}
-use Rattle.beam_code.specs.ChunkLayout.{chunk_with}
+use Rattle.beam_code.specs.Prelude.{tables_of, chunk_with}
 use Rattle.beam_code.proofs.InstructionsAtStarts.{opcode_byte}
 use Rattle.beam_code.proofs.bytes.CodeBytes.opcode.Goals as goal
 

@@ -1,6 +1,5 @@
 use Rattle.std.proofs.Common.{ap, sym, subst, ◌∙◌}
-use Rattle.beam_code.specs.Bytes.{AreStarts}
-use Rattle.beam_code.specs.Operands.{read_or_none}
+use Rattle.beam_code.specs.Prelude.{AreStarts, read_or_none}
 use Rattle.beam_code.proofs.InstructionsAtStarts.{operands_are, not_line}
 use Rattle.beam_code.proofs.bytes.CodeBytes.operands.Goals as goal
 

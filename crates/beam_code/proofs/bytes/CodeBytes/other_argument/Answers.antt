@@ -1,5 +1,4 @@
-use Rattle.std.proofs.Common.{◌+◌, ap, lit<, ◌∙◌}
-use Rattle.std.specs.Prelude.{option_map}
+use Rattle.std.proofs.Common.{◌+◌, ap, lit<, ◌∙◌, option_map}
 use Rattle.beam_model.specs.declared.compact.CompactTag.TheVariants as tag
 use Rattle.beam_code.proofs.Lent.{lendable}
 use Rattle.beam_code.proofs.Short.{short_argument, short_meant}

@@ -1,8 +1,6 @@
 use Rattle.std.proofs.Common.{length, ap, sym, ◌∙◌, arith}
 use Rattle.std.proofs.lemmas.Option.{get_or_from_slice_get}
-use Rattle.beam_code.specs.Bytes.{CodeBytes, instructions_in, start_of}
-use Rattle.beam_code.specs.ReadChunk.{tables_of}
-use Rattle.beam_code.specs.ChunkLayout.{chunk_with}
+use Rattle.beam_code.specs.Prelude.{CodeBytes, instructions_in, start_of, tables_of, chunk_with}
 use Rattle.beam_code.proofs.InstructionsAtStarts.{how_many}
 use Rattle.beam_code.proofs.bytes.CodeBytes.start_within.Goals as goal
 

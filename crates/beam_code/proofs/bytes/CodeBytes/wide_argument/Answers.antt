@@ -1,11 +1,10 @@
-use Rattle.std.proofs.Common.{lit<, arith, sym, ap, ℕ, ℤ, pos, w64, ◌+◌, Some, subst, ◌<◌, ◌^◌, ◌∙◌}
-use Rattle.std.specs.Prelude.{IsSome, option_map}
+use Rattle.std.proofs.Common.{lit<, arith, sym, ap, ℕ, ℤ, pos, w64, ◌+◌, Some, subst, ◌<◌, ◌^◌, ◌∙◌, IsSome, option_map}
 use Rattle.std.proofs.lemmas.Int.{to_z_pos}
-use Rattle.beam_term.specs.TermValue.{int_term}
+use Rattle.beam_term.specs.Prelude.{int_term}
 use Rattle.beam_model.specs.declared.instruction.Argument.TheVariants as argument
 use Rattle.beam_model.specs.declared.compact.CompactTag.TheVariants as tag
-use Rattle.beam_model.specs.Compact.{atom_or_nil}
-use Rattle.beam_code.specs.Operands.{meant_in}
+use Rattle.beam_model.specs.Prelude.{atom_or_nil}
+use Rattle.beam_code.specs.Prelude.{meant_in}
 use Rattle.beam_code.proofs.Lent.{lendable}
 use Rattle.beam_code.proofs.Short.{wide_argument, wide_here, wide_meant}
 use Rattle.beam_code.proofs.bytes.CodeBytes.wide_argument.Goals as goal

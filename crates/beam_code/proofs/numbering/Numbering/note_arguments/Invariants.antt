@@ -1,6 +1,5 @@
-use Rattle.std.proofs.Common.{length, ◌≡◌}
-use Rattle.std.specs.Prelude.{fold}
-use Rattle.beam_model.specs.Assembly.{with_argument}
+use Rattle.std.proofs.Common.{length, ◌≡◌, fold}
+use Rattle.beam_model.specs.Prelude.{with_argument}
 use Rattle.beam_code.proofs.numbering.Numbering.note_arguments.Given as goal
 
 -- the numbering so far, with the rest noted, is the whole one

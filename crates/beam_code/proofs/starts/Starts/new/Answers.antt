@@ -1,6 +1,6 @@
 use Rattle.std.proofs.Common.{ℕ, ◌^◌, ◌<◌, refl, arith}
 use Rattle.std.proofs.lemmas.List.Elements.{All-nil}
-use Rattle.beam_code.specs.Starts.{starts_of}
+use Rattle.beam_code.specs.Prelude.{starts_of}
 use Rattle.beam_code.proofs.starts.Starts.new.Goals as goal
 
 pub invariant_of-result : goal.invariant_of-result

@@ -1,8 +1,7 @@
 use Rattle.std.proofs.Common.{rules, ◌≡◌, ◌+◌, ◌<◌, ◌≤◌, ◌^◌, true, false, length, sym, ◌∙◌}
 use Rattle.std.specs.List.{list_any}
-use Rattle.beam_model.specs.NativeNames.{is_erlang}
-use Rattle.beam_machine.specs.State.{State}
-use Rattle.beam_machine.specs.Next.{are_apart, stands_in_way, end_olds}
+use Rattle.beam_machine.specs.Prelude.{State, are_apart, stands_in_way, end_olds}
+use Rattle.beam_model.specs.Prelude.{is_erlang}
 use Rattle.beam_codesrv.specs.Replacement.{node}
 use Rattle.beam_codesrv.proofs.Upgrades.{unpurged, too_many, done}
 use Rattle.beam_codesrv.proofs.code_table.CodeTable.atomic_load.Goals as goal

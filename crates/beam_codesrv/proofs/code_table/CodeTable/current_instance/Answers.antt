@@ -1,5 +1,4 @@
-use Rattle.std.proofs.Common.{sym, ap, ◌∙◌}
-use Rattle.std.specs.Prelude.{option_and_then}
+use Rattle.std.proofs.Common.{sym, ap, ◌∙◌, option_and_then}
 use Rattle.beam_codesrv.proofs.Homes.{current_found}
 use Rattle.beam_codesrv.proofs.code_table.CodeTable.current_instance.Goals as goal
 

@@ -1,5 +1,5 @@
 use Rattle.std.proofs.Common.{ap, ◌∙◌}
-use Rattle.beam_machine.specs.Code.{listing_of}
+use Rattle.beam_machine.specs.Prelude.{listing_of}
 use Rattle.beam_codesrv.proofs.code_table.CodeTable.image_of.Goals as goal
 
 pub returns : goal.returns

@@ -1,7 +1,7 @@
 use Rattle.std.proofs.Common.{nat_eq, ap, subst, ◌∙◌, ◌≤◌}
 use Rattle.indexmap.specs.IndexMap.{get}
-use Rattle.beam_laws.specs.Numbers.{how_many}
-use Rattle.beam_machine.specs.Change.{is_live}
+use Rattle.beam_laws.specs.Prelude.{how_many}
+use Rattle.beam_machine.specs.Prelude.{is_live}
 use Rattle.beam_codesrv.specs.Homes.{code_of}
 use Rattle.beam_codesrv.proofs.Homes.{live_is}
 use Rattle.beam_codesrv.proofs.code_table.CodeTable.is_live.Goals as goal

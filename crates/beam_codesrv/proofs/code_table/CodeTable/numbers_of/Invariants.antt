@@ -1,5 +1,5 @@
 use Rattle.std.proofs.Common.{◌≡◌, ◌++◌, drop, map}
-use Rattle.beam_machine.specs.Next.{numbers_of}
+use Rattle.beam_machine.specs.Prelude.{numbers_of}
 use Rattle.beam_codesrv.proofs.code_table.CodeTable.numbers_of.Given as goal
 
 abbrev pub invariant-loop-image : goal.invariant-loop-image

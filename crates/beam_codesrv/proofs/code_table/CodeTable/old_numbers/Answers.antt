@@ -1,7 +1,7 @@
 use Rattle.std.proofs.Common.{◌≡◌, ◌||◌, sym, ap, ◌∙◌}
 use Rattle.std.proofs.lemmas.List.{nil_from_length}
 use Rattle.std.specs.List.{list_any}
-use Rattle.beam_machine.specs.Change.{old_of}
+use Rattle.beam_machine.specs.Prelude.{old_of}
 use Rattle.beam_codesrv.specs.Several.{passes}
 use Rattle.beam_codesrv.proofs.Several.{passes_so_far, one_further, no_further}
 use Rattle.beam_codesrv.proofs.code_table.CodeTable.old_numbers.Goals as goal

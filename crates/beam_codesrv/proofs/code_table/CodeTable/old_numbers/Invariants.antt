@@ -1,6 +1,6 @@
 use Rattle.std.proofs.Common.{◌≡◌, ℕ, Bool, length}
 use Rattle.std.specs.List.{list_any}
-use Rattle.beam_machine.specs.Change.{old_of}
+use Rattle.beam_machine.specs.Prelude.{old_of}
 use Rattle.beam_codesrv.specs.Several.{passes}
 use Rattle.beam_codesrv.proofs.Several.{passes_so_far}
 use Rattle.beam_codesrv.proofs.code_table.CodeTable.old_numbers.Given as goal

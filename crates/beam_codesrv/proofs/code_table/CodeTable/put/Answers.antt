@@ -1,6 +1,6 @@
 use Rattle.std.proofs.Common.{nat_eq, sym, ap, ◌∙◌}
 use Rattle.indexmap.specs.IndexMap.{get}
-use Rattle.beam_machine.specs.Code.{Instance}
+use Rattle.beam_machine.specs.Prelude.{Instance}
 use Rattle.beam_codesrv.specs.Homes.{with_home, without, dropped_of}
 use Rattle.beam_codesrv.proofs.Homes.{again_stands, again_code, first_stands, first_code}
 use Rattle.beam_codesrv.proofs.code_table.CodeTable.put.Goals as goal

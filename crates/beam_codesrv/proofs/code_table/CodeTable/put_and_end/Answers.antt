@@ -1,6 +1,6 @@
 use Rattle.std.proofs.Common.{◌≡◌, map, sym, ap, subst, ◌∙◌}
-use Rattle.beam_machine.specs.Change.{old_of, lingers_at, killing}
-use Rattle.beam_laws.specs.Orderly.{Orderly}
+use Rattle.beam_machine.specs.Prelude.{old_of, lingers_at, killing}
+use Rattle.beam_laws.specs.Prelude.{Orderly}
 use Rattle.beam_laws.proofs.Hearing.{nobody_ends}
 use Rattle.beam_codesrv.specs.declared.lingering.OldInstances.TheVariants.{One}
 use Rattle.beam_codesrv.specs.Ends.{end_if}

@@ -1,6 +1,5 @@
 use Rattle.std.proofs.Common.{rules, ◌≡◌, ◌+◌, ◌<◌, ◌^◌, length, sym, subst}
-use Rattle.beam_laws.specs.Numbers.{Ordered}
-use Rattle.beam_laws.specs.Upgrades.{loaded_each}
+use Rattle.beam_laws.specs.Prelude.{Ordered, loaded_each}
 use Rattle.beam_laws.proofs.Numbering.{next_is_free, loaded_ordered}
 use Rattle.beam_codesrv.proofs.code_table.CodeTable.put_each.Goals as goal
 

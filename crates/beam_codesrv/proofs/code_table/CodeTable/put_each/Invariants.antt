@@ -1,6 +1,5 @@
 use Rattle.std.proofs.Common.{◌≡◌, ◌<◌, ◌+◌, ◌^◌, length}
-use Rattle.beam_laws.specs.Numbers.{Ordered}
-use Rattle.beam_laws.specs.Upgrades.{loaded_each}
+use Rattle.beam_laws.specs.Prelude.{Ordered, loaded_each}
 use Rattle.beam_codesrv.proofs.code_table.CodeTable.put_each.Given as goal
 
 abbrev pub invariant-loop-image : goal.invariant-loop-image

@@ -1,6 +1,6 @@
-use Rattle.beam_machine.specs.State.{State}
+use Rattle.beam_machine.specs.Prelude.{State}
 use Rattle.beam_shape_laws.proofs.Nodes.{answered_framed}
-use Rattle.beam_state.specs.Parts.{node}
+use Rattle.beam_state.specs.Prelude.{node}
 use Rattle.beam_core.proofs.PreservedByAnswers.{stays_home, stays_ordered}
 use Rattle.beam_core.proofs.node.Core.apply.Goals as goal
 

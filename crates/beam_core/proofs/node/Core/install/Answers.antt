@@ -1,13 +1,11 @@
-use Rattle.std.proofs.Common.{sym, subst}
-use Rattle.std.specs.Prelude.{IfOk}
+use Rattle.std.proofs.Common.{sym, subst, IfOk}
 use Rattle.beam_machine.specs.declared.event.Event.TheVariants.{Steps}
-use Rattle.beam_machine.specs.Change.{AreHome}
-use Rattle.beam_machine.specs.State.{State}
+use Rattle.beam_machine.specs.Prelude.{AreHome, State}
 use Rattle.beam_laws.proofs.Homes.{next_home}
 use Rattle.beam_laws.proofs.Numbering.{Ordered, ordered_next}
 use Rattle.beam_shape_laws.specs.Shaped.{IsFramedNode}
 use Rattle.beam_shape_laws.proofs.Nodes.{next_framed}
-use Rattle.beam_state.specs.Parts.{node}
+use Rattle.beam_state.specs.Prelude.{node}
 use Rattle.beam_core.specs.Installing.{AreRowsOf, Installed}
 use Rattle.beam_core.proofs.Effects.{install_keeps}
 use Rattle.beam_core.proofs.node.Core.install.Goals as goal

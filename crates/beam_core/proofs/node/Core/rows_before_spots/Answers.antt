@@ -1,5 +1,5 @@
-use Rattle.beam_machine.specs.State.{State}
-use Rattle.beam_state.specs.Parts.{node}
+use Rattle.beam_machine.specs.Prelude.{State}
+use Rattle.beam_state.specs.Prelude.{node}
 use Rattle.beam_core.proofs.PreservedByAnswers.{rows_stay_home, rows_stay_ordered, rows_stay_framed}
 use Rattle.beam_core.proofs.node.Core.rows_before_spots.Goals as goal
 

@@ -1,8 +1,8 @@
-use Rattle.std.proofs.Common.{◌≡◌, ◌<◌, ◌++◌, ◌∷◌, [], length, take, arith, ◌∙◌, ◌+◌, ap, sym}
-use Rattle.std.proofs.lemmas.List.{take_more, length_push, length-take-le}
+use Rattle.std.proofs.Common.{◌≡◌, ◌<◌, ◌++◌, ◌∷◌, [], length, take, arith, ◌∙◌, ◌+◌, ap, sym, length-take-le}
+use Rattle.std.proofs.lemmas.List.{take_more, length_push}
+use Rattle.beam_model.specs.Prelude.{Listing}
 use Rattle.beam_machine.specs.declared.event.Event.{Event as TheEvent}
-use Rattle.beam_model.specs.Listing.{Listing}
-use Rattle.beam_machine.specs.Quiet.{StopsLoudly, LacksMemory}
+use Rattle.beam_machine.specs.Prelude.{StopsLoudly, LacksMemory}
 use Rattle.beam_core.proofs.Runs.{run_more, each_more}
 use Rattle.beam_core.proofs.node.Core.run.Goals as goal
 

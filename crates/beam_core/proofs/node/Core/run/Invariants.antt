@@ -1,7 +1,6 @@
 use Rattle.std.proofs.Common.{◌≡◌, ◌≤◌, take, length}
 use Rattle.std.specs.Vec.{vec_capacity}
-use Rattle.beam_machine.specs.Run.{run, effective_events, effective_answers}
-use Rattle.beam_machine.specs.Quiet.{StopsLoudly, LacksMemory, Each}
+use Rattle.beam_machine.specs.Prelude.{run, effective_events, effective_answers, StopsLoudly, LacksMemory, Each}
 use Rattle.beam_core.proofs.node.Core.run.Given as goal
 
 abbrev pub invariant-loop-event : goal.invariant-loop-event

@@ -1,7 +1,5 @@
-use Rattle.beam_machine.specs.Debug.{Debugged}
-use Rattle.beam_debug.specs.Answers.{answer_of}
-use Rattle.beam_debug.specs.Debugger.{capacity_of}
-use Rattle.beam_debug.specs.DebuggedNode.{debugged}
+use Rattle.beam_machine.specs.Prelude.{Debugged}
+use Rattle.beam_debug.specs.Prelude.{answer_of, capacity_of, debugged}
 use Rattle.beam_debug.proofs.Capacities.{answered_capacity}
 use Rattle.beam_debug.proofs.Settling.{answers_settled}
 use Rattle.beam_debug.proofs.debugger.Debugger.apply.Goals as goal

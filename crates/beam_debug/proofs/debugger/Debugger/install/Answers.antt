@@ -1,9 +1,8 @@
 use Rattle.beam_machine.specs.declared.debug.DebugEvent.TheVariants.{Node}
 use Rattle.beam_machine.specs.declared.event.Event.TheVariants.{Steps}
-use Rattle.beam_machine.specs.Debug.{Debugged}
-use Rattle.beam_laws.specs.Slice.{rows_of_event}
-use Rattle.beam_debug.specs.Debugger.{capacity_of}
-use Rattle.beam_debug.specs.DebuggedNode.{debugged}
+use Rattle.beam_machine.specs.Prelude.{Debugged}
+use Rattle.beam_laws.specs.Prelude.{rows_of_event}
+use Rattle.beam_debug.specs.Prelude.{capacity_of, debugged}
 use Rattle.beam_debug.proofs.Capacities.{installed_capacity}
 use Rattle.beam_debug.proofs.Settling.{installed_settled}
 use Rattle.beam_debug.proofs.debugger.Debugger.install.Goals as goal

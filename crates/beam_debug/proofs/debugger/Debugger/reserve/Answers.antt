@@ -1,9 +1,8 @@
-use Rattle.beam_machine.specs.Debug.{Debugged}
-use Rattle.beam_debug.specs.Debugger.{capacity_of}
-use Rattle.beam_debug.specs.DebuggedNode.{debugged}
+use Rattle.beam_machine.specs.Prelude.{Debugged}
+use Rattle.beam_debug.specs.Prelude.{capacity_of, debugged}
 use Rattle.beam_debug.proofs.Capacities.{reserved}
 use Rattle.beam_debug.proofs.debugger.Debugger.reserve.Goals as goal
-use Rattle.std.specs.Prelude.{vec_capacity}
+use Rattle.std.proofs.Common.{vec_capacity}
 
 pub invariant_of-self : goal.invariant_of-self
 invariant_of-self c =

@@ -1,14 +1,10 @@
-use Rattle.std.proofs.Common.{◌≡◌, ◌<◌, List, ◌++◌, ◌∷◌, [], length, take, arith, ◌∙◌, ◌+◌, ap, sym}
-use Rattle.std.specs.Prelude.{map}
-use Rattle.std.proofs.lemmas.List.{take_more, take_all, length_push, length-take-le, length-map}
+use Rattle.std.proofs.Common.{◌≡◌, ◌<◌, List, ◌++◌, ◌∷◌, [], length, take, arith, ◌∙◌, ◌+◌, ap, sym, map, take_all, length-take-le}
+use Rattle.std.proofs.lemmas.List.{take_more, length_push, length-map}
+use Rattle.beam_model.specs.Prelude.{Listing}
 use Rattle.beam_machine.specs.declared.debug.DebugEvent.{DebugEvent as TheEvent}
-use Rattle.beam_model.specs.Listing.{Listing}
-use Rattle.beam_machine.specs.Debug.{Debugged, DebugAnswer, DebugRun, debug_run}
+use Rattle.beam_machine.specs.Prelude.{Debugged, DebugAnswer, DebugRun, debug_run, effective_debug_events, effective_debug_answers}
 use Rattle.beam_laws.proofs.Debugging.{run_erased}
-use Rattle.beam_debug.specs.Answers.{answer_of}
-use Rattle.beam_machine.specs.DebugRun.{effective_debug_events, effective_debug_answers}
-use Rattle.beam_debug.specs.Each.{LacksMemory}
-use Rattle.beam_debug.specs.Loud.{DebugLoudly}
+use Rattle.beam_debug.specs.Prelude.{answer_of, LacksMemory, DebugLoudly}
 use Rattle.beam_debug.proofs.Runs.{each_more, run_more, map_push}
 use Rattle.beam_debug.proofs.debugger.Debugger.run.Goals as goal
 

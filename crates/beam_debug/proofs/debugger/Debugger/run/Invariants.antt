@@ -1,11 +1,7 @@
-use Rattle.std.proofs.Common.{◌≡◌, ◌≤◌, take, length}
-use Rattle.std.specs.Prelude.{map}
+use Rattle.std.proofs.Common.{◌≡◌, ◌≤◌, take, length, map}
 use Rattle.std.specs.Vec.{vec_capacity}
-use Rattle.beam_machine.specs.Debug.{debug_run}
-use Rattle.beam_debug.specs.Answers.{answer_of}
-use Rattle.beam_debug.specs.Each.{Each, LacksMemory}
-use Rattle.beam_debug.specs.Loud.{DebugLoudly}
-use Rattle.beam_machine.specs.DebugRun.{effective_debug_events, effective_debug_answers}
+use Rattle.beam_machine.specs.Prelude.{debug_run, effective_debug_events, effective_debug_answers}
+use Rattle.beam_debug.specs.Prelude.{answer_of, Each, LacksMemory, DebugLoudly}
 use Rattle.beam_debug.proofs.debugger.Debugger.run.Given as goal
 
 abbrev pub invariant-loop-event : goal.invariant-loop-event

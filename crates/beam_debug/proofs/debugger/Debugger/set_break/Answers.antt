@@ -1,11 +1,9 @@
 use Rattle.std.proofs.Common.{◌≤◌, arith}
+use Rattle.beam_model.specs.Prelude.{Listing}
 use Rattle.beam_machine.specs.declared.debug.DebugEvent.TheVariants.{SetBreak}
 use Rattle.beam_machine.specs.declared.debug.DebugEvent.{DebugEvent}
-use Rattle.beam_model.specs.Listing.{Listing}
-use Rattle.beam_machine.specs.Debug.{Debugged}
-use Rattle.beam_debug.specs.Answers.{change_answer}
-use Rattle.beam_debug.specs.Debugger.{capacity_of}
-use Rattle.beam_debug.specs.DebuggedNode.{debugged}
+use Rattle.beam_machine.specs.Prelude.{Debugged}
+use Rattle.beam_debug.specs.Prelude.{change_answer, capacity_of, debugged}
 use Rattle.beam_debug.proofs.Capacities.{still_capacity}
 use Rattle.beam_debug.proofs.Settling.{answers_settled}
 use Rattle.beam_debug.proofs.debugger.Debugger.set_break.Goals as goal

@@ -1,8 +1,6 @@
 use Rattle.beam_machine.specs.declared.debug.DebugEvent.TheVariants.{StepOne}
-use Rattle.beam_machine.specs.Debug.{Debugged}
-use Rattle.beam_debug.specs.Answers.{answer_of}
-use Rattle.beam_debug.specs.Debugger.{capacity_of}
-use Rattle.beam_debug.specs.DebuggedNode.{debugged}
+use Rattle.beam_machine.specs.Prelude.{Debugged}
+use Rattle.beam_debug.specs.Prelude.{answer_of, capacity_of, debugged}
 use Rattle.beam_debug.proofs.Capacities.{still_capacity}
 use Rattle.beam_debug.proofs.Settling.{answers_settled}
 use Rattle.beam_debug.proofs.debugger.Debugger.step_one.Goals as goal

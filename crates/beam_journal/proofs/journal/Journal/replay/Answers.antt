@@ -1,8 +1,5 @@
-use Rattle.std.proofs.Common.{rules, ◌≡◌, true, List, sym, ap, ◌∙◌}
-use Rattle.std.specs.Prelude.{map}
-use Rattle.beam_machine.specs.Debug.{undisturbed}
-use Rattle.beam_machine.specs.Journal.{Entry}
-use Rattle.beam_machine.specs.State.{empty}
+use Rattle.std.proofs.Common.{rules, ◌≡◌, true, List, sym, ap, ◌∙◌, map}
+use Rattle.beam_machine.specs.Prelude.{undisturbed, Entry, empty}
 use Rattle.beam_journal.specs.Entering.{SentEvent, entries_of, takes_memory}
 use Rattle.beam_journal.proofs.Replayed.{TakesMemory, events_of, loud_among}
 use Rattle.beam_journal.proofs.journal.Journal.replay.Goals as goal

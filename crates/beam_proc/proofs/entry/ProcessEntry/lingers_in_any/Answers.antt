@@ -1,8 +1,8 @@
 use Rattle.std.proofs.Common.{ap, sym, ◌∙◌}
 use Rattle.std.specs.List.{list_any}
-use Rattle.beam_machine.specs.Change.{lingers}
+use Rattle.beam_machine.specs.Prelude.{lingers}
 use Rattle.beam_stack.proofs.Anys.{none}
-use Rattle.beam_proc.specs.Entry.{process_in}
+use Rattle.beam_proc.specs.Prelude.{process_in}
 use Rattle.beam_proc.proofs.entry.ProcessEntry.lingers_in_any.Goals as goal
 
 pub returns-in-Ended : goal.returns-in-Ended

@@ -1,5 +1,5 @@
 use Rattle.std.proofs.Common.{◌≡◌}
-use Rattle.beam_machine.specs.Row.{arguments_from}
+use Rattle.beam_machine.specs.Prelude.{arguments_from}
 use Rattle.beam_proc.proofs.process.Process.arguments.Given as goal
 
 abbrev pub invariant-loop-register : goal.invariant-loop-register

@@ -1,6 +1,6 @@
 use Rattle.std.proofs.Common.{◌≡◌, ◌++◌, true, map}
 use Rattle.std.specs.List.{list_any}
-use Rattle.beam_machine.specs.State.{monitors_process, downs}
+use Rattle.beam_machine.specs.Prelude.{monitors_process, downs}
 use Rattle.beam_watches.specs.MonitorEntries.{monitors_in}
 use Rattle.beam_proc.proofs.process.Process.downs.Given as goal
 

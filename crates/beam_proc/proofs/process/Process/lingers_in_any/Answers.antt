@@ -1,6 +1,6 @@
 use Rattle.std.proofs.Common.{rules, ◌≡◌, ap, sym, ◌∙◌}
 use Rattle.std.specs.List.{list_any}
-use Rattle.beam_machine.specs.Change.{is_frame_in}
+use Rattle.beam_machine.specs.Prelude.{is_frame_in}
 use Rattle.beam_proc.proofs.Several.{by_parts}
 use Rattle.beam_proc.proofs.process.Process.lingers_in_any.Goals.{then-goes_in_any, else-goes_in_any}
 use Rattle.beam_proc.proofs.process.Process.lingers_in_any.Goals as goal

@@ -1,6 +1,6 @@
 use Rattle.std.proofs.Common.{◌≡◌, ◌++◌, drop, true, is_some, option_map}
 use Rattle.std.specs.List.{AllByRecursion}
-use Rattle.beam_machine.specs.Process.{read, read_all}
+use Rattle.beam_machine.specs.Prelude.{read, read_all}
 use Rattle.beam_proc.proofs.process.Process.read_all.Given as goal
 
 -- the values so far, and then those of the rest; each source has a value

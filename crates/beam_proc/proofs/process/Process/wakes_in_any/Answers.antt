@@ -1,6 +1,6 @@
 use Rattle.std.proofs.Common.{ap, sym, ◌∙◌}
 use Rattle.std.specs.List.{list_any}
-use Rattle.beam_machine.specs.Change.{is_deadline_in}
+use Rattle.beam_machine.specs.Prelude.{is_deadline_in}
 use Rattle.beam_stack.proofs.Anys.{none}
 use Rattle.beam_proc.proofs.process.Process.wakes_in_any.Goals as goal
 

@@ -1,9 +1,7 @@
 use Rattle.std.proofs.Common.{◌≡◌, Err, List, length, map, min, ap, sym, ◌∙◌, subst, arith}
 use Rattle.std.specs.List.{range_with_len}
 use Rattle.std.proofs.lemmas.Result.{err_from_is_err_and}
-use Rattle.beam_queue.specs.RunQueues.{new_run_queue}
-use Rattle.beam_queue.specs.Making.{LentAtMost}
-use Rattle.beam_queue.specs.Rule.{DequeId}
+use Rattle.beam_queue.specs.Prelude.{new_run_queue, LentAtMost, DequeId}
 use Rattle.beam_queue.specs.declared.making.NotMade.TheVariants.{TooMany}
 use Rattle.beam_queue.proofs.AllStealersAdded.{victims_at, have_stealers_none, have_stealers_more, as_many, as_made, all_have_stealers}
 use Rattle.beam_queue.proofs.making.UnbrandedQueues.branded.Goals as goal

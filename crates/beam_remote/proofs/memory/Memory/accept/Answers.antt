@@ -1,5 +1,5 @@
 use Rattle.std.proofs.Common.{◌≡◌, ◌≤◌, ◌∙◌, ◌++◌, List, ℕ, ap, arith, rules, length, length-append}
-use Rattle.beam_remote.specs.Tape.{Tape, moments_of}
+use Rattle.beam_remote.specs.Prelude.{Tape, moments_of}
 use Rattle.beam_remote.proofs.Moments.{more_taken, taken_then}
 use Rattle.beam_remote.proofs.memory.Memory.accept.Goals as goal
 

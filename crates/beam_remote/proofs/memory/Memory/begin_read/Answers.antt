@@ -1,6 +1,6 @@
 use Rattle.std.proofs.Common.{◌≡◌, ◌∷◌, [], ◌++◌, List, arith, rules, subst, sym, length}
 use Rattle.beam_remote.specs.declared.memory.Counts.{Counts}
-use Rattle.beam_remote.specs.Tape.{AreTaken}
+use Rattle.beam_remote.specs.Prelude.{AreTaken}
 use Rattle.beam_remote.proofs.Moments.{one_taken}
 use Rattle.beam_remote.proofs.memory.Memory.begin_read.Goals as goal
 

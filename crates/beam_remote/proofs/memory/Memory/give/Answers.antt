@@ -1,5 +1,5 @@
 use Rattle.std.proofs.Common.{◌≡◌, ◌+◌, ◌++◌, ℕ, List, subst, take}
-use Rattle.beam_remote.specs.Tape.{Tape}
+use Rattle.beam_remote.specs.Prelude.{Tape}
 use Rattle.beam_remote.proofs.Bytes.{gave}
 use Rattle.beam_remote.proofs.memory.Memory.give.Goals as goal
 

@@ -1,5 +1,5 @@
 use Rattle.std.proofs.Common.{◌∙◌, Some, ap}
-use Rattle.beam_remote.specs.Tape.{Tape, moments_of}
+use Rattle.beam_remote.specs.Prelude.{Tape, moments_of}
 use Rattle.beam_remote.proofs.Moments.{read_more}
 use Rattle.beam_remote.proofs.memory.MemoryPort.read.Goals as goal
 

@@ -1,10 +1,6 @@
-use Rattle.std.proofs.Common.{◌≡◌, ◌<◌, true, Option, Some, None, subst, sym, arith, refl}
-use Rattle.std.specs.Prelude.{option_map}
-use Rattle.std.proofs.lemmas.Bool.{true≢false}
-use Rattle.beam_model.specs.Framed.{Assignment, Shape, bare, sized, any, is_bare, may_have}
-use Rattle.beam_shapes.specs.Forced.{room_of, Rises}
-use Rattle.beam_shapes.specs.Shown.{shown}
-use Rattle.beam_shapes.specs.Trees.{Parts}
+use Rattle.std.proofs.Common.{◌≡◌, ◌<◌, true, Option, Some, None, subst, sym, arith, refl, option_map, true≢false}
+use Rattle.beam_model.specs.Prelude.{Assignment, bare, sized, any, is_bare, may_have, Shape}
+use Rattle.beam_shapes.specs.Prelude.{room_of, Rises, shown, Parts}
 use Rattle.beam_shapes.specs.declared.shape.Shape.{Shape as Kept}
 use Rattle.beam_shapes.specs.declared.shape.Shape.TheVariants as shape
 use Rattle.beam_shapes.proofs.Put.{put_known}

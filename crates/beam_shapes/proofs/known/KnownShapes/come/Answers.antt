@@ -1,9 +1,6 @@
-use Rattle.std.proofs.Common.{◌≡◌, true, Option, Some, None, set, map, get_or, subst}
-use Rattle.std.specs.Prelude.{option_map}
-use Rattle.beam_model.specs.Framed.{Assignment, may_have}
-use Rattle.beam_shapes.specs.Forced.{ShapeState, Joins, Unites}
-use Rattle.beam_shapes.specs.Shown.{shown}
-use Rattle.beam_shapes.specs.Trees.{Parts}
+use Rattle.std.proofs.Common.{◌≡◌, true, Option, Some, None, set, map, get_or, subst, option_map}
+use Rattle.beam_model.specs.Prelude.{Assignment, may_have}
+use Rattle.beam_shapes.specs.Prelude.{ShapeState, Joins, Unites, shown, Parts}
 use Rattle.beam_shapes.specs.declared.shape.Shape.{Shape as Kept}
 use Rattle.beam_shapes.proofs.Put.{put_known, put_there}
 use Rattle.beam_shapes.proofs.known.KnownShapes.come.Goals as goal

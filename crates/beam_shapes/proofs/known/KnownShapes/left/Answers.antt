@@ -1,5 +1,5 @@
 use Rattle.std.proofs.Common.{ap, ◌∙◌}
-use Rattle.beam_shapes.specs.Forced.{ShapeState}
+use Rattle.beam_shapes.specs.Prelude.{ShapeState}
 use Rattle.beam_shapes.proofs.Registers.{all_stay}
 use Rattle.beam_shapes.proofs.known.KnownShapes.left.Goals as goal
 

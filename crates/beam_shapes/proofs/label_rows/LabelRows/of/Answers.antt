@@ -1,7 +1,7 @@
 use Rattle.std.proofs.Common.{◌≡◌, ◌+◌, ◌-◌, ◌<◌, false, Some, None, length, drop, sym, subst, arith, rules}
-use Rattle.beam_model.specs.Listing.{is_row, label_of}
+use Rattle.beam_model.specs.Prelude.{is_row, label_of}
 use Rattle.beam_shapes.specs.declared.label_rows.LabelRows.{LabelRows}
-use Rattle.beam_shapes.specs.Tabled.{HasRows}
+use Rattle.beam_shapes.specs.Prelude.{HasRows}
 use Rattle.beam_shapes.proofs.Labels.{unpassed, kept_rows, put_rows}
 use Rattle.beam_shapes.proofs.label_rows.LabelRows.of.Goals.{in-Some+in_ok-put, in_default}
 use Rattle.beam_shapes.proofs.label_rows.LabelRows.of.Goals as goal

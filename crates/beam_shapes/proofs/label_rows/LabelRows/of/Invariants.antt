@@ -1,6 +1,6 @@
 use Rattle.std.proofs.Common.{◌≡◌, ◌+◌, drop}
-use Rattle.beam_model.specs.Listing.{gap_before_row}
-use Rattle.beam_shapes.specs.Tabled.{HasRows}
+use Rattle.beam_model.specs.Prelude.{gap_before_row}
+use Rattle.beam_shapes.specs.Prelude.{HasRows}
 use Rattle.beam_shapes.proofs.label_rows.LabelRows.of.Given as goal
 
 abbrev pub invariant-loop-at : goal.invariant-loop-at

@@ -1,5 +1,5 @@
 use Rattle.std.proofs.Common.{◌≡◌, ◌+◌, ◌-◌, ◌<◌, ◌≤◌, length, drop}
-use Rattle.beam_model.specs.Listing.{gap_before_row, next_row}
+use Rattle.beam_model.specs.Prelude.{gap_before_row, next_row}
 use Rattle.beam_shapes.proofs.rows.LabelledCode.next_row.Given as goal
 
 -- the first row from here on is the first row from the position on

@@ -1,5 +1,5 @@
 use Rattle.std.proofs.Common.{◌≡◌, rules}
-use Rattle.beam_model.specs.Listing.{row_of_label}
+use Rattle.beam_model.specs.Prelude.{row_of_label}
 use Rattle.beam_shapes.proofs.Labels.{row_is}
 use Rattle.beam_shapes.proofs.rows.LabelledCode.row_of.Goals as goal
 

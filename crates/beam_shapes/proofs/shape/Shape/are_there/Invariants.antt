@@ -1,7 +1,7 @@
 use Rattle.std.proofs.Common.{◌≡◌, length}
 use Rattle.std.specs.List.{list_all}
-use Rattle.beam_model.specs.Framed.{is_there}
-use Rattle.beam_shapes.specs.Shown.{shown}
+use Rattle.beam_model.specs.Prelude.{is_there}
+use Rattle.beam_shapes.specs.Prelude.{shown}
 use Rattle.beam_shapes.proofs.shape.Shape.are_there.Given as goal
 
 -- the remaining registers decide

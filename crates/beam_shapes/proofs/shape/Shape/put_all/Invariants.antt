@@ -1,7 +1,6 @@
 use Rattle.std.proofs.Common.{◌≡◌, length}
-use Rattle.beam_model.specs.Framed.{put_all}
-use Rattle.beam_shapes.specs.Shown.{shown, IsShape}
-use Rattle.beam_shapes.specs.Trees.{Grows}
+use Rattle.beam_model.specs.Prelude.{put_all}
+use Rattle.beam_shapes.specs.Prelude.{shown, IsShape, Grows}
 use Rattle.beam_shapes.proofs.shape.Shape.put_all.Given as goal
 
 -- the shape so far, with the remaining registers written, is the result

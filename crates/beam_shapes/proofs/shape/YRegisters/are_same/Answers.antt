@@ -1,4 +1,4 @@
-use Rattle.std.proofs.lemmas.Bool.{ne_eqb}
+use Rattle.std.proofs.Common.{ne_eqb}
 use Rattle.beam_shapes.proofs.Registers.{same_shown, other_shown}
 use Rattle.beam_shapes.proofs.shape.YRegisters.are_same.Goals as goal
 

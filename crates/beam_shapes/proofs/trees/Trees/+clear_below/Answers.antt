@@ -1,6 +1,6 @@
 use Rattle.std.proofs.Common.{◌-◌, ◌<◌, ◌++◌, None, replicate, drop, ap, sym, ◌∙◌, subst, arith}
 use Rattle.beam_shapes.specs.declared.trees.Halves.{Halves}
-use Rattle.beam_shapes.specs.Trees.{halves_of, tags_of, IsTree}
+use Rattle.beam_shapes.specs.Prelude.{halves_of, tags_of, IsTree}
 use Rattle.beam_shapes.proofs.Grown.{twice_half, tree_step, tree_none, grows_both}
 use Rattle.beam_shapes.proofs.Placed.{clear_left, clear_right, clear_leaf, clear_none}
 use Rattle.beam_shapes.proofs.trees.Trees.+clear_below.Goals as goal

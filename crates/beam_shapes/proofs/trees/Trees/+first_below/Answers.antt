@@ -1,7 +1,7 @@
 use Rattle.std.proofs.Common.{◌≢◌, ◌-◌, ◌<◌, ap, sym, ◌∙◌, subst, arith}
 use Rattle.beam_shapes.specs.declared.trees.Halves.{Halves}
-use Rattle.beam_model.specs.Framed.{first_in}
-use Rattle.beam_shapes.specs.Trees.{Parts, halves_of, tags_of, IsTree, IsTidy}
+use Rattle.beam_model.specs.Prelude.{first_in}
+use Rattle.beam_shapes.specs.Prelude.{Parts, halves_of, tags_of, IsTree, IsTidy}
 use Rattle.beam_shapes.proofs.Grown.{tree_step}
 use Rattle.beam_shapes.proofs.Firsts.{first_none, first_leaf, first_left, first_right}
 use Rattle.beam_shapes.proofs.trees.Trees.+first_below.Goals as goal

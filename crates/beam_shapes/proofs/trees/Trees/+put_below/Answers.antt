@@ -1,6 +1,6 @@
 use Rattle.std.proofs.Common.{◌-◌, ◌<◌, set, ap, sym, ◌∙◌, subst, arith}
 use Rattle.beam_shapes.specs.declared.trees.Halves.{Halves}
-use Rattle.beam_shapes.specs.Trees.{halves_of, tags_of, IsTree}
+use Rattle.beam_shapes.specs.Prelude.{halves_of, tags_of, IsTree}
 use Rattle.beam_shapes.proofs.Grown.{twice_half, tree_step, grows_both}
 use Rattle.beam_shapes.proofs.Placed.{put_left, put_right, put_leaf}
 use Rattle.beam_shapes.proofs.trees.Trees.+put_below.Goals as goal

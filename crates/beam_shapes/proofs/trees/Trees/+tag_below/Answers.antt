@@ -1,6 +1,6 @@
 use Rattle.std.proofs.Common.{◌-◌, ◌<◌, None, get_or, ap, ◌∙◌, arith}
 use Rattle.beam_shapes.specs.declared.trees.Halves.{Halves}
-use Rattle.beam_shapes.specs.Trees.{halves_of, tags_of}
+use Rattle.beam_shapes.specs.Prelude.{halves_of, tags_of}
 use Rattle.beam_shapes.proofs.Grown.{twice_half}
 use Rattle.beam_shapes.proofs.Placed.{tag_left, tag_right, tag_leaf}
 use Rattle.beam_shapes.proofs.trees.Trees.+tag_below.Goals as goal

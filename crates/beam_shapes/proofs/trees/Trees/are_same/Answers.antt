@@ -1,6 +1,5 @@
-use Rattle.std.proofs.Common.{subst, ap}
-use Rattle.std.proofs.lemmas.Bool.{eqb-true, eq-eqb}
-use Rattle.beam_shapes.specs.Trees.{tags_of, IsTidy}
+use Rattle.std.proofs.Common.{subst, ap, eqb-true, eq-eqb}
+use Rattle.beam_shapes.specs.Prelude.{tags_of, IsTidy}
 use Rattle.beam_shapes.proofs.UniqueTrees.{same_tree}
 use Rattle.beam_shapes.proofs.trees.Trees.are_same.Goals as goal
 

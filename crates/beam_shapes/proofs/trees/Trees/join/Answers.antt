@@ -1,7 +1,6 @@
-use Rattle.std.proofs.Common.{◌≡◌, List, Option, ap, sym, subst, ⊎_elim}
-use Rattle.std.specs.Prelude.{unwrap_or}
+use Rattle.std.proofs.Common.{◌≡◌, List, Option, ap, sym, subst, ⊎_elim, unwrap_or}
 use Rattle.beam_shapes.specs.declared.trees.Halves.{Halves}
-use Rattle.beam_shapes.specs.Trees.{no_halves, IsAbsent, AreDistinct}
+use Rattle.beam_shapes.specs.Prelude.{no_halves, IsAbsent, AreDistinct}
 use Rattle.beam_shapes.proofs.Tidy.{interned_grows, interned_part, distinct_interned, absent_interned, grows_halves, as_before, not_none}
 use Rattle.beam_shapes.proofs.trees.Trees.join.Goals as goal
 

@@ -1,6 +1,5 @@
 use Rattle.std.proofs.Common.{refl, sym, ap, subst, ◌∙◌}
-use Rattle.beam_shared.specs.Invariant.{HasCapacityFor, NodeInvariant, node_of}
-use Rattle.beam_shared.specs.Committing.{checked_in}
+use Rattle.beam_shared.specs.Prelude.{HasCapacityFor, NodeInvariant, node_of, checked_in}
 use Rattle.beam_shared.proofs.Returning.{kept_without, taken}
 use Rattle.beam_shared.proofs.Capacities.{capacity_without}
 use Rattle.beam_shared.proofs.node.Node.check_in.Goals as goal

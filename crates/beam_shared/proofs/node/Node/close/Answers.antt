@@ -1,7 +1,6 @@
 use Rattle.std.proofs.Common.{◌≡◌, length, ap, subst, ◌∙◌, arith}
 use Rattle.std.proofs.lemmas.Bool.Decides.{nat_tests}
-use Rattle.beam_shared.specs.Node.{Node}
-use Rattle.beam_shared.specs.Seats.{Agree, AreAll, AreBelow, AreOfSeats}
+use Rattle.beam_shared.specs.Prelude.{Node, Agree, AreAll, AreBelow, AreOfSeats}
 use Rattle.beam_shared.proofs.Totals.{they_add_up}
 use Rattle.beam_shared.proofs.node.Node.close.Goals as goal
 

@@ -1,11 +1,9 @@
 use Rattle.std.proofs.Common.{◌≡◌, ◌≢◌, ◌<◌, ◌≤◌, false, length, map, Some, Ok, Err, refl, sym, ap, subst, ◌∙◌, arith}
-use Rattle.beam_machine.specs.DebugRun.{DebugAnswers}
-use Rattle.beam_debug.specs.Answers.{reply_of}
+use Rattle.beam_machine.specs.Prelude.{DebugAnswers}
+use Rattle.beam_debug.specs.Prelude.{reply_of}
 use Rattle.beam_receipts.specs.Receipts.{History, SeatHistory}
 use Rattle.beam_shared.specs.declared.refusal.Refusal.TheVariants.{Node as OfNode}
-use Rattle.beam_shared.specs.Commands.{context_after}
-use Rattle.beam_shared.specs.Invariant.{checked_out_of, node_of, NodeInvariant}
-use Rattle.beam_shared.specs.Refusals.{must_wait, RefusesCommand}
+use Rattle.beam_shared.specs.Prelude.{context_after, checked_out_of, node_of, NodeInvariant, must_wait, RefusesCommand}
 use Rattle.beam_shared.proofs.Keeping.{kept_after, kept_as, same_node}
 use Rattle.beam_shared.proofs.Refused.{nothing_changed, it_refuses_command}
 use Rattle.beam_shared.proofs.Capacities.{more_capacity}

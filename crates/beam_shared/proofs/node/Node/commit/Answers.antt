@@ -1,7 +1,6 @@
 use Rattle.std.proofs.Common.{ap, ◌∙◌, slice_get}
 use Rattle.beam_step.specs.Slices.{Slice}
-use Rattle.beam_shared.specs.FinishedSlice.{finished_slice}
-use Rattle.beam_shared.specs.Node.{Node}
+use Rattle.beam_shared.specs.Prelude.{finished_slice, Node}
 use Rattle.beam_shared.proofs.CommittedRows.{comes_of_slice}
 use Rattle.beam_shared.proofs.node.Node.commit.Goals as goal
 

@@ -1,17 +1,10 @@
-use Rattle.std.proofs.Common.{◌≡◌, ◌≤◌, ◌<◌, true, [], ◌∷◌, ◌++◌, length, map, None, Ok, refl, sym, ap, subst, ◌∙◌, arith}
-use Rattle.std.specs.Prelude.{is_some}
+use Rattle.std.proofs.Common.{◌≡◌, ◌≤◌, ◌<◌, true, [], ◌∷◌, ◌++◌, length, map, None, Ok, refl, sym, ap, subst, ◌∙◌, arith, is_some}
 use Rattle.beam_machine.specs.declared.debug.DebugEvent.TheVariants.{Node as NodeEvent}
 use Rattle.beam_machine.specs.declared.event.Event.TheVariants.{Steps}
-use Rattle.beam_machine.specs.Debug.{DebugNext, debug_next}
-use Rattle.beam_machine.specs.DebugRun.{debug_after, debug_cut_event}
-use Rattle.beam_machine.specs.Journal.{replay}
-use Rattle.beam_debug.specs.Answers.{reply_of}
-use Rattle.beam_debug.specs.Installing.{AreSlices}
+use Rattle.beam_machine.specs.Prelude.{DebugNext, debug_next, debug_after, debug_cut_event, replay}
+use Rattle.beam_debug.specs.Prelude.{reply_of, AreSlices}
 use Rattle.beam_journal.specs.Entering.{Accepts, entry_of}
-use Rattle.beam_shared.specs.Committing.{advanced, event_of, checked_in}
-use Rattle.beam_shared.specs.Invariant.{checked_out_of, HasCapacityFor, NodeInvariant, node_of}
-use Rattle.beam_shared.specs.Node.{Node, serial_of}
-use Rattle.beam_shared.specs.Returned.{without_entry}
+use Rattle.beam_shared.specs.Prelude.{advanced, event_of, checked_in, checked_out_of, HasCapacityFor, NodeInvariant, node_of, Node, serial_of, without_entry}
 use Rattle.beam_shared.proofs.CommittedRows.{not_cut, rows_answer}
 use Rattle.beam_shared.proofs.Returning.{advanced_is, fewer, kept_on, kept_without, taken}
 use Rattle.beam_shared.proofs.Capacities.{more_capacity, capacity_for, capacity_without}

@@ -1,9 +1,8 @@
 use Rattle.std.proofs.Common.{◌≡◌, Some, sym, subst}
-use Rattle.beam_machine.specs.State.{live_process}
-use Rattle.beam_laws.specs.Origin.{Origin}
+use Rattle.beam_machine.specs.Prelude.{live_process}
+use Rattle.beam_laws.specs.Prelude.{Origin}
 use Rattle.beam_shape_laws.specs.Shaped.{IsFramedNode}
-use Rattle.beam_shared.specs.Invariant.{origin_by}
-use Rattle.beam_shared.specs.Node.{origin, origin_in}
+use Rattle.beam_shared.specs.Prelude.{origin_by, origin, origin_in}
 use Rattle.beam_shared.proofs.HandedOut.{origin_finds}
 use Rattle.beam_shared.proofs.node.Node.finds.Goals as goal
 

@@ -1,18 +1,12 @@
-use Rattle.std.proofs.Common.{◌≡◌, ◌≤◌, ◌<◌, ◌+◌, ◌-◌, ◌^◌, ◌++◌, ◌∷◌, [], length, map, Some, None, false, refl, rules, sym, ap, subst, ◌∙◌, arith}
-use Rattle.std.specs.Prelude.{List, min}
-use Rattle.beam_machine.specs.State.{live_process}
-use Rattle.beam_machine.specs.declared.debug.DebugEvent.TheVariants.{Node as NodeEvent}
+use Rattle.std.proofs.Common.{◌≡◌, ◌≤◌, ◌<◌, ◌+◌, ◌-◌, ◌^◌, ◌++◌, ◌∷◌, [], length, map, Some, None, false, refl, rules, sym, ap, subst, ◌∙◌, arith, List, min}
+use Rattle.beam_machine.specs.Prelude.{live_process}
 use Rattle.beam_machine.specs.declared.event.Event.TheVariants.{Deliver}
-use Rattle.beam_laws.specs.EarlierCode.{IsEarlierCode}
-use Rattle.beam_laws.specs.Origin.{Origin}
-use Rattle.beam_laws.specs.Out.{IsOut}
+use Rattle.beam_machine.specs.declared.debug.DebugEvent.TheVariants.{Node as NodeEvent}
+use Rattle.beam_laws.specs.Prelude.{IsEarlierCode, Origin, IsOut}
 use Rattle.beam_receipts.specs.Receipts.{Checkout, History}
-use Rattle.beam_rows.specs.Finds.{AlwaysFinds}
+use Rattle.beam_rows.specs.Prelude.{AlwaysFinds}
 use Rattle.beam_shared.specs.declared.checked_out.CheckoutEntry.{CheckoutEntry}
-use Rattle.beam_shared.specs.FinishedSlice.{CodeContext}
-use Rattle.beam_shared.specs.Node.{process_has_incoming, delivered_if, origin, origin_in}
-use Rattle.beam_shared.specs.Invariant.{checked_out_of, origin_by, context_in, HasCapacityFor, NodeInvariant}
-use Rattle.beam_shared.specs.Refusals.{must_wait, refusal_of, why_not}
+use Rattle.beam_shared.specs.Prelude.{CodeContext, process_has_incoming, delivered_if, origin, origin_in, checked_out_of, origin_by, context_in, HasCapacityFor, NodeInvariant, must_wait, refusal_of, why_not}
 use Rattle.beam_shared.proofs.Entries.{is_free}
 use Rattle.beam_shared.proofs.HandedOut.{handed_out, not_out}
 use Rattle.beam_shared.proofs.Keeping.{context_delivered, handed_entry, kept_as, kept_delivered, kept_with, min_is}

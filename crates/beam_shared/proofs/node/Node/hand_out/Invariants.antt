@@ -1,4 +1,4 @@
-use Rattle.beam_shared.specs.Invariant.{origin_by}
+use Rattle.beam_shared.specs.Prelude.{origin_by}
 use Rattle.beam_shared.proofs.node.Node.hand_out.Given as goal
 
 abbrev pub ghosts-hand_out : goal.ghosts-hand_out

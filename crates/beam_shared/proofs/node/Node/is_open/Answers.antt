@@ -1,8 +1,5 @@
 use Rattle.std.proofs.Common.{◌≡◌, None, Some, sym, ap, ◌∙◌}
-use Rattle.beam_shared.specs.Committing.{is_open}
-use Rattle.beam_shared.specs.FinishedSlice.{FinishedSlice}
-use Rattle.beam_shared.specs.Invariant.{entry_of, node_of}
-use Rattle.beam_shared.specs.Node.{Node}
+use Rattle.beam_shared.specs.Prelude.{is_open, FinishedSlice, entry_of, node_of, Node}
 use Rattle.beam_shared.proofs.Returning.{few_serial, not_open, open_is}
 use Rattle.beam_shared.proofs.node.Node.is_open.Goals as goal
 

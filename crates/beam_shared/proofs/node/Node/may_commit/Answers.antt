@@ -1,11 +1,8 @@
-use Rattle.std.proofs.Common.{◌≡◌, ◌==◌, not, true, false, None, Some, sym, ap, subst, ◌∙◌, arith}
+use Rattle.std.proofs.Common.{◌≡◌, ◌==◌, not, true, false, None, Some, sym, ap, subst, ◌∙◌, arith, is_some, slice_get}
 use Rattle.std.proofs.lemmas.Bool.Decides.{nat_tests}
-use Rattle.std.specs.Prelude.{is_some, slice_get}
-use Rattle.beam_machine.specs.State.{live_process}
-use Rattle.beam_debug.specs.Installing.{AreSlices}
-use Rattle.beam_shared.specs.Committing.{is_open, is_live}
-use Rattle.beam_shared.specs.Invariant.{context_in, entry_of}
-use Rattle.beam_shared.specs.Node.{Node}
+use Rattle.beam_machine.specs.Prelude.{live_process}
+use Rattle.beam_debug.specs.Prelude.{AreSlices}
+use Rattle.beam_shared.specs.Prelude.{is_open, is_live, context_in, entry_of, Node}
 use Rattle.beam_shared.proofs.CommittedRows.{are_slices, context_differs, context_same}
 use Rattle.beam_shared.proofs.Returning.{not_open, opened, own_entry, some_mapped}
 use Rattle.beam_shared.proofs.node.Node.may_commit.Goals as goal

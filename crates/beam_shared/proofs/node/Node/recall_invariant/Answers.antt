@@ -1,6 +1,6 @@
 use Rattle.std.proofs.Common.{subst}
 use Rattle.beam_receipts.proofs.Counts.{counts}
-use Rattle.beam_shared.specs.Seats.{AreOfSeats}
+use Rattle.beam_shared.specs.Prelude.{AreOfSeats}
 use Rattle.beam_shared.proofs.node.Node.recall_invariant.Goals as goal
 
 pub returns-clause-of_seats : goal.returns-clause-of_seats

@@ -1,10 +1,9 @@
 use Rattle.std.proofs.Common.{◌≡◌, ◌<◌, true, length, ap, sym, ◌∙◌, subst, ◌++◌, [], ◌∷◌, replicate, Some, arith}
-use Rattle.beam_term.specs.TermValue.{nil_term}
+use Rattle.beam_term.specs.Prelude.{nil_term}
 use Rattle.beam_machine.specs.declared.process.Slot.TheVariants as slot
-use Rattle.beam_machine.specs.Process.{words_of, with_y}
+use Rattle.beam_machine.specs.Prelude.{words_of, with_y}
 use Rattle.beam_stack.specs.Word as word
-use Rattle.beam_stack.specs.Frames.{is_bare}
-use Rattle.beam_stack.specs.Words.{frames_of, IsStack, marked}
+use Rattle.beam_stack.specs.Prelude.{is_bare, frames_of, IsStack, marked}
 use Rattle.beam_stack.proofs.Heads.{IsMarked, allocated, allocated_length, bare_length}
 use Rattle.beam_stack.proofs.Lists.{Ends, ends}
 use Rattle.beam_stack.proofs.frames.Frames.allocate.Goals as goal

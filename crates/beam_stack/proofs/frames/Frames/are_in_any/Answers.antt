@@ -1,7 +1,7 @@
 use Rattle.std.proofs.Common.{ap, sym, ◌∙◌}
 use Rattle.std.specs.List.{list_any}
-use Rattle.beam_machine.specs.Change.{is_frame_in}
-use Rattle.beam_stack.specs.Words.{frames_of, is_word_in}
+use Rattle.beam_machine.specs.Prelude.{is_frame_in}
+use Rattle.beam_stack.specs.Prelude.{frames_of, is_word_in}
 use Rattle.beam_stack.proofs.Anys.{swapped, alike}
 use Rattle.beam_stack.proofs.Grown.{lingers_is}
 use Rattle.beam_stack.proofs.frames.Frames.are_in_any.Goals as goal

@@ -1,5 +1,5 @@
 use Rattle.std.proofs.Common.{◌≡◌, length}
-use Rattle.beam_stack.specs.Frames.{first_tag, from_tag}
+use Rattle.beam_stack.specs.Prelude.{first_tag, from_tag}
 use Rattle.beam_stack.proofs.frames.Frames.catch_tag.Given as goal
 
 abbrev pub invariant-loop-self : goal.invariant-loop-self

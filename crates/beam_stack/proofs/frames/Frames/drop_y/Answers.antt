@@ -1,9 +1,7 @@
-use Rattle.std.proofs.Common.{◌≡◌, ◌<◌, ◌+◌, List, false, length, take, ap, sym, ◌∙◌, subst, ◌++◌, [], ◌∷◌, None, arith}
-use Rattle.std.specs.Prelude.{vec_len}
+use Rattle.std.proofs.Common.{◌≡◌, ◌<◌, ◌+◌, List, false, length, take, ap, sym, ◌∙◌, subst, ◌++◌, [], ◌∷◌, None, arith, vec_len}
 use Rattle.std.proofs.lemmas.List.{length_push}
-use Rattle.beam_machine.specs.Process.{with_y}
-use Rattle.beam_stack.specs.Words.{frames_of, IsStack, marked}
-use Rattle.beam_stack.specs.Word.{Word}
+use Rattle.beam_machine.specs.Prelude.{with_y}
+use Rattle.beam_stack.specs.Prelude.{frames_of, IsStack, marked, Word}
 use Rattle.beam_stack.proofs.Lists.{Ends, ends, above_zero, take_most}
 use Rattle.beam_stack.proofs.Heads.{IsMarked, dropped}
 use Rattle.beam_stack.proofs.frames.Frames.drop_y.Goals as goal

@@ -1,7 +1,6 @@
 use Rattle.std.proofs.Common.{[], ap, ◌∙◌}
-use Rattle.beam_machine.specs.Row.{tag_in}
-use Rattle.beam_stack.specs.Frames.{first_tag}
-use Rattle.beam_stack.specs.Words.{slots_with}
+use Rattle.beam_machine.specs.Prelude.{tag_in}
+use Rattle.beam_stack.specs.Prelude.{first_tag, slots_with}
 use Rattle.beam_stack.proofs.Firsts.{first_is}
 use Rattle.beam_stack.proofs.frames.Frames.first_tag.Goals as goal
 

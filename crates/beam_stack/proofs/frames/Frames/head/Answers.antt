@@ -1,6 +1,5 @@
 use Rattle.std.proofs.Common.{ap, ◌∙◌, slice_get}
-use Rattle.beam_stack.specs.Frames.{head_of}
-use Rattle.beam_stack.specs.Words.{head_in}
+use Rattle.beam_stack.specs.Prelude.{head_of, head_in}
 use Rattle.beam_stack.proofs.Readings.{head_is}
 use Rattle.beam_stack.proofs.frames.Frames.head.Goals as goal
 

@@ -1,7 +1,6 @@
 use Rattle.std.proofs.Common.{[], ap, ◌∙◌}
-use Rattle.beam_machine.specs.Row.{tag_in, tag_of}
-use Rattle.beam_stack.specs.Frames.{newest_y}
-use Rattle.beam_stack.specs.Words.{slots_with}
+use Rattle.beam_machine.specs.Prelude.{tag_in, tag_of}
+use Rattle.beam_stack.specs.Prelude.{newest_y, slots_with}
 use Rattle.beam_stack.proofs.Heads.{after_head, newest_tag_is}
 use Rattle.beam_stack.proofs.frames.Frames.newest_tag.Goals as goal
 

@@ -1,7 +1,6 @@
 use Rattle.std.proofs.Common.{[], take, ap, ◌∙◌}
-use Rattle.beam_machine.specs.Row.{tag_in}
-use Rattle.beam_stack.specs.Frames.{first_tag, older_than}
-use Rattle.beam_stack.specs.Words.{slots_with}
+use Rattle.beam_machine.specs.Prelude.{tag_in}
+use Rattle.beam_stack.specs.Prelude.{first_tag, older_than, slots_with}
 use Rattle.beam_stack.proofs.Firsts.{older_is}
 use Rattle.beam_stack.proofs.frames.Frames.older_tag.Goals as goal
 

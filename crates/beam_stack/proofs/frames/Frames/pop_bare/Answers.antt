@@ -1,6 +1,5 @@
 use Rattle.std.proofs.Common.{◌≡◌, ◌≤◌, ◌+◌, ◌-◌, length, take, slice_get, ap, sym, ◌∙◌, subst, arith}
-use Rattle.beam_stack.specs.Frames.{is_bare, older_than}
-use Rattle.beam_stack.specs.Words.{frames_of, IsStack, below_in}
+use Rattle.beam_stack.specs.Prelude.{is_bare, older_than, frames_of, IsStack, below_in}
 use Rattle.beam_stack.proofs.Heads.{bare_end}
 use Rattle.beam_stack.proofs.Lists.{take_most}
 use Rattle.beam_stack.proofs.Tops.{IsPopped, popped}

@@ -2,9 +2,8 @@ use Rattle.std.proofs.Common.{◌≡◌, false, length, ap, sym, ◌∙◌, subs
 use Rattle.std.proofs.lemmas.List.{length_push}
 use Rattle.beam_stack.specs.Word as word
 use Rattle.beam_machine.specs.declared.process.Frame.{Frame}
-use Rattle.beam_machine.specs.Process.{words_of}
-use Rattle.beam_stack.specs.Frames.{y_count}
-use Rattle.beam_stack.specs.Words.{frames_of, IsStack}
+use Rattle.beam_machine.specs.Prelude.{words_of}
+use Rattle.beam_stack.specs.Prelude.{y_count, frames_of, IsStack}
 use Rattle.beam_stack.proofs.Grown.{one_more}
 use Rattle.beam_stack.proofs.Heads.{pushed}
 use Rattle.beam_stack.proofs.frames.Frames.push.Goals as goal

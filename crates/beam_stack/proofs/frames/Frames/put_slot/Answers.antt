@@ -1,6 +1,5 @@
 use Rattle.std.proofs.Common.{◌≡◌, ◌<◌, ◌-◌, length, slice_set, ap, sym, ◌∙◌, subst, length-set, arith}
-use Rattle.beam_stack.specs.Frames.{y_count, with_slot}
-use Rattle.beam_stack.specs.Words.{frames_of, IsStack, word_of}
+use Rattle.beam_stack.specs.Prelude.{y_count, with_slot, frames_of, IsStack, word_of}
 use Rattle.beam_stack.proofs.Registers.{put_frames, put_stack}
 use Rattle.beam_stack.proofs.frames.Frames.put_slot.Goals as goal
 

@@ -1,8 +1,6 @@
-use Rattle.std.proofs.Common.{◌≡◌, ℕ, ◌<◌, ◌≤◌, ◌-◌, length, option_and_then, slice_get, Some, ap, sym, ◌∙◌, arith}
-use Rattle.std.proofs.lemmas.Bool.{ltb-true, ltb-false}
+use Rattle.std.proofs.Common.{◌≡◌, ℕ, ◌<◌, ◌≤◌, ◌-◌, length, option_and_then, slice_get, Some, ap, sym, ◌∙◌, arith, ltb-true, ltb-false}
 use Rattle.std.proofs.lemmas.Option.{slice_get-get_or}
-use Rattle.beam_stack.specs.Frames.{newest_y, y_count, slot_at}
-use Rattle.beam_stack.specs.Words.{frames_of, slot_in}
+use Rattle.beam_stack.specs.Prelude.{newest_y, y_count, slot_at, frames_of, slot_in}
 use Rattle.beam_stack.proofs.Registers.{slot_is, no_slot, nonempty}
 use Rattle.beam_stack.proofs.frames.Frames.register.Goals as goal
 

@@ -1,7 +1,6 @@
 use Rattle.std.proofs.Common.{◌≡◌, ◌≤◌, ◌-◌, length, take, drop, option_map, ap, sym, ◌∙◌, subst}
-use Rattle.beam_stack.specs.Frames.{newest_y, y_count}
-use Rattle.beam_machine.specs.Process.{with_y}
-use Rattle.beam_stack.specs.Words.{frames_of, IsStack}
+use Rattle.beam_stack.specs.Prelude.{newest_y, y_count, frames_of, IsStack}
+use Rattle.beam_machine.specs.Prelude.{with_y}
 use Rattle.beam_stack.proofs.Lists.{take_most}
 use Rattle.beam_stack.proofs.Registers.{trim_frames, trim_stack}
 use Rattle.beam_stack.proofs.frames.Frames.trim.Goals as goal

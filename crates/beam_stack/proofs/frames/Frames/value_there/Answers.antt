@@ -1,9 +1,7 @@
 use Rattle.std.proofs.Common.{◌≡◌, ◌<◌, ◌-◌, ℕ, length, is_some, slice_get, Some, ap, sym, ◌∙◌, subst, arith}
 use Rattle.std.proofs.lemmas.Option.{slice_get-get_or}
-use Rattle.beam_machine.specs.Process.{read_slots}
-use Rattle.beam_stack.specs.Frames.{newest_y, y_count}
-use Rattle.beam_stack.specs.Word.{Word}
-use Rattle.beam_stack.specs.Words.{frames_of}
+use Rattle.beam_machine.specs.Prelude.{read_slots}
+use Rattle.beam_stack.specs.Prelude.{newest_y, y_count, Word, frames_of}
 use Rattle.beam_stack.proofs.Registers.{nonempty, value_is, value_within}
 use Rattle.beam_stack.proofs.frames.Frames.value_there.Goals as goal
 

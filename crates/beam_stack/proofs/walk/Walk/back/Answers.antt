@@ -1,6 +1,5 @@
 use Rattle.std.proofs.Common.{ap, sym, ◌∙◌}
-use Rattle.beam_stack.specs.Frames.{newest_back}
-use Rattle.beam_stack.specs.Words.{frames_of}
+use Rattle.beam_stack.specs.Prelude.{newest_back, frames_of}
 use Rattle.beam_stack.proofs.Readings.{head_is, place_in, place_is}
 use Rattle.beam_stack.proofs.walk.Walk.back.Goals as goal
 

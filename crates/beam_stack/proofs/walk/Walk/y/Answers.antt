@@ -1,8 +1,7 @@
 use Rattle.std.proofs.Common.{◌≡◌, [], ap, ◌∙◌}
 use Rattle.std.proofs.lemmas.Result.{IfOk-weaker}
-use Rattle.beam_machine.specs.View.{slots_of}
-use Rattle.beam_stack.specs.Frames.{newest_y}
-use Rattle.beam_stack.specs.Words.{slots_with}
+use Rattle.beam_machine.specs.Prelude.{slots_of}
+use Rattle.beam_stack.specs.Prelude.{newest_y, slots_with}
 use Rattle.beam_stack.proofs.Heads.{after_head, newest_slots}
 use Rattle.beam_stack.proofs.walk.Walk.y.Goals as goal
 

@@ -1,7 +1,6 @@
 use Rattle.std.proofs.Common.{ap, sym, ◌∙◌}
 use Rattle.std.specs.List.{list_any}
-use Rattle.beam_stack.specs.Word.{word_in}
-use Rattle.beam_stack.specs.Words.{is_word_in}
+use Rattle.beam_stack.specs.Prelude.{word_in, is_word_in}
 use Rattle.beam_stack.proofs.Anys.{none}
 use Rattle.beam_stack.proofs.word.Word.is_in_any.Goals as goal
 

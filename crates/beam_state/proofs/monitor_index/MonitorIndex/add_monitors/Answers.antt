@@ -1,6 +1,6 @@
 use Rattle.std.proofs.Common.{◌≡◌, ◌∷◌, subst, rules}
 use Rattle.beam_watches.specs.MonitorEntries.{monitors_in}
-use Rattle.beam_state.specs.MonitorKeys.{AreKeyed}
+use Rattle.beam_state.specs.Prelude.{AreKeyed}
 use Rattle.beam_state.proofs.MonitorKeys.{first_keyed, more_has}
 use Rattle.beam_state.proofs.monitor_index.MonitorIndex.add_monitors.Goals as goal
 

@@ -1,6 +1,6 @@
 use Rattle.std.proofs.Common.{◌≡◌, ℕ, true, List}
 use Rattle.beam_watches.specs.MonitorEntries.{monitors_in}
-use Rattle.beam_state.specs.MonitorKeys.{has_key, AreKeyed}
+use Rattle.beam_state.specs.Prelude.{has_key, AreKeyed}
 use Rattle.beam_state.proofs.monitor_index.MonitorIndex.add_monitors.Given as goal
 
 abbrev pub invariant-loop-reference : goal.invariant-loop-reference

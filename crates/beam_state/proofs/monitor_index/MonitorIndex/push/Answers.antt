@@ -1,5 +1,5 @@
 use Rattle.std.proofs.Common.{◌≡◌, true, sym, subst}
-use Rattle.beam_state.specs.MonitorKeys.{has_key}
+use Rattle.beam_state.specs.Prelude.{has_key}
 use Rattle.beam_state.proofs.Keys.{inserted}
 use Rattle.beam_state.proofs.monitor_index.MonitorIndex.push.Goals as goal
 

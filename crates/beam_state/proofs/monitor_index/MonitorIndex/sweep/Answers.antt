@@ -1,6 +1,6 @@
 use Rattle.std.proofs.Common.{◌≡◌, true, sym, subst, rules, tests}
 use Rattle.std.proofs.lemmas.Fn.{filter_same}
-use Rattle.beam_state.specs.MonitorKeys.{monitored_in, has_key, is_live_key}
+use Rattle.beam_state.specs.Prelude.{monitored_in, has_key, is_live_key}
 use Rattle.beam_state.proofs.Keys.{in_filter}
 use Rattle.beam_state.proofs.monitor_index.MonitorIndex.sweep.Goals as goal
 

@@ -1,7 +1,6 @@
-use Rattle.std.proofs.Common.{◌≡◌, refl}
-use Rattle.std.specs.Prelude.{List, slice_set}
+use Rattle.std.proofs.Common.{◌≡◌, refl, List, slice_set}
 use Rattle.std.specs.Fn.{FnOnceReturnsAtMut}
-use Rattle.beam_machine.specs.Process.{Process}
+use Rattle.beam_machine.specs.Prelude.{Process}
 use Rattle.beam_state.proofs.Keeping.{agenda_within, keeps_indexed, keeps_monitored, says_of, sets, stands, stays}
 use Rattle.beam_state.proofs.processes.Processes.change.Goals as goal
 

@@ -1,9 +1,8 @@
-use Rattle.std.proofs.Common.{◌≡◌, true, false, refl, sym, subst, rules}
+use Rattle.std.proofs.Common.{◌≡◌, true, false, refl, sym, subst, rules, List, is_ok, slice_set, OnOk, OnErr}
 use Rattle.std.proofs.Math.ListN.{set}
-use Rattle.std.specs.Prelude.{List, is_ok, slice_set, OnOk, OnErr}
 use Rattle.beam_watches.specs.MonitorEntries.{AreBelow}
-use Rattle.beam_machine.specs.Process.{Process, is_ended}
-use Rattle.beam_state.specs.Returns.{with_monitor}
+use Rattle.beam_machine.specs.Prelude.{Process, is_ended}
+use Rattle.beam_state.specs.Prelude.{with_monitor}
 use Rattle.beam_state.proofs.Asked.{said}
 use Rattle.beam_state.proofs.Keeping.{Tried, agenda_within, keeps_indexed, tried_name, tried_monitored, on_ok, says_of, sets, stands}
 use Rattle.beam_state.proofs.processes.Processes.monitor.Goals as goal

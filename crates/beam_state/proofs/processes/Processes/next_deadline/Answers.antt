@@ -1,6 +1,5 @@
-use Rattle.std.proofs.Common.{ap, ◌∙◌, ◌<◌, length, arith}
-use Rattle.std.specs.Prelude.{option_and_then}
-use Rattle.beam_machine.specs.Ready.{next_deadline}
+use Rattle.std.proofs.Common.{ap, ◌∙◌, ◌<◌, length, arith, option_and_then}
+use Rattle.beam_machine.specs.Prelude.{next_deadline}
 use Rattle.beam_state.proofs.Finding.{time_at, time_there, deadline_is}
 use Rattle.beam_state.proofs.Indexing.{as_many}
 use Rattle.beam_state.proofs.processes.Processes.next_deadline.Goals as goal

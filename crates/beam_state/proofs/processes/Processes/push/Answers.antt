@@ -1,5 +1,5 @@
 use Rattle.std.proofs.Common.{ap, ◌∙◌}
-use Rattle.beam_machine.specs.Process.{Process}
+use Rattle.beam_machine.specs.Prelude.{Process}
 use Rattle.beam_state.proofs.Keeping.{push_keeps, push_monitored_if}
 use Rattle.beam_state.proofs.processes.Processes.push.Goals as goal
 

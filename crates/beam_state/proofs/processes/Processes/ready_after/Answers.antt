@@ -1,6 +1,5 @@
-use Rattle.std.proofs.Common.{ap, ◌∙◌, ◌<◌, length, arith}
-use Rattle.std.specs.Prelude.{option_and_then}
-use Rattle.beam_machine.specs.Ready.{ready_after}
+use Rattle.std.proofs.Common.{ap, ◌∙◌, ◌<◌, length, arith, option_and_then}
+use Rattle.beam_machine.specs.Prelude.{ready_after}
 use Rattle.beam_state.proofs.Finding.{pid_at, pid_there, ready_is}
 use Rattle.beam_state.proofs.Indexing.{as_many}
 use Rattle.beam_state.proofs.processes.Processes.ready_after.Goals as goal

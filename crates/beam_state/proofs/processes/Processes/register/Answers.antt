@@ -1,11 +1,8 @@
-use Rattle.std.proofs.Common.{◌≡◌, Some, None, slice_set, sym, ap, subst, ◌∙◌, rules}
-use Rattle.std.specs.Prelude.{List}
+use Rattle.std.proofs.Common.{◌≡◌, Some, None, slice_set, sym, ap, subst, ◌∙◌, rules, List}
 use Rattle.indexmap.specs.IndexMap.{get}
-use Rattle.beam_machine.specs.Process.{Process}
-use Rattle.beam_machine.specs.State.{registered}
-use Rattle.beam_model.specs.SameText.{same_text}
-use Rattle.beam_state.specs.Indexed.{entry_of, IsIndexed}
-use Rattle.beam_state.specs.MonitorKeys.{MonitorNoMore}
+use Rattle.beam_model.specs.Prelude.{same_text}
+use Rattle.beam_machine.specs.Prelude.{Process, registered}
+use Rattle.beam_state.specs.Prelude.{entry_of, IsIndexed, MonitorNoMore}
 use Rattle.beam_state.proofs.Finding.{there}
 use Rattle.beam_state.proofs.Indexing.{Adds, named_indexed}
 use Rattle.beam_state.proofs.Keeping.{agenda_within, items_within, keeps_monitored, makes}

@@ -1,5 +1,5 @@
 use Rattle.std.proofs.Common.{ap, ◌∙◌}
-use Rattle.beam_machine.specs.State.{registered}
+use Rattle.beam_machine.specs.Prelude.{registered}
 use Rattle.beam_state.proofs.Finding.{none_found, one_found}
 use Rattle.beam_state.proofs.processes.Processes.registered.Goals as goal
 

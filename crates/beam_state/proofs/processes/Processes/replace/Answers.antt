@@ -1,9 +1,7 @@
-use Rattle.std.proofs.Common.{◌≡◌, true, sym, ap, subst, ◌∙◌, rules}
-use Rattle.std.specs.Prelude.{List, None, [], slice_set}
-use Rattle.beam_machine.specs.Process.{Process}
-use Rattle.beam_laws.specs.Private.{with_name_and_transit}
-use Rattle.beam_state.specs.Indexed.{KeepsName}
-use Rattle.beam_state.specs.MonitorKeys.{AreKeyed}
+use Rattle.std.proofs.Common.{◌≡◌, true, sym, ap, subst, ◌∙◌, rules, List, None, [], slice_set}
+use Rattle.beam_machine.specs.Prelude.{Process}
+use Rattle.beam_laws.specs.Prelude.{with_name_and_transit}
+use Rattle.beam_state.specs.Prelude.{KeepsName, AreKeyed}
 use Rattle.beam_state.proofs.Asked.{said}
 use Rattle.beam_state.proofs.Keeping.{agenda_within, keeps_indexed, puts_monitored, says_of, sets, stands}
 use Rattle.beam_state.proofs.Replacing.{having_monitors}

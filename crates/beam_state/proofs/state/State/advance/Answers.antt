@@ -1,12 +1,7 @@
-use Rattle.std.proofs.Common.{◌≡◌, Some, sym, ap, subst, ◌∙◌, rules}
-use Rattle.std.specs.Prelude.{is_some}
-use Rattle.beam_machine.specs.Process.{Process}
-use Rattle.beam_machine.specs.State.{process_of, with_process, live_process}
-use Rattle.beam_laws.specs.Monitors.{ArePart}
-use Rattle.beam_laws.specs.Private.{with_name_and_transit}
-use Rattle.beam_state.specs.Parts.{Parts, parts, with_processes}
-use Rattle.beam_state.specs.Posting.{CanReplace}
-use Rattle.beam_state.specs.Indexed.{GoesOnFrom}
+use Rattle.std.proofs.Common.{◌≡◌, Some, sym, ap, subst, ◌∙◌, rules, is_some}
+use Rattle.beam_machine.specs.Prelude.{Process, process_of, with_process, live_process}
+use Rattle.beam_laws.specs.Prelude.{ArePart, with_name_and_transit}
+use Rattle.beam_state.specs.Prelude.{Parts, parts, with_processes, CanReplace, GoesOnFrom}
 use Rattle.beam_state.proofs.Asked.{said}
 use Rattle.beam_state.proofs.Replacing.{Replaced, is_live, goes_on_there, part_rises, replaced_lawful, replaced_is}
 use Rattle.beam_state.proofs.state.State.advance.Goals as goal

@@ -1,8 +1,6 @@
 use Rattle.std.proofs.Common.{◌≡◌, Some, sym, subst}
 use Rattle.beam_machine.specs.declared.event.Then.TheVariants.{GoesOn}
-use Rattle.beam_state.specs.Asking.{Responds, asking}
-use Rattle.beam_state.specs.Parts.{Parts, parts, then_at}
-use Rattle.beam_state.specs.Posting.{AreLawful}
+use Rattle.beam_state.specs.Prelude.{Responds, asking, Parts, parts, then_at, AreLawful}
 use Rattle.beam_state.proofs.Responding.{asked_lawful, responded_by, native_asked, asking_comes}
 use Rattle.beam_state.proofs.state.State.ask.Goals as goal
 

@@ -1,8 +1,6 @@
 use Rattle.std.proofs.Common.{◌≡◌, Some, sym, subst}
 use Rattle.beam_machine.specs.declared.event.Then.TheVariants.{GoesOn}
-use Rattle.beam_state.specs.Asking.{Responds, asking_dropping, HasSlots}
-use Rattle.beam_state.specs.Parts.{Parts, parts, then_at}
-use Rattle.beam_state.specs.Posting.{AreLawful}
+use Rattle.beam_state.specs.Prelude.{Responds, asking_dropping, HasSlots, Parts, parts, then_at, AreLawful}
 use Rattle.beam_state.proofs.Responding.{asked_lawful, responded_by, dropping_asked, dropping_comes}
 use Rattle.beam_state.proofs.state.State.ask_dropping.Goals as goal
 

@@ -1,6 +1,6 @@
 use Rattle.beam_machine.specs.declared.event.Event.TheVariants as event
-use Rattle.beam_machine.specs.State.{State}
-use Rattle.beam_state.specs.Parts.{node, parts}
+use Rattle.beam_machine.specs.Prelude.{State}
+use Rattle.beam_state.specs.Prelude.{node, parts}
 use Rattle.beam_state.proofs.Kept.{stays_lawful}
 use Rattle.beam_state.proofs.state.State.atomic_load.Goals as goal
 

@@ -1,8 +1,7 @@
 use Rattle.std.proofs.Common.{◌≡◌, Some, sym, subst}
 use Rattle.beam_machine.specs.declared.event.Then.TheVariants.{GoesOn}
-use Rattle.beam_machine.specs.Process.{ended}
-use Rattle.beam_state.specs.Asking.{Responds, ending}
-use Rattle.beam_state.specs.Parts.{Parts, parts, then_at}
+use Rattle.beam_machine.specs.Prelude.{ended}
+use Rattle.beam_state.specs.Prelude.{Responds, ending, Parts, parts, then_at}
 use Rattle.beam_state.proofs.Responding.{asked_lawful, responded_by, made_responds, ending_comes}
 use Rattle.beam_state.proofs.state.State.end.Goals as goal
 

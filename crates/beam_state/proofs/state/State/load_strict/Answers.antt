@@ -1,9 +1,7 @@
-use Rattle.std.proofs.Common.{◌≡◌, true, refl, subst}
-use Rattle.std.specs.Prelude.{is_ok}
+use Rattle.std.proofs.Common.{◌≡◌, true, refl, subst, is_ok}
 use Rattle.beam_machine.specs.declared.event.Event.TheVariants as event
-use Rattle.beam_machine.specs.State.{State}
-use Rattle.beam_machine.specs.Next.{next}
-use Rattle.beam_state.specs.Parts.{Parts, node, parts}
+use Rattle.beam_machine.specs.Prelude.{State, next}
+use Rattle.beam_state.specs.Prelude.{Parts, node, parts}
 use Rattle.beam_state.proofs.Kept.{stays_lawful}
 use Rattle.beam_state.proofs.state.State.load_strict.Goals as goal
 

@@ -1,8 +1,7 @@
 use Rattle.std.proofs.Common.{◌≡◌, true, not, refl, ap, subst}
 use Rattle.beam_machine.specs.declared.event.Event.TheVariants as event
-use Rattle.beam_machine.specs.Quiet.{ends_monitored}
-use Rattle.beam_machine.specs.State.{State}
-use Rattle.beam_state.specs.Parts.{Parts, node, parts}
+use Rattle.beam_machine.specs.Prelude.{ends_monitored, State}
+use Rattle.beam_state.specs.Prelude.{Parts, node, parts}
 use Rattle.beam_state.proofs.Kept.{stays_lawful}
 use Rattle.beam_state.proofs.state.State.purge.Goals as goal
 

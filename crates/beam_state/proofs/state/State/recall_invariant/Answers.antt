@@ -1,7 +1,7 @@
 use Rattle.std.proofs.Common.{subst}
-use Rattle.beam_laws.specs.Monitors.{AreRising}
+use Rattle.beam_laws.specs.Prelude.{AreRising}
 use Rattle.beam_laws.proofs.Orderly.{Orderly, pid_is, names_are_apart}
-use Rattle.beam_state.specs.Parts.{Parts}
+use Rattle.beam_state.specs.Prelude.{Parts}
 use Rattle.beam_state.proofs.state.State.recall_invariant.Goals as goal
 
 pub returns-clause-pids : goal.returns-clause-pids

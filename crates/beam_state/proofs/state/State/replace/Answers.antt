@@ -1,11 +1,7 @@
-use Rattle.std.proofs.Common.{◌≡◌, Some, sym, ap, subst, ◌∙◌}
-use Rattle.std.specs.Prelude.{is_some}
-use Rattle.beam_machine.specs.Process.{Process}
-use Rattle.beam_machine.specs.State.{process_of, with_process, live_process}
-use Rattle.beam_laws.specs.Monitors.{Rise}
-use Rattle.beam_laws.specs.Private.{with_name_and_transit}
-use Rattle.beam_state.specs.Parts.{Parts, parts, with_processes}
-use Rattle.beam_state.specs.Posting.{CanReplace}
+use Rattle.std.proofs.Common.{◌≡◌, Some, sym, ap, subst, ◌∙◌, is_some}
+use Rattle.beam_machine.specs.Prelude.{Process, process_of, with_process, live_process}
+use Rattle.beam_laws.specs.Prelude.{Rise, with_name_and_transit}
+use Rattle.beam_state.specs.Prelude.{Parts, parts, with_processes, CanReplace}
 use Rattle.beam_state.proofs.Replacing.{Replaced, is_live, keeps_there, replaced_lawful, replaced_is}
 use Rattle.beam_state.proofs.state.State.replace.Goals as goal
 

@@ -1,8 +1,7 @@
-use Rattle.std.proofs.Common.{◌≡◌, true, refl, subst}
-use Rattle.std.specs.Prelude.{is_ok}
+use Rattle.std.proofs.Common.{◌≡◌, true, refl, subst, is_ok}
 use Rattle.beam_machine.specs.declared.event.Event.TheVariants as event
-use Rattle.beam_machine.specs.Next.{next}
-use Rattle.beam_state.specs.Parts.{Parts, node}
+use Rattle.beam_machine.specs.Prelude.{next}
+use Rattle.beam_state.specs.Prelude.{Parts, node}
 use Rattle.beam_state.proofs.Kept.{processes_lawful}
 use Rattle.beam_state.proofs.state.State.send.Goals as goal
 

@@ -1,7 +1,6 @@
 use Rattle.std.proofs.Common.{◌≡◌, Some, sym, subst}
 use Rattle.beam_machine.specs.declared.event.Then.TheVariants.{GoesOn}
-use Rattle.beam_state.specs.Asking.{Responds, sending}
-use Rattle.beam_state.specs.Parts.{Parts, parts, then_at}
+use Rattle.beam_state.specs.Prelude.{Responds, sending, Parts, parts, then_at}
 use Rattle.beam_state.proofs.Responding.{asked_lawful, responded_by, sending_comes}
 use Rattle.beam_state.proofs.state.State.send_on.Goals as goal
 

@@ -1,5 +1,5 @@
 use Rattle.std.proofs.Common.{sym, subst}
-use Rattle.beam_state.specs.Posting.{AreLawful}
+use Rattle.beam_state.specs.Prelude.{AreLawful}
 use Rattle.beam_state.proofs.Posted.{all_taken_lawful}
 use Rattle.beam_state.proofs.state.State.take_all_back.Goals as goal
 

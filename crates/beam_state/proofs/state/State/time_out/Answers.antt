@@ -1,6 +1,6 @@
 use Rattle.std.proofs.Common.{[]}
 use Rattle.beam_machine.specs.declared.event.Event.TheVariants as event
-use Rattle.beam_state.specs.Parts.{node, parts}
+use Rattle.beam_state.specs.Prelude.{node, parts}
 use Rattle.beam_state.proofs.Kept.{stays_lawful}
 use Rattle.beam_state.proofs.state.State.time_out.Goals as goal
 

@@ -1,5 +1,5 @@
 use Rattle.std.proofs.Common.{◌∙◌}
-use Rattle.beam_term.specs.CodePoints.{texts_by_chars}
+use Rattle.beam_term.specs.Prelude.{texts_by_chars}
 use Rattle.beam_term.proofs.atom.AtomOrd.cmp.Goals as goal
 
 pub returns-clause-by_code_points : goal.returns-clause-by_code_points

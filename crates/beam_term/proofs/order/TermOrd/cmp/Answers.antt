@@ -1,5 +1,5 @@
 use Rattle.std.proofs.Common.{◌∙◌}
-use Rattle.beam_term.specs.CodePointOrder.{by_code_points}
+use Rattle.beam_term.specs.Prelude.{by_code_points}
 use Rattle.beam_term.proofs.order.TermOrd.cmp.Goals as goal
 
 pub returns-clause-by_code_points : goal.returns-clause-by_code_points

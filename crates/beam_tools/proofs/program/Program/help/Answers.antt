@@ -1,5 +1,5 @@
 use Rattle.std.proofs.Common.{ap, sym}
-use Rattle.beam_tools.specs.Program.{help_of}
+use Rattle.beam_tools.specs.Prelude.{help_of}
 use Rattle.beam_tools.proofs.program.Program.help.Goals as goal
 
 pub returns-in-Assembler : goal.returns-in-Assembler

@@ -1,6 +1,6 @@
 use Rattle.std.proofs.Common.{arith, ◌+◌, ◌-◌, ◌≡◌, ◌∙◌, ap, sym, ℕ, Option}
 use Rattle.beam_tools.specs.declared.rounds.CallOutcome.{CallOutcome}
-use Rattle.beam_tools.specs.Rounds.{outcome_by, outcome_within, onward_of}
+use Rattle.beam_tools.specs.Prelude.{outcome_by, outcome_within, onward_of}
 use Rattle.beam_tools.proofs.Turns.{outcome_on, outcome_zero}
 use Rattle.beam_tools.proofs.rounds.Rounds.run.Goals as goal
 

@@ -1,5 +1,5 @@
 use Rattle.std.proofs.Common.{◌≡◌, ◌-◌}
-use Rattle.beam_tools.specs.Rounds.{outcome_within}
+use Rattle.beam_tools.specs.Prelude.{outcome_within}
 use Rattle.beam_tools.proofs.rounds.Rounds.run.Given as goal
 
 abbrev pub invariant-loop : goal.invariant-loop

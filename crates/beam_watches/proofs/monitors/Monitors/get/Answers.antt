@@ -1,7 +1,6 @@
-use Rattle.std.proofs.Common.{sym, ap, ◌∙◌}
-use Rattle.std.specs.Prelude.{option_map}
+use Rattle.std.proofs.Common.{sym, ap, ◌∙◌, option_map}
 use Rattle.std.specs.Option.{option_or}
-use Rattle.beam_machine.specs.Process.{monitor_of}
+use Rattle.beam_machine.specs.Prelude.{monitor_of}
 use Rattle.beam_watches.proofs.Parts.{read_both}
 use Rattle.beam_watches.proofs.monitors.Monitors.get.Goals as goal
 

@@ -1,6 +1,6 @@
 use Rattle.std.proofs.Common.{◌≡◌}
 use Rattle.std.specs.List.{list_any}
-use Rattle.beam_machine.specs.State.{monitors_process}
+use Rattle.beam_machine.specs.Prelude.{monitors_process}
 use Rattle.beam_watches.specs.MonitorEntries.{monitors_in}
 use Rattle.beam_watches.proofs.monitors.Monitors.monitors_process.Given as goal
 
