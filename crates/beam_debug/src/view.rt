@@ -4,8 +4,8 @@ ghost use Rattle.beam_machine.specs.View.{view_text};
 ghost use Rattle.beam_debug.specs.Seen.{seen};
 
 use beam_image::Image;
-use beam_machine::command::Bytes;
 use beam_machine::process::{Slot, Status};
+use beam_machine::text_parts::TextParts;
 use beam_model::function::Import;
 use beam_term::Term;
 use std::alloc::{AllocError, Global};
@@ -119,10 +119,10 @@ pub enum View {
     Over { pid: u32, reason: Term },
 }
 
-/// The view of a process, with its text. Contracts see the view.
+/// The view of a process, with its text, in which terms are shared. Contracts see the view.
 pub struct RenderedView {
     view: View,
-    text: Bytes,
+    text: TextParts,
 }
 
 impl Drop for RenderedView {
@@ -155,16 +155,12 @@ impl RenderedView {
     pub(crate) fn new(alloc: Global, view: View) -> Result<RenderedView, AllocError>
         ensures { IfOk result (λ shown. shown ≡ seen view) }
     {
-        let mut text = Vec::new(alloc);
-        view.print(&mut text)?;
-        Ok(RenderedView {
-            view,
-            text: Bytes::new(text),
-        })
+        let text = view.text(alloc)?;
+        Ok(RenderedView { view, text })
     }
 
     /// The text. It takes no memory.
-    pub fn into_text(self) -> Bytes
+    pub fn into_text(self) -> TextParts
         ensures { result ≡ view_text self }
     {
         let RenderedView { view: _view, text } = self;

@@ -213,6 +213,7 @@ fn is_reserved_word(text: &[u8]) -> bool
     RESERVED_WORDS.contains(&text)
 }
 
+/// Whether an atom of that name is printed without quotes.
 pub fn is_bare_atom(name: &[u8]) -> bool
     ensures { result ≡ is_unquoted name.now }
 {

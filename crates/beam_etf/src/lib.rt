@@ -13,4 +13,4 @@ mod writing;
 
 pub use crate::error::EtfError;
 pub use crate::reading::{one_spelling, read_term, spelled_is_read};
-pub use crate::writing::{write_term, written_again};
+pub use crate::writing::{byte_count, is_byte_list, pair_count, write_term, written_again};

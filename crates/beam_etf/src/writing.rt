@@ -9,8 +9,8 @@ use crate::error::EtfError;
 use beam_term::{Atom, Pid, Reference, Term, TermView};
 use std::alloc::AllocError;
 
-// How many bytes a magnitude from 2^31 on takes.
-fn byte_count(n: u64) -> usize
+/// How many bytes the magnitude of an integer takes that is written by its sign and its magnitude: 4 to 8.
+pub fn byte_count(n: u64) -> usize
     ensures value { result ≡ byte_count n }
     ensures few { result ≤ 8 }
 {
@@ -151,9 +151,9 @@ fn is_byte(term: &Term) -> bool
     }
 }
 
-// Whether it is a proper list of integers from 0 to 255.
+/// Whether a term is a proper list of integers from 0 to 255.
 #[inline(never)]
-fn is_byte_list(list: &Term) -> bool
+pub fn is_byte_list(list: &Term) -> bool
     ensures { result ≡ is_byte_list list.now }
 {
     let mut rest = list;
@@ -166,9 +166,9 @@ fn is_byte_list(list: &Term) -> bool
     rest.is_nil()
 }
 
-// How many elements stand before its tail.
+/// How many elements of a list stand before its tail: at most 4,096.
 #[inline(never)]
-fn pair_count(list: &Term) -> u32
+pub fn pair_count(list: &Term) -> u32
     ensures value { result ≡ pair_count list.now }
     ensures few { result ≤ 4096 }
 {

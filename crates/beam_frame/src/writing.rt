@@ -1,5 +1,5 @@
 //! Replies as frames.
-ghost use Rattle.std.specs.Prelude.{◌≡◌, ◌≤◌, ◌<◌, ◌^◌, ◌++◌, ◌∷◌, [], length, ◌⊎◌, OnOk, OnErr, IfErr, IsErrOf};
+ghost use Rattle.std.specs.Prelude.{◌≡◌, ◌≤◌, ◌<◌, ◌^◌, ◌++◌, ◌∷◌, [], length, ◌⊎◌, OnOk, OnErr, IfErr, IsErrOf, IsFalse};
 ghost use Rattle.std.specs.List.{flat_map};
 ghost use Rattle.beam_model.specs.External.{external_bytes};
 ghost use Rattle.beam_machine.specs.declared.command.Response.TheVariants.{Node};
@@ -10,6 +10,7 @@ ghost use Rattle.beam_machine.specs.Frames.{longest_frame, reply_body, then_byte
 use crate::error::FrameError;
 use crate::reading::LONGEST_FRAME;
 use beam_etf::write_term;
+use beam_lengths::{external_length, parts_length, write_parts};
 use beam_machine::command::{FrameFault, Response};
 use beam_machine::event::{Numbers, Reply, Then};
 use beam_term::Term;
@@ -137,7 +138,7 @@ fn put_body(out: &mut Vec<u8>, response: &Response) -> Result<(), FrameError>
         }
         Response::Viewed(text) => {
             out.push(4)?;
-            out.extend_from_slice(text.as_slice())?;
+            write_parts(text, out)?;
             Ok(())
         }
         Response::Refused(refusal) => {
@@ -174,10 +175,31 @@ fn put_frame(out: &mut Vec<u8>, body: &[u8]) -> Result<(), FrameError>
     Ok(())
 }
 
+/// Whether no term and no text of a reply is by itself too long for a frame. It takes no memory, and the steps that it takes don't exceed
+/// what fits into a frame.
+#[tactic(auto, using(crate::proofs::Fits::long_reason, crate::proofs::Fits::long_value))]
+fn fits(response: &Response) -> bool
+    ensures { IsFalse result → longest_frame < length (reply_body response.now) }
+{
+    match response {
+        Response::Viewed(text) => parts_length(text, LONGEST_FRAME).is_some(),
+        Response::Node(
+            Reply::Ran {
+                then: Then::Ended { reason, value },
+                ..
+            },
+        ) => {
+            external_length(reason, LONGEST_FRAME).is_some()
+                && external_length(value, LONGEST_FRAME).is_some()
+        }
+        _ => true,
+    }
+}
+
 /// Appends the frame of a reply: the length of kind and body, the kind, and the body.
 ///
 /// `TooLong` where kind and body have more than 8,388,608 bytes, `NoMemory` where memory is refused. After a refusal nothing is
-/// appended.
+/// appended. Of a reply with a term or a text that is too long by itself nothing is written, however much longer it is.
 pub fn encode_reply(response: &Response, out: &mut Vec<u8>) -> Result<(), FrameError>
     ensures ok { OnOk result (out.new.items ≡ out.old.items ++ frame_of (reply_body response.now)) }
     ensures fits { OnOk result (length (reply_body response.now) ≤ longest_frame) }
@@ -186,6 +208,9 @@ pub fn encode_reply(response: &Response, out: &mut Vec<u8>) -> Result<(), FrameE
     ensures errors { IfErr result (λ e. (e ≡ FrameError.TooLong) ⊎ (e ≡ FrameError.NoMemory)) }
     ensures unchanged { OnErr result (out.new.items ≡ out.old.items) }
 {
+    if !fits(response) {
+        return Err(FrameError::TooLong);
+    }
     let mut body = Vec::new(*out.allocator());
     put_body(&mut body, response)?;
     if body.len() > LONGEST_FRAME {

@@ -18,6 +18,7 @@ pub mod Refusal
 pub mod Row
 pub mod Run
 pub mod State
+pub mod TextParts
 pub mod Touch
 pub mod View
 pub mod Prelude

@@ -2,6 +2,7 @@
 
 use crate::debug::DebugEvent;
 use crate::event::{Refused, Reply};
+use crate::text_parts::TextParts;
 use std::marker::Model;
 
 /// Bytes of a file or of a text.
@@ -88,7 +89,7 @@ pub enum Response {
     /// `count` rows were done, and the process is held.
     Held { count: u32 },
     /// The text of a view of a process.
-    Viewed(Bytes),
+    Viewed(TextParts),
     /// A refusal of the event.
     Refused(Refused),
     /// The process is checked out by a scheduler.

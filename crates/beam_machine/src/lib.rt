@@ -12,3 +12,4 @@ pub mod debug;
 pub mod event;
 pub mod lent;
 pub mod process;
+pub mod text_parts;

@@ -11,6 +11,8 @@ mod example;
 #[cfg(test)]
 mod image;
 #[cfg(test)]
+mod lengths;
+#[cfg(test)]
 mod mailbox;
 #[cfg(test)]
 mod shapes;

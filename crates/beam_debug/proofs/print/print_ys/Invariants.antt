@@ -5,7 +5,7 @@ use Rattle.beam_debug.proofs.print.print_ys.Given as goal
 -- the text so far and the registers that are left make the text of all registers
 abbrev pub invariant-loop-slot : goal.invariant-loop-slot
 invariant-loop-slot l = record {
-  text : l.out.items ++ ys_text l.register l.rest ≡ l.initial.out.items ++ ys_text 0 l.fn.slots;
+  text : l.out ++ ys_text l.register l.rest ≡ l.initial.out ++ ys_text 0 l.fn.slots;
   count : l.register + length l.rest ≡ length l.fn.slots;
 }
 
