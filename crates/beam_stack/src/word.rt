@@ -402,15 +402,15 @@ pub(crate) fn are_in_any(words: &[Word], numbers: &IndexSet<u32>) -> bool
     false
 }
 
-/// How many words more a copy has room for, so that its first calls don't move it.
+/// How many words more a copy has room for at most, so that its first calls don't move it.
 const ROOM: usize = 64;
 
-/// Equal words, with room for some more.
+/// Equal words, with room for as many more, at most 64: a process that waits keeps what a copy of its words takes.
 pub(crate) fn copy_words(alloc: Global, words: &[Word]) -> Result<Vec<Word>, AllocError>
     requires { length words.now ≤ 65536 }
     ensures { IfOk result (λ copies. copies.items ≡ words.now) }
 {
-    let mut copies = Vec::with_capacity(alloc, words.len() + ROOM)?;
+    let mut copies = Vec::with_capacity(alloc, words.len() + words.len().min(ROOM))?;
     for word in words {
         match word.plain() {
             Some(copy) => copies.push_reserved(copy),
