@@ -1,10 +1,10 @@
 {module, shop}.  %% version = 0
 
-{exports, [{module_info,0},{module_info,1},{open,1}]}.
+{exports, [{module_info,0},{module_info,1},{open,1},{start,0}]}.
 
 {attributes, []}.
 
-{labels, 11}.
+{labels, 13}.
 
 
 {function, open, 1, 2}.
@@ -45,20 +45,34 @@
     {wait,{f,3}}.
 
 
-{function, module_info, 0, 8}.
+{function, start, 0, 8}.
   {label,7}.
+    {line,[{location,"shop.erl",15}]}.
+    {func_info,{atom,shop},{atom,start},0}.
+  {label,8}.
+    {allocate,0,0}.
+    {bif,self,{f,0},[],{x,1}}.
+    {move,{atom,shop},{x,0}}.
+    {line,[{location,"shop.erl",16}]}.
+    {call_ext,2,{extfunc,erlang,register,2}}.
+    {move,{integer,0},{x,0}}.
+    {call_last,1,{f,2},0}. % open/1
+
+
+{function, module_info, 0, 10}.
+  {label,9}.
     {line,[]}.
     {func_info,{atom,shop},{atom,module_info},0}.
-  {label,8}.
+  {label,10}.
     {move,{atom,shop},{x,0}}.
     {call_ext_only,1,{extfunc,erlang,get_module_info,1}}.
 
 
-{function, module_info, 1, 10}.
-  {label,9}.
+{function, module_info, 1, 12}.
+  {label,11}.
     {line,[]}.
     {func_info,{atom,shop},{atom,module_info},1}.
-  {label,10}.
+  {label,12}.
     {move,{x,0},{x,1}}.
     {move,{atom,shop},{x,0}}.
     {call_ext_only,2,{extfunc,erlang,get_module_info,2}}.

@@ -1,5 +1,5 @@
 -module(shop).
--export([open/1]).
+-export([start/0, open/1]).
 
 %% Sells apples at 2 each, and ends at close. The call of shop:open goes to the code that is current then.
 open(Sold) ->
@@ -10,3 +10,8 @@ open(Sold) ->
         close ->
             Sold
     end.
+
+%% Opens under the name shop: what a node begins with (beamnode serve --start shop:start).
+start() ->
+    register(shop, self()),
+    open(0).

@@ -87,7 +87,7 @@ fn assemble_file<'a, F: Files>(
         Ok(bytes) => bytes,
         Err(why) => return Err(RunFault::File(FileFault { name: input, why })),
     };
-    match files.write(output, &bytes) {
+    match files.write(alloc, output, &bytes) {
         Ok(()) => Ok(()),
         Err(WriteError::WriteFailed(os_error)) => Err(RunFault::File(FileFault {
             name: output,

@@ -4,6 +4,7 @@ ghost use Rattle.beam_tools.specs.Files.{with_file};
 ghost use Rattle.beam_tools.specs.declared.files.ReadError.TheVariants.{NoMemory};
 
 use crate::os_error::OsError;
+use crate::replacing::replace;
 use std::alloc::{AllocError, AllocFailed, Global};
 use std::io::Read;
 use std::{fs, io, rt};
@@ -57,7 +58,7 @@ impl<T: Drop> From<AllocFailed<T>> for ReadError {
     }
 }
 
-/// A file couldn't be written whole: the operating system's error. What the file holds then isn't known.
+/// A file couldn't be written whole: the operating system's error, also where memory was refused. What the file holds then isn't known.
 #[derive(Clone, Copy, Debug, Error)]
 pub enum WriteError {
     #[error("WriteFailed")]
@@ -78,13 +79,13 @@ pub trait Files {
         ensures keeps { (n : List ℕ) → contents self.new n ≡ contents self.old n }
         ensures unwritten { written self.new ≡ written self.old };
 
-    /// Writes a file of that name with these bytes.
-    fn write(&mut self, name: &str, bytes: &[u8]) -> Result<(), WriteError>
+    /// Writes a file of that name with these bytes. What it holds after a failure isn't said here.
+    fn write(&mut self, alloc: Global, name: &str, bytes: &[u8]) -> Result<(), WriteError>
         ensures writes { OnOk result (written self.new ≡ with_file (written self.old) name.now bytes.now) }
         ensures fails { OnErr result (written self.new ≡ written self.old) };
 }
 
-/// The file system.
+/// The file system. Where a plain file can't be written whole, the old one stays, if its folder takes a new file (`replace`).
 #[derive(Drop)]
 pub struct FileSystem<'a, R: rt::Files>(pub &'a R);
 
@@ -96,8 +97,8 @@ impl<R: rt::Files> Files for FileSystem<'_, R> {
         }
     }
 
-    fn write(&mut self, name: &str, bytes: &[u8]) -> Result<(), WriteError> {
-        match fs::write(self.0, name, bytes) {
+    fn write(&mut self, alloc: Global, name: &str, bytes: &[u8]) -> Result<(), WriteError> {
+        match replace(self.0, alloc, name, bytes) {
             Ok(()) => Ok(()),
             Err(error) => Err(WriteError::WriteFailed(OsError::of(&error))),
         }

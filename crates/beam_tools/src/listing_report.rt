@@ -10,9 +10,10 @@ use crate::fault::{FileFaultKind, RunFault};
 use crate::lines::Lines;
 use crate::mismatch_text::push_mismatch;
 use crate::part_faults::{ListingPart, PartFault, part_faults};
-use crate::place::line_in;
+use crate::place::{after_mark, line_in};
 use crate::program::Program;
 use crate::report::{has_word, is_verbose, report};
+use crate::reserved_word::reserved_word;
 use beam_asm::AsmError;
 use beam_disasm::FileError;
 use beam_listing::{FormAt, FormKind, forms_of, read_listing};
@@ -23,7 +24,7 @@ use std::alloc::{AllocError, Global};
 const MOST_LINES: usize = 100;
 
 // Texts that occur in forms which use a feature outside of the profile, each with that feature.
-const FEATURES: [(&str, &str); 21] = [
+const FEATURES: [(&str, &str); 22] = [
     (
         "{set_tuple_element",
         "record updates of several fields (compile with erlc +r24)",
@@ -35,6 +36,7 @@ const FEATURES: [(&str, &str); 21] = [
     ("is_binary", "binaries"),
     ("is_bitstr", "binaries"),
     ("make_fun", "funs"),
+    ("{literal,fun ", "funs"),
     ("call_fun", "funs"),
     ("is_function", "funs"),
     ("{floats,0}", "funs"),
@@ -184,6 +186,32 @@ fn push_feature(line: usize, text: &str, lines: &mut Lines) {
     }
 }
 
+// The text from the line of that number on.
+fn text_from(number: usize, text: &[u8]) -> &[u8] {
+    let mut rest = text;
+    for _ in 1..number {
+        rest = after_mark(b'\n', rest);
+    }
+    rest
+}
+
+// Adds the first reserved word of the form at this line that stands where an atom has to be quoted.
+fn push_reserved(line: usize, text: &str, lines: &mut Lines) {
+    if let Some(word) = reserved_word(text_from(line, text.as_bytes())) {
+        lines.push(b"  atom: ");
+        lines.push(word);
+        lines.push(b" (a reserved word, so it has to be quoted: '");
+        lines.push(word);
+        lines.push(b"')\n");
+    }
+}
+
+// Adds what is known of why the form at this line isn't read.
+fn push_form(line: usize, text: &str, lines: &mut Lines) {
+    push_feature(line, text, lines);
+    push_reserved(line, text, lines);
+}
+
 // Adds the line of the first part that is refused by this name.
 fn push_first(name: &str, refused: &[RefusedLine], text: &str, lines: &mut Lines) {
     for refused in refused {
@@ -205,10 +233,11 @@ fn push_each(refused: &[RefusedLine], text: &str, lines: &mut Lines) {
     }
 }
 
-// Adds what `-v` reports beside the place: the feature that a form uses, or the line of the first part that the check refuses by that name.
+// Adds what `-v` reports beside the place: the feature that a form uses and its unquoted reserved word, or the line of the first part that
+// the check refuses by that name.
 fn push_cause(alloc: Global, why: FileFaultKind, text: &str, lines: &mut Lines) {
     match why {
-        FileFaultKind::Syntax(line) | FileFaultKind::UnknownForm(line) => push_feature(
+        FileFaultKind::Syntax(line) | FileFaultKind::UnknownForm(line) => push_form(
             line, text, lines,
         ),
         FileFaultKind::Unassembled(AsmError::Check(_)) => match all_refused(alloc, text) {
@@ -263,9 +292,9 @@ fn more(alloc: Global, words: &[&str], fault: &RunFault<'_>, text: &[u8]) -> Vec
 }
 
 // Writes more about a fault than its message and place, if the words ask for it: with `-v` the feature outside of the profile that a form
-// uses, or the line of the first instruction that the check refuses by that name; with `--all` each form that is refused, or, if none is,
-// each part that the check refuses, at most 100 of them. Where an instruction lacks something of its frame, both write the frame that it
-// wants and the one there. `text` is that of the listing.
+// uses and its unquoted reserved word, or the line of the first instruction that the check refuses by that name; with `--all` each form
+// that is refused, or, if none is, each part that the check refuses, at most 100 of them. Where an instruction lacks something of its
+// frame, both write the frame that it wants and the one there. `text` is that of the listing.
 fn tell_more<E: Errors>(
     alloc: Global,
     words: &[&str],

@@ -13,8 +13,8 @@ use beam_code::CodeError;
 use beam_disasm::FileError;
 use itoa::Buffer;
 
-// The bytes after the first mark: none, where there is no mark.
-fn after_mark(mark: u8, text: &[u8]) -> &[u8]
+/// The bytes after the first mark: none, where there is no mark.
+pub fn after_mark(mark: u8, text: &[u8]) -> &[u8]
     ensures { result.now ≡ after_mark mark text.now }
 {
     let mut rest = text;

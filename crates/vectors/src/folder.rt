@@ -31,7 +31,7 @@ impl<F: Files> Files for Folder<'_, F> {
         self.files.read(alloc, &whole)
     }
 
-    fn write(&mut self, _name: &str, _bytes: &[u8]) -> Result<(), WriteError> {
+    fn write(&mut self, _alloc: Global, _name: &str, _bytes: &[u8]) -> Result<(), WriteError> {
         Err(WriteError::WriteFailed(OsError {
             kind: ErrorKind::ReadOnlyFilesystem,
             code: 30,

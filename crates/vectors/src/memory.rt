@@ -124,7 +124,7 @@ impl<F: Files> Files for OverlayFiles<'_, F> {
         }
     }
 
-    fn write(&mut self, name: &str, bytes: &[u8]) -> Result<(), WriteError> {
+    fn write(&mut self, _alloc: Global, name: &str, bytes: &[u8]) -> Result<(), WriteError> {
         if self.memory.is_closed(name) || self.memory.put_bytes(name, bytes).is_err() {
             return Err(WriteError::WriteFailed(denied()));
         }
