@@ -9,6 +9,9 @@ pub trait Gate {
     /// A process was checked out. Its rows are run after the call returns.
     fn out(&self, pid: u32);
 
+    /// Whether a process that was checked out is to wait. Then none of its rows are run, and it is tried again as if memory had been refused.
+    fn must_wait(&self, pid: u32) -> bool;
+
     /// The rows of a process were run. They are committed after the call returns.
     fn back(&self, pid: u32);
 
@@ -17,6 +20,10 @@ pub trait Gate {
 
     /// A process was ended, with that reason, by a signal that arrived before rows of it were to be run.
     fn ended(&self, pid: u32, reason: &Term);
+
+    /// Memory was refused to a process: it wasn't checked out, or its rows were dropped, or none could be run. It is tried again some time
+    /// after the call returns.
+    fn refused(&self, pid: u32);
 
     /// The journal has reached this threshold of the entries that it can have. Each threshold is reported at most once, and none after a
     /// greater one: by a worker, unless `Shared::crossed` has given it to another thread.
@@ -30,11 +37,17 @@ pub struct NoGate;
 impl Gate for NoGate {
     fn out(&self, _pid: u32) {}
 
+    fn must_wait(&self, _pid: u32) -> bool {
+        false
+    }
+
     fn back(&self, _pid: u32) {}
 
     fn ran(&self, _pid: u32, _outcome: &Outcome) {}
 
     fn ended(&self, _pid: u32, _reason: &Term) {}
+
+    fn refused(&self, _pid: u32) {}
 
     fn filled(&self, _threshold: JournalThreshold) {}
 }

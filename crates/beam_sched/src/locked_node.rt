@@ -110,6 +110,14 @@ impl<B: NodeBrand + QueueBrand> LockedNode<B> {
         }
     }
 
+    /// Whether a process still runs after a commit without rows: memory was refused for the first row of its slice, or the slice had none.
+    fn lacks_memory(&self, pid: u32, done: &Result<Option<Outcome>, DropReason>) -> bool {
+        match (done, self.node.debugger().process(pid)) {
+            (Ok(None), Some(process)) => process.is_running(),
+            _ => false,
+        }
+    }
+
     /// Enqueues the process that an accepted event made runnable. If that has ended, or may be any process, a scan is wanted instead.
     pub(crate) fn enqueue_made_runnable(
         &mut self,
@@ -128,7 +136,8 @@ impl<B: NodeBrand + QueueBrand> LockedNode<B> {
     }
 
     /// Commits the rows of a process, and enqueues those that are runnable then: the receivers of its signals, and the process itself. A
-    /// row of the node or an end may make others runnable; a scan finds these.
+    /// row of the node or an end may make others runnable; a scan finds these. `NoMemory` also where the
+    /// process runs and has no rows: then nothing was committed.
     pub(crate) fn commit(
         &mut self,
         context: &mut ThreadContext<B>,
@@ -143,6 +152,9 @@ impl<B: NodeBrand + QueueBrand> LockedNode<B> {
         let done = self.node.commit(finished).map_err(|not| not.dropped);
         self.queue_states.put(pid, QueueState::Free);
         self.scan_state.note_deadline(deadline_of(&self.node, pid));
+        if self.lacks_memory(pid, &done) {
+            return Err(DropReason::NoMemory);
+        }
         if let Err(DropReason::NoMemory | DropReason::JournalFull) = done {
             return done;
         }

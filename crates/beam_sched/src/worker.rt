@@ -145,8 +145,9 @@ impl<B: NodeBrand + QueueBrand, G: Gate, C: Clock, R: Wait + time::Clock> Worker
         idle.end_wait();
     }
 
-    /// Notes an allocation failure: the node is scanned again after some time.
-    fn retry_later(&self) {
+    /// Memory was refused to a process: reports that to the gate, and notes that the node is to be scanned again after some time.
+    fn retry_later(&self, pid: u32) {
+        self.gate.refused(pid);
         let mut locked = self.shared.node.lock(self.rt);
         locked.scan_state.retry_later(self.moment());
         self.shared.scan_hint.publish(&locked.scan_state);
@@ -160,11 +161,11 @@ impl<B: NodeBrand + QueueBrand, G: Gate, C: Clock, R: Wait + time::Clock> Worker
         Ok((checkout, end))
     }
 
-    /// Handles the refusal of a checkout. A full journal stops the workers, and where memory was refused a scan is retried later.
-    fn handle_refusal(&self, refusal: Refusal) {
+    /// Handles the refusal of a checkout. A full journal stops the workers, and where memory was refused the process is tried again later.
+    fn handle_refusal(&self, pid: u32, refusal: Refusal) {
         match refusal {
             Refusal::JournalFull => self.shared.stop(self.rt),
-            Refusal::Node(Refused::NoMemory) => self.retry_later(),
+            Refusal::Node(Refused::NoMemory) => self.retry_later(pid),
             _ => {}
         }
     }
@@ -177,11 +178,12 @@ impl<B: NodeBrand + QueueBrand, G: Gate, C: Clock, R: Wait + time::Clock> Worker
                     self.gate.ended(pid, reason);
                 }
                 self.gate.out(pid);
-                let finished = checkout.run(ROWS);
+                let limit = if self.gate.must_wait(pid) { 0 } else { ROWS };
+                let finished = checkout.run(limit);
                 self.gate.back(pid);
                 self.commit(finished);
             }
-            Err(refusal) => self.handle_refusal(refusal),
+            Err(refusal) => self.handle_refusal(pid, refusal),
         }
     }
 
@@ -210,7 +212,7 @@ impl<B: NodeBrand + QueueBrand, G: Gate, C: Clock, R: Wait + time::Clock> Worker
             Ok(None) => {}
             Ok(Some(outcome)) => self.gate.ran(pid, &outcome),
             Err(DropReason::JournalFull) => self.shared.stop(self.rt),
-            Err(DropReason::NoMemory) => self.retry_later(),
+            Err(DropReason::NoMemory) => self.retry_later(pid),
             Err(DropReason::Stranger | DropReason::Gone | DropReason::StaleCode) => {}
         }
         if is_short {
@@ -294,8 +296,9 @@ impl<B: NodeBrand + QueueBrand, G: Gate, C: Clock, R: Wait + time::Clock> Worker
 /// for some time one goes on, and takes what is in the others' queues. It ends once the queues are closed, it finds no work and no scan is
 /// to be retried for want of memory, or once workers are stopped; a worker stops them if it finds the journal full. Then it gives its
 /// thread context back, by whose seat it entered moments and timeouts. Processes that can't be checked out are passed over, and rows that
-/// are dropped too; what is runnable is enqueued again. The gate is called under no lock. The clock gives the time, and moments are
-/// advanced where a command moved the node's clock ahead of it; the clock of the runtime tells how long to wait.
+/// are dropped too, and processes that the gate lets wait; what is runnable is enqueued again. The gate is called under no lock. The clock
+/// gives the time, and moments are advanced where a command moved the node's clock ahead of it; the clock of the runtime tells how long to
+/// wait.
 pub fn work<B: NodeBrand + QueueBrand, G: Gate, C: Clock, R: Wait + time::Clock>(
     rt: &R,
     shared: &Shared<B>,
