@@ -6,6 +6,7 @@ use denote.Struct.Field.{row_field, shr_ref_field}
 use denote.Param.Send.{IsSend, IsSync, sendable, shr_send, view_send}
 use denote.Param.SendFields.{as_row_send, declared_send}
 use Rattle.std.proofs.alloc.Global.TheSendSync as Global
+use Rattle.std.proofs.option.Option.TheSendSync as Option
 use Rattle.beam_queue.specs.declared.brand.QueueBrand as QueueBrand
 use Rattle.beam_receipts.specs.declared.brand.NodeBrand as NodeBrand
 use Rattle.beam_sched.proofs.Crossing.{Shared_sync}
@@ -13,6 +14,7 @@ use Rattle.beam_sched.proofs.thread_context.ThreadContext.TheSendSync as ThreadC
 use Rattle.beam_sched.specs.contracts.shared.Shared as Shared
 use Rattle.beam_serve.proofs.connection_thread.ServeOptions.TheSendSync as ServeOptions_crossing
 use Rattle.beam_serve.proofs.acceptor.Acceptor.TheSendSync as Acceptor_crossing
+use Rattle.beam_serve.proofs.memory_reserve.MemoryReserve.TheSendSync as MemoryReserve_crossing
 use Rattle.beam_serve.specs.contracts.connection_thread.ConnectionThread as ConnectionThread
 use Rattle.beam_serve.specs.contracts.acceptor.Acceptor as Acceptor
 use Rattle.beam_serve.specs.contracts.seat_desk.SeatDesk as SeatDesk
@@ -29,7 +31,7 @@ Acceptor_send : (l : NamedLft) → IsSend (as_row (shr_ref_field l (Acceptor.the
 Acceptor_send l = as_row_send (shr_ref_field l (Acceptor.the_row l) tt) (shr_send l.mir l.lft _ (Acceptor_crossing.the_sync l))
 
 pub SeatDesk_send : (l : NamedLft) (B R : RattleType) (g : NodeBrand.Ghosts B.Denot) (q : QueueBrand.Ghosts B.Denot) → IsSync R → IsSend (SeatDesk.the_row l B R g q)
-SeatDesk_send l B R g q r = view_send _ _ _ _ _ (declared_send (SeatDesk_inside.the_type l B R g q) (runtime_send l R r, (Shared_send l B g, (ThreadContext_crossing.the_send B g q, tt))))
+SeatDesk_send l B R g q r = view_send _ _ _ _ _ (declared_send (SeatDesk_inside.the_type l B R g q) (runtime_send l R r, (Shared_send l B g, (ThreadContext_crossing.the_send B g q, (Option.the_send _ (shr_send l.mir l.lft _ MemoryReserve_crossing.the_sync), tt)))))
 
 pub ConnectionThread_send : (l : NamedLft) (B R : RattleType) (g : NodeBrand.Ghosts B.Denot) (q : QueueBrand.Ghosts B.Denot) → IsSync R → IsSend (ConnectionThread.the_row l B R g q)
 ConnectionThread_send l B R g q r = declared_send (ConnectionThread.the_type l B R g q)

@@ -64,7 +64,7 @@ pub fn accept<R: Wait + Clock + Log>(
             Ok(connection) => return Ok(connection),
             Err(error) => error,
         };
-        if sockets.are_shut(rt) {
+        if sockets.are_shut() {
             return Err(NotAccepted::Shut);
         }
         if failure_of(&error) == AcceptFailure::Permanent {

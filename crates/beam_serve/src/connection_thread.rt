@@ -69,11 +69,12 @@ impl<'a, B: NodeBrand + QueueBrand, R> ConnectionThread<'a, B, R> {
 
 impl<B: NodeBrand + QueueBrand, R: Wait + Clock + Log + AllocGlobal> ConnectionThread<'_, B, R> {
     /// Serves connections until no more are accepted. Unless that is because enough were accepted, the workers end after their slices, and
-    /// the connections of other threads are shut.
+    /// the connections of other threads are shut: what was read from them is answered.
     fn serve(&mut self) {
         let rt = self.rt;
         let mut connections = IncomingConnections::new(
             rt,
+            self.alloc,
             self.acceptor,
             self.number,
             self.options.idle,

@@ -1,8 +1,10 @@
 //! Log records of processes that are held or have ended.
 
+use crate::logging::ENDS;
 use beam_debug::outcome::Outcome;
 use beam_erltext::print_erl;
 use beam_image::Image;
+use beam_lengths::text_length;
 use beam_machine::event::{Reply, Then};
 use beam_receipts::brand::NodeBrand;
 use beam_sched::shared::Shared;
@@ -20,24 +22,24 @@ fn is_atom(term: &Term, text: &str) -> bool {
     }
 }
 
+/// Logs the reason of an end. Of one that is too long no text is made.
 fn log_reason<L: Log + AllocGlobal>(log: &L, pid: u32, reason: &Term) {
+    if text_length(reason, LONGEST_REASON).is_none() {
+        info!(log; "process <0.{pid}.0>: ended with a reason of more than {LONGEST_REASON} bytes");
+        return;
+    }
     let mut text = Vec::new(log.alloc());
     if print_erl(reason, &mut text).is_err() {
         return;
     }
-    let Ok(reason) = str::from_utf8(&text) else {
-        return;
-    };
-    if reason.len() <= LONGEST_REASON {
+    if let Ok(reason) = str::from_utf8(&text) {
         info!(log; "process <0.{pid}.0>: ended with {reason}");
-    } else {
-        info!(log; "process <0.{pid}.0>: ended with a reason of {} bytes", reason.len());
     }
 }
 
-/// Logs that a process ended with a reason other than `normal`.
+/// Logs that a process ended with a reason other than `normal`, unless the log has as many ends of this second as it takes.
 pub fn log_exit<L: Log + AllocGlobal>(log: &L, pid: u32, reason: &Term) {
-    if log_enabled!(log; Level::Info) && !is_atom(reason, "normal") {
+    if !is_atom(reason, "normal") && log_enabled!(log; target: ENDS, Level::Info) {
         log_reason(log, pid, reason);
     }
 }

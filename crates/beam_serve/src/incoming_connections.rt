@@ -1,23 +1,29 @@
 //! The connections to a port, with a session over each of them.
 
 use crate::acceptor::Acceptor;
+use crate::served_stream::ServedStream;
 use crate::sessions::Incoming;
 use crate::streams::Streams;
 use crate::timed_stream::TimedStream;
 use beam_remote::{ServeError, Served, SessionFailure};
 use beam_tools::os_error::OsError;
 use log::{Log, info, warn};
+use std::alloc::{AllocError, Global};
 use std::net::{SocketAddr, TcpStream};
-use std::sync::Wait;
+use std::sync::{Arc, Wait};
 use std::time::{Clock, Duration};
 
 /// Both ways of a connection.
-type Link<'a, R> = Streams<TimedStream<'a, TcpStream, R>, TimedStream<'a, TcpStream, R>>;
+type Link<'a, R> = Streams<
+    TimedStream<'a, ServedStream<'a>, R>,
+    TimedStream<'a, ServedStream<'a>, R>,
+>;
 
 /// The connections that one thread serves.
 #[derive(Drop)]
 pub struct IncomingConnections<'a, R> {
     rt: &'a R,
+    alloc: Global,
     acceptor: &'a Acceptor<'a>,
     /// The number of this thread among those that serve connections, from 0 on.
     number: usize,
@@ -31,12 +37,14 @@ impl<'a, R> IncomingConnections<'a, R> {
     /// The connections that the thread of this number gets from an acceptor.
     pub fn new(
         rt: &'a R,
+        alloc: Global,
         acceptor: &'a Acceptor<'a>,
         number: usize,
         idle: Option<Duration>,
     ) -> IncomingConnections<'a, R> {
         IncomingConnections {
             rt,
+            alloc,
             acceptor,
             number,
             idle,
@@ -66,27 +74,37 @@ fn log_failure<R: Log>(rt: &R, peer: SocketAddr, error: &ServeError, os_error: O
     }
 }
 
+/// A connection in three hands: of the thread that reads it, of the same thread, which also writes it, and of the thread that may shut it.
+fn shared(
+    alloc: Global,
+    stream: TcpStream,
+) -> Result<(Arc<TcpStream>, Arc<TcpStream>, Arc<TcpStream>), AllocError> {
+    let input = Arc::new(alloc, stream)?;
+    let output = Arc::try_clone(&input)?;
+    let served = Arc::try_clone(&input)?;
+    Ok((input, output, served))
+}
+
 impl<'a, R: Wait + Clock + Log> IncomingConnections<'a, R> {
-    /// Both ways of a connection. `None` where there are no descriptors for them, or the sockets are shut.
+    /// Both ways of a connection, which take one descriptor. `None` where there is no memory for them, or the sockets are shut.
     fn open(&self, stream: TcpStream) -> Option<Link<'a, R>> {
         let rt = self.rt;
-        let (Ok(input), Ok(served)) = (stream.try_clone(), stream.try_clone()) else {
-            warn!(rt; "ReadFailed");
-            return None;
-        };
-        if !self
-            .acceptor
-            .endpoint()
-            .sockets
-            .register(rt, self.number, served)
-        {
-            return None;
-        }
         // Replies are short, and a client waits for each.
         let _ = stream.set_nodelay(true);
-        let input = TimedStream::new(rt, input, self.idle);
-        let output = TimedStream::new(rt, stream, self.idle);
-        Some(Streams::new(input, output))
+        let Ok((input, output, served)) = shared(self.alloc, stream) else {
+            warn!(rt; "NoMemory");
+            return None;
+        };
+        let sockets = self.acceptor.endpoint().sockets;
+        if !sockets.register(rt, self.number, served) {
+            return None;
+        }
+        let input = ServedStream::new(input, sockets);
+        let output = ServedStream::new(output, sockets);
+        Some(Streams::new(
+            TimedStream::new(rt, input, self.idle),
+            TimedStream::new(rt, output, self.idle),
+        ))
     }
 }
 
@@ -97,6 +115,7 @@ impl<'a, R: Wait + Clock + Log> Incoming<Link<'a, R>> for IncomingConnections<'a
             info!(self.rt; "{peer}: connected");
             if let Some(link) = self.open(stream) {
                 self.peer = Some(peer);
+                self.acceptor.endpoint().reserve.begin_session(self.rt);
                 log_places(self.rt, self.acceptor);
                 return Some(link);
             }
@@ -110,10 +129,13 @@ impl<'a, R: Wait + Clock + Log> Incoming<Link<'a, R>> for IncomingConnections<'a
         drop(link);
         let sockets = self.acceptor.endpoint().sockets;
         sockets.unregister(self.rt, self.number);
-        if sockets.are_shut(self.rt) {
+        if sockets.are_shut() {
             return;
         }
         if let (Err(error), Some(peer)) = (end, self.peer) {
+            if error.why == SessionFailure::NoMemory {
+                self.acceptor.endpoint().reserve.note_wanted();
+            }
             log_failure(self.rt, peer, &error, os_error);
         }
     }

@@ -1,32 +1,47 @@
-//! The lines of the log.
-ghost use Rattle.std.specs.Prelude.{Some, true, []};
+//! The log of a node.
+ghost use Rattle.std.specs.Prelude.{Some, []};
 
+use crate::log_lines::LogLines;
 use beam_tools::line::LogLevel;
 use jiff::Timestamp;
 use log::kv::Source;
 use log::span::Spans;
 use log::{LevelFilter, Line, Log, Logged, Metadata, Record};
 use std::fmt::Display;
-use std::time::Clock;
+use std::sync::Wait;
+use std::time::{Clock, Duration};
 
-/// Writes each record to the standard error of `R`, a line each, which begins with the time.
-#[derive(Clone, Copy, Debug, Drop)]
-pub struct TimestampedStderr<R>(pub R);
+/// The target by which it is asked whether an end of a process may be logged.
+pub const ENDS: &str = "ends";
 
-impl<R: Eprint + Clock> Log for TimestampedStderr<R> {
-    ghost enables = { λ _ _ _. Some true };
+/// Lets each record wait for the thread that writes the lines of a log, with the time of a console.
+#[derive(Drop)]
+pub struct QueuedLog<'a, R, C> {
+    rt: &'a R,
+    console: &'a C,
+    lines: &'a LogLines,
+}
 
+impl<R: Wait + Clock, C: Clock> Log for QueuedLog<'_, R, C> {
     ghost target_of = { λ _. Some [] };
 
-    fn enabled(&self, _metadata: &Metadata<'_>) -> bool {
-        true
+    // All records are enabled but those of the target `ENDS`: each time it is asked about them, an end of a process is counted, and the
+    // answer is whether it may be logged.
+    fn enabled(&self, metadata: &Metadata<'_>) -> bool {
+        if metadata.target() == ENDS {
+            let now = self.rt.monotonic().unwrap_or(Duration::ZERO);
+            self.lines.admits_end(self.rt, now)
+        } else {
+            true
+        }
     }
 
-    // 1970 where the clock can't be read. A line that can't be written is lost.
+    // 1970 where the clock can't be read.
     fn log<D: Display, K: Source, S: Spans>(&self, record: &Record<'_, D, K, S>) {
-        let time = Timestamp::now(&self.0).unwrap_or(Timestamp::UNIX_EPOCH);
+        let time = Timestamp::now(self.console).unwrap_or(Timestamp::UNIX_EPOCH);
         let line = Line::new(record);
-        let _ = eprintln!(self.0; "{time:.3} {line}");
+        let text = format!(in self.lines.alloc(); "{line}");
+        self.lines.push(self.rt, time, text);
     }
 
     fn flush(&self) {}
@@ -44,11 +59,13 @@ fn filter(level: LogLevel) -> LevelFilter {
     }
 }
 
-/// A runtime that logs to the standard error of a console, with its time, up to a level.
-pub fn logged<'a, R, C: Eprint + Clock>(
+/// A runtime whose records are lines of a log, with the time of a console, up to a level.
+pub fn logged<'a, R, C: Clock>(
     rt: &'a R,
     console: &'a C,
+    lines: &'a LogLines,
     level: LogLevel,
-) -> Logged<&'a R, TimestampedStderr<&'a C>> {
-    Logged::new(rt, filter(level), TimestampedStderr(console))
+) -> Logged<&'a R, QueuedLog<'a, R, C>> {
+    let queued_log = QueuedLog { rt, console, lines };
+    Logged::new(rt, filter(level), queued_log)
 }

@@ -4,13 +4,17 @@ use std::alloc::{AllocError, Global};
 use std::io;
 use std::net::{Shutdown, TcpListener, TcpStream};
 use std::os::fd::OwnedFd;
-use std::sync::{Mutex, Wait};
+use std::sync::atomic::{AtomicBool, Ordering};
+use std::sync::{Arc, Condvar, CondvarTimeouts, Mutex, Wait};
+use std::time::{Clock, Duration};
 
-/// The connection that each thread serves, if any, and whether the sockets are shut.
+/// For how many seconds a reply may be on its way once the sockets are shut.
+const PATIENCE: u64 = 2;
+
+/// The connection that each thread serves, if any.
 #[derive(Drop)]
 pub struct ServedConnections {
-    streams: Vec<Option<TcpStream>>,
-    is_shut: bool,
+    streams: Vec<Option<Arc<TcpStream>>>,
 }
 
 impl ServedConnections {
@@ -20,15 +24,23 @@ impl ServedConnections {
         for _ in 0..count {
             streams.push(None)?;
         }
-        Ok(ServedConnections {
-            streams,
-            is_shut: false,
-        })
+        Ok(ServedConnections { streams })
     }
 
-    fn put(&mut self, number: usize, stream: Option<TcpStream>) {
+    fn put(&mut self, number: usize, stream: Option<Arc<TcpStream>>) {
         if let Some(place) = self.streams.get_mut(number) {
             *place = stream;
+        }
+    }
+
+    /// Whether a thread serves a connection.
+    fn is_any(&self) -> bool {
+        self.streams.iter().any(|stream| stream.is_some())
+    }
+
+    fn shut(&self, how: Shutdown) {
+        for stream in self.streams.iter().flatten() {
+            let _ = stream.shutdown(how);
         }
     }
 }
@@ -38,6 +50,9 @@ impl ServedConnections {
 pub struct OpenSockets {
     listener: TcpStream,
     served: Mutex<ServedConnections>,
+    /// A thread no longer serves a connection.
+    left: Condvar,
+    is_shut: AtomicBool,
 }
 
 impl OpenSockets {
@@ -48,13 +63,15 @@ impl OpenSockets {
         Ok(OpenSockets {
             listener,
             served: Mutex::new(served),
+            left: Condvar::new(),
+            is_shut: AtomicBool::new(false),
         })
     }
 
     /// Notes that the thread of that number serves a connection from now on. False if the sockets are shut; then nothing is noted.
-    pub fn register<R: Wait>(&self, rt: &R, number: usize, stream: TcpStream) -> bool {
+    pub fn register<R: Wait>(&self, rt: &R, number: usize, stream: Arc<TcpStream>) -> bool {
         let mut served = self.served.lock(rt);
-        if served.is_shut {
+        if self.are_shut() {
             return false;
         }
         served.put(number, Some(stream));
@@ -63,7 +80,9 @@ impl OpenSockets {
 
     /// Notes that the thread of that number no longer serves its connection.
     pub fn unregister<R: Wait>(&self, rt: &R, number: usize) {
-        self.served.lock(rt).put(number, None);
+        let mut served = self.served.lock(rt);
+        served.put(number, None);
+        self.left.notify_all();
     }
 
     /// How many threads serve connections, if each of them serves one now.
@@ -77,19 +96,24 @@ impl OpenSockets {
         }
     }
 
-    /// Whether the sockets are shut.
-    pub fn are_shut<R: Wait>(&self, rt: &R) -> bool {
-        self.served.lock(rt).is_shut
+    /// Whether the sockets are shut, or are being shut.
+    pub fn are_shut(&self) -> bool {
+        self.is_shut.load(Ordering::SeqCst)
     }
 
-    /// Shuts the sockets for good: no connection is accepted any more, and those that are served give and take nothing more.
-    pub fn shut<R: Wait>(&self, rt: &R) {
-        let mut served = self.served.lock(rt);
-        served.is_shut = true;
-        for stream in served.streams.iter().flatten() {
-            let _ = stream.shutdown(Shutdown::Both);
-        }
-        drop(served);
+    /// Shuts the sockets for good: no connection is accepted any more, and from those that are served nothing more is read. What was read
+    /// before is answered. It returns once no connection is served. Those that still are after 2 seconds, as one whose peer doesn't take
+    /// its replies, are cut off. A thread that serves a connection must not call it.
+    pub fn shut<R: Wait + Clock>(&self, rt: &R) {
+        let served = self.served.lock(rt);
+        self.is_shut.store(true, Ordering::SeqCst);
         let _ = self.listener.shutdown(Shutdown::Both);
+        served.shut(Shutdown::Read);
+        let patience = Duration::from_secs(PATIENCE);
+        let served = self
+            .left
+            .wait_timeout_while(rt, served, patience, |served| served.is_any())
+            .0;
+        served.shut(Shutdown::Both);
     }
 }

@@ -4,6 +4,7 @@ ghost use Rattle.beam_sched.specs.CommandAnswers.{answer_of};
 ghost use Rattle.beam_serve.specs.Answers.{response_by, response_to};
 
 use crate::command_log::CommandLog;
+use crate::memory_reserve::MemoryReserve;
 use beam_debug::outcome::Outcome;
 use beam_desk::reply;
 use beam_image::Image;
@@ -25,6 +26,7 @@ pub struct SeatDesk<'a, B: NodeBrand + QueueBrand, R> {
     rt: &'a R,
     shared: &'a Shared<B>,
     context: ThreadContext<B>,
+    reserve: Option<&'a MemoryReserve>,
 }
 
 impl<'a, B: NodeBrand + QueueBrand, R> Drop for SeatDesk<'a, B, R> {
@@ -33,6 +35,7 @@ impl<'a, B: NodeBrand + QueueBrand, R> Drop for SeatDesk<'a, B, R> {
             rt: _rt,
             shared: _shared,
             context: _context,
+            reserve: _reserve,
         } = self;
     }
 }
@@ -58,6 +61,25 @@ impl<'a, B: NodeBrand + QueueBrand, R> SeatDesk<'a, B, R> {
             rt,
             shared,
             context,
+            reserve: None,
+        }
+    }
+
+    /// The desk, which notes the answers to commands at a reserve of memory.
+    pub(crate) fn with_reserve(self, reserve: &'a MemoryReserve) -> SeatDesk<'a, B, R>
+        ensures { result ≡ self.entry }
+    {
+        let SeatDesk {
+            rt,
+            shared,
+            context,
+            reserve: _reserve,
+        } = self;
+        SeatDesk {
+            rt,
+            shared,
+            context,
+            reserve: Some(reserve),
         }
     }
 
@@ -69,6 +91,7 @@ impl<'a, B: NodeBrand + QueueBrand, R> SeatDesk<'a, B, R> {
             rt: _rt,
             shared: _shared,
             context,
+            reserve: _reserve,
         } = self;
         context
     }
@@ -82,6 +105,13 @@ fn refused(refusal: Refusal) -> Response
         Refusal::Node(refused) => Response::Refused(refused),
         Refusal::Busy => Response::Busy,
         Refusal::JournalFull => Response::JournalFull,
+    }
+}
+
+/// Notes the answer to a command at the reserve, if there is one.
+fn note_answer(reserve: Option<&MemoryReserve>, answer: &Result<Outcome, Refusal>) {
+    if let Some(reserve) = reserve {
+        reserve.note_answer(answer);
     }
 }
 
@@ -103,6 +133,7 @@ impl<B: NodeBrand + QueueBrand, R: Wait + Log + AllocGlobal> Desk for SeatDesk<'
     fn command(&mut self, event: DebugEvent<Image>) -> Response {
         let command_log = CommandLog::of(self.rt, self.shared, &event);
         let answer = self.shared.command(self.rt, &mut self.context, event);
+        note_answer(self.reserve, &answer);
         command_log.write(self.rt, self.shared, &answer);
         response_by(answer)
     }

@@ -1,5 +1,6 @@
 //! A node that serves a port: its scheduler threads, and the connections beside them.
-ghost use Rattle.std.specs.Prelude.{◌≡◌, ◌≢◌, ◌≤◌, min, IfErr, OnOk};
+ghost use Rattle.std.specs.Prelude.{◌≡◌, ◌≢◌, ◌≤◌, ◌*◌, min, MatchOption, IfErr, OnOk};
+ghost use Rattle.std.specs.Duration.{as_nanos};
 ghost use Rattle.beam_journal.specs.Entering.{most_entries};
 ghost use Rattle.beam_tools.specs.Job.{IsOfPort};
 
@@ -7,7 +8,9 @@ use crate::acceptor::{Acceptor, Ended};
 use crate::connection_thread::{ConnectionThread, ServeOptions};
 use crate::endpoint::Endpoint;
 use crate::loading::load_and_start;
+use crate::log_lines::LogLines;
 use crate::logging::logged;
+use crate::memory_reserve::MemoryReserve;
 use crate::open_sockets::{OpenSockets, ServedConnections};
 use crate::seat_desk::SeatDesk;
 use crate::serve_gate::ServeGate;
@@ -104,7 +107,12 @@ fn limit_of(line: &Serve) -> u32
     }
 }
 
-fn options_of(line: &Serve) -> ServeOptions {
+/// The settings that the line asks for.
+fn options_of(line: &Serve) -> ServeOptions
+    ensures idle { MatchOption result.idle (line.now.idle ≡ 0) (λ limit. as_nanos limit ≡ line.now.idle * 1_000_000_000) }
+    ensures clients { result.clients ≡ line.now.clients }
+    ensures workers { result.workers ≡ line.now.schedulers }
+{
     ServeOptions {
         idle: match line.idle {
             0 => None,
@@ -146,7 +154,7 @@ fn helpers_of<'a, B: NodeBrand + QueueBrand, R>(
         let Some(context) = contexts.pop() else {
             return helpers;
         };
-        let desk = SeatDesk::new(rt, shared, context);
+        let desk = SeatDesk::new(rt, shared, context).with_reserve(acceptor.endpoint().reserve);
         let _ = helpers.push(ConnectionThread::new(
             rt, alloc, shared, acceptor, number, desk, options,
         ));
@@ -174,9 +182,19 @@ fn serve_connections<
         mut clients,
     } = contexts;
     let options = options_of(line);
-    let sockets = acceptor.endpoint().sockets;
+    let Endpoint {
+        sockets,
+        reserve,
+        ..
+    } = acceptor.endpoint();
     let clock = SteadyClock::new(rt);
-    let gate = ServeGate::new(rt, sockets, line.journal_limit, line.stop_when_full);
+    let gate = ServeGate::new(
+        rt,
+        sockets,
+        reserve,
+        line.journal_limit,
+        line.stop_when_full,
+    );
     let mut first = ConnectionThread::new(rt, alloc, shared, acceptor, 0, desk, options);
     let helpers = helpers_of(rt, alloc, shared, acceptor, options, &mut clients);
     let (schedulers, helpers) = run_with_helpers(
@@ -194,7 +212,7 @@ fn serve_connections<
 fn ended_of<R: Wait>(rt: &R, acceptor: &Acceptor<'_>) -> Ended {
     match acceptor.ended(rt) {
         // The sockets may have been shut while the last connections were served.
-        Some(Ended::Served) | None if acceptor.endpoint().sockets.are_shut(rt) => Ended::Shut,
+        Some(Ended::Served) | None if acceptor.endpoint().sockets.are_shut() => Ended::Shut,
         Some(ended) => ended,
         None => Ended::Served,
     }
@@ -225,8 +243,12 @@ fn run<
     let Some(context) = contexts.clients.pop() else {
         return Err(JobFault::Mismatch);
     };
-    let mut desk = SeatDesk::new(rt, shared, context);
-    let address = acceptor.endpoint().address;
+    let Endpoint {
+        address,
+        reserve,
+        ..
+    } = acceptor.endpoint();
+    let mut desk = SeatDesk::new(rt, shared, context).with_reserve(reserve);
     match start_up(console, alloc, files, &mut desk, address, line) {
         Ok(()) => {
             serve_connections(rt, alloc, shared, acceptor, line, desk, contexts, parts);
@@ -319,11 +341,11 @@ fn net_failed<'l>(line: &Serve<'l>, error: &Error) -> JobFault<'l>
 }
 
 /// Listens on the port of 127.0.0.1, loads the files and starts the process of the line, prints the address on the console, and serves the
-/// connections. What it logs goes to the console's error output, with the console's time. As many connections are served at once as the
-/// line says, each by a thread with a thread context of its own; the next one waits to be accepted. A session that fails is logged as a
-/// warning, and the next connection is accepted. Where the listener fails, and with a full journal where the line asks for that, the
-/// connections that are served are shut, the workers end after the slice that they have, and the node is closed with all its thread
-/// contexts. A thread that can't be made is logged as a warning, and the others serve.
+/// connections. What it logs is added to the lines of a log, with the console's time. As many connections are served at once as the line
+/// says, each by a thread with a thread context of its own; the next one waits to be accepted. A session that fails is logged as a warning,
+/// and the next connection is accepted. Where the listener fails, and with a full journal where the line asks for that, the connections
+/// that are served are shut once the commands that were read from them are answered, the workers end after the slice that they have, and
+/// the node is closed with all its thread contexts. A thread that can't be made is logged as a warning, and the others serve.
 ///
 /// - `File` where a file isn't loaded, `Start` and `LongName` where the process isn't started: no connection is accepted then;
 /// - `Net` where listening or accepting fails;
@@ -338,8 +360,8 @@ pub fn serve<
         + rt::Files
         + AllocGlobal
         + Sync,
-    C: Print + Eprint + Clock + Sync,
->(rt: &R, console: &C, line: &Serve<'l>) -> Result<(), JobFault<'l>>
+    C: Print + Clock + Sync,
+>(rt: &R, console: &C, lines: &LogLines, line: &Serve<'l>) -> Result<(), JobFault<'l>>
     ensures fault { IfErr result (IsOfPort line.now.port) }
 {
     let Ok(unbranded) = UnbrandedKeeper::new(rt.alloc()) else {
@@ -363,12 +385,14 @@ pub fn serve<
         Ok(sockets) => sockets,
         Err(error) => return Err(net_failed(line, &error)),
     };
+    let reserve = MemoryReserve::new(rt.alloc());
     let endpoint = Endpoint {
         listener: &listener,
         sockets: &sockets,
         address,
+        reserve: &reserve,
     };
-    let log = logged(rt, console, line.log);
+    let log = logged(rt, console, lines, line.log);
     serve_node::<FileSystem<'_, R>, Brand, _, _>(
         &log,
         console,

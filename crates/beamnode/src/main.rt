@@ -1,16 +1,19 @@
 //! The program `beamnode`: the words of its command line, the file system, the standard streams and the net.
 #![tactic(auto)]
 
-use beam_serve::{pipe, serve};
+use beam_serve::{pipe, serve, start_log};
 use beam_tools::fault::RunFault;
 use beam_tools::files::FileSystem;
-use beam_tools::job::{Job, job_status};
+use beam_tools::job::{Job, JobFault, job_status};
 use beam_tools::node::node_run;
 use beam_tools::program::Program;
 use beam_tools::report::report;
 use beam_tools::thread::{AnyStatus, on_thread};
 use beam_tools::words::words;
 use std::process::ExitCode;
+
+/// For how many bytes of what a node says at its end memory is taken before it begins.
+const LAST: usize = 512;
 
 fn texts<'b, 'a>(rt: &HostRuntime, words: &'b [String]) -> Result<Vec<&'b str>, RunFault<'a>> {
     match words.iter().map(|word| word.as_str()).collect(rt.alloc()) {
@@ -49,7 +52,17 @@ fn main(rt: HostRuntime) -> ExitCode {
         match job(&rt, &words) {
             Job::Done(status) => status,
             Job::Pipe => job_status(&words, pipe(&rt), &mut rt.stderr()),
-            Job::Serve(line) => job_status(&words, serve(&rt, &rt, &line), &mut rt.stderr()),
+            Job::Serve(line) => {
+                // What the node says at its end is written after the lines of the log, and by the same thread.
+                let mut last = Vec::new(rt.alloc());
+                let room = last.reserve(LAST);
+                let (Ok(()), Ok(lines)) = (room, start_log(rt)) else {
+                    return job_status(&words, Err(JobFault::NoMemory), &mut rt.stderr());
+                };
+                let status = job_status(&words, serve(&rt, &rt, &lines, &line), &mut last);
+                lines.close(&rt, last);
+                status
+            }
         }
     };
     ExitCode::from(on_thread(&rt, Program::Node, AnyStatus, work, &mut errors))
