@@ -119,6 +119,10 @@ impl<R: Wait + time::Clock> Gate for BarrierGate<'_, R> {
         report.outs = report.outs.saturating_add(1);
     }
 
+    fn must_wait(&self, _pid: u32) -> bool {
+        false
+    }
+
     fn back(&self, _pid: u32) {
         if self.report().outs < self.first {
             return;
@@ -146,6 +150,8 @@ impl<R: Wait + time::Clock> Gate for BarrierGate<'_, R> {
         let mut report = self.report.lock(self.rt);
         report.tally.signalled = report.tally.signalled.saturating_add(1);
     }
+
+    fn refused(&self, _pid: u32) {}
 
     fn filled(&self, threshold: JournalThreshold) {
         let mut report = self.report.lock(self.rt);

@@ -28,7 +28,7 @@ pub enum Argument {
 
 /// Why a command couldn't be made.
 #[derive(Clone, Copy, Debug)]
-enum CommandFault {
+pub enum CommandFault {
     Listing(ListingError),
     Assembly(AsmError),
     /// The layer and the number of a file's refusal.
@@ -76,7 +76,7 @@ fn terms(alloc: Global, arguments: &[Argument]) -> Option<SpawnArguments> {
 }
 
 /// The file of the listing in this text.
-fn file(alloc: Global, text: &str) -> Result<Vec<u8>, CommandFault> {
+pub fn file(alloc: Global, text: &str) -> Result<Vec<u8>, CommandFault> {
     match read_listing(alloc, text) {
         Ok(listing) => match assemble(alloc, &listing) {
             Ok(file) => Ok(file),

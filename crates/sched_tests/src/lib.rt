@@ -8,6 +8,8 @@ mod commands;
 #[cfg(test)]
 mod concurrent_sessions;
 #[cfg(test)]
+mod console;
+#[cfg(test)]
 mod crowds;
 #[cfg(test)]
 mod deep;
@@ -17,6 +19,8 @@ mod devices;
 mod limits;
 #[cfg(test)]
 mod listings;
+#[cfg(test)]
+mod node_client;
 #[cfg(test)]
 mod played;
 #[cfg(test)]
@@ -29,6 +33,12 @@ mod rings;
 mod run_queues;
 #[cfg(test)]
 mod scenario;
+#[cfg(test)]
+mod serving;
+#[cfg(test)]
+mod serving_rows;
+#[cfg(test)]
+mod serving_tests;
 #[cfg(test)]
 mod sessions;
 #[cfg(test)]

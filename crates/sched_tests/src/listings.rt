@@ -18,6 +18,17 @@ pub const LOOP: &str = "{module,l}. {exports,[{loop,0}]}. {attributes,[]}. {labe
 {label,2}. {call_only,0,{f,2}}.
 ";
 
+/// double() makes a tuple of two empty lists, and 39 times a tuple that has the one before it twice, and waits: a few kilobytes, whose text
+/// has terabytes.
+pub const DOUBLE: &str = "{module,d}. {exports,[{double,0}]}. {attributes,[]}. {labels,6}.
+{function,double,0,2}. {label,1}. {func_info,{atom,d},{atom,double},0}.
+{label,2}. {move,nil,{x,0}}. {move,{integer,40},{x,1}}.
+{label,3}. {put_tuple2,{x,0},{list,[{x,0},{x,0}]}}. {gc_bif,'-',{f,0},2,[{x,1},{integer,1}],{x,1}}.
+{test,is_eq_exact,{f,3},[{x,1},{integer,0}]}. {allocate,1,1}. {move,{x,0},{y,0}}.
+{label,4}. {loop_rec,{f,5},{x,0}}. {loop_rec_end,{f,4}}.
+{label,5}. {wait,{f,4}}.
+";
+
 /// sleep(N) ends after N milliseconds.
 pub const SLEEP: &str = "{module,s}. {exports,[{sleep,1}]}. {attributes,[]}. {labels,3}.
 {function,sleep,1,2}. {label,1}. {func_info,{atom,s},{atom,sleep},1}.

@@ -69,6 +69,10 @@ struct ClockGate<'a> {
 impl Gate for ClockGate<'_> {
     fn out(&self, _pid: u32) {}
 
+    fn must_wait(&self, _pid: u32) -> bool {
+        false
+    }
+
     fn back(&self, _pid: u32) {
         self.clock.advance(BACK);
     }
@@ -76,6 +80,8 @@ impl Gate for ClockGate<'_> {
     fn ran(&self, _pid: u32, _outcome: &Outcome) {}
 
     fn ended(&self, _pid: u32, _reason: &Term) {}
+
+    fn refused(&self, _pid: u32) {}
 
     fn filled(&self, _threshold: JournalThreshold) {}
 }
