@@ -69,10 +69,13 @@ CLASSES = 64
 
 class Blocks:
     """The blocks that a program has at a moment: their bytes, how many they are, and the bytes of the longest one, if it's the only one of
-    its class."""
+    its class. A block of `reserve` bytes isn't counted, if that isn't 0."""
 
-    def __init__(self, words):
-        sizes, numbers = words[:CLASSES], words[CLASSES:]
+    def __init__(self, words, reserve=0):
+        sizes, numbers = list(words[:CLASSES]), list(words[CLASSES:])
+        if reserve:
+            sizes[reserve.bit_length()] -= reserve
+            numbers[reserve.bit_length()] -= 1
         last = max((digits for digits, number in enumerate(numbers) if number), default=0)
         self.bytes, self.number = sum(sizes), sum(numbers)
         self.longest = sizes[last] if numbers[last] == 1 else None
@@ -87,7 +90,7 @@ class Counter:
         subprocess.run(words, input=ALLOCATOR.encode(), check=True)
 
     @contextlib.contextmanager
-    def program(self, words, stdin=None):
+    def program(self, words, stdin=None, reserve=0):
         """The process of a program, and a function that reads its blocks. At the end of this block of code the process is ended."""
         with tempfile.NamedTemporaryFile(dir=self.folder) as file:
             file.truncate(mmap.PAGESIZE)
@@ -95,7 +98,7 @@ class Counter:
             process = subprocess.Popen(words, env=environment, stdin=stdin, stdout=subprocess.PIPE)
             with mmap.mmap(file.fileno(), mmap.PAGESIZE, access=mmap.ACCESS_READ) as page:
                 try:
-                    yield process, lambda: Blocks(struct.unpack(f"{2 * CLASSES}q", page[:16 * CLASSES]))
+                    yield process, lambda: Blocks(struct.unpack(f"{2 * CLASSES}q", page[:16 * CLASSES]), reserve)
                 finally:
                     process.kill()
                     process.wait()

@@ -20,7 +20,7 @@ process lives. Of its bytes those are taken off that it keeps for ever, by name:
   room for all of them to be held. Their room is doubled when it is full.
 
 Bytes are whole numbers, so what an entry holds is measured without an error, on a node of its own: it has to be the same from one time to
-the next. The tables are those of a node with as many processes. What is left may grow from the first minute to the end by a tenth."""
+the next. The tables are those of a node with as many processes. The memory that a node keeps for sessions isn't counted. What is left may grow from the first minute to the end by a tenth."""
 
 import argparse
 import collections
@@ -44,6 +44,8 @@ from beamctl import FRAMES  # noqa: E402
 from commands import connect, frame, receive  # noqa: E402
 
 BATCH, ENTRY, LOOK = 50, 64, 10.0
+# The bytes that a node keeps for sessions (crates/beam_serve/src/memory_reserve.rt).
+RESERVE = 64_000_000
 # After how many seconds the node is brought to rest first, and by which factor its memory may have grown at the end.
 FIRST, MOST_GROWTH = 60.0, 1.1
 MESSAGE = "{a,[1,2]}"
@@ -221,7 +223,7 @@ def begin(connection):
 @contextlib.contextmanager
 def counted(counter, *words):
     """A node whose blocks are counted: its process, its port, and a function that reads its blocks."""
-    with counter.program([words[0], "serve", "--port", "0", *words[1:]]) as (process, blocks):
+    with counter.program([words[0], "serve", "--port", "0", *words[1:]], reserve=RESERVE) as (process, blocks):
         port = int(process.stdout.readline().rsplit(b":")[-1])
         if not blocks().bytes:
             sys.exit(f"{words[0]} has an allocator of its own")
