@@ -603,7 +603,7 @@ logs "lines that were lost" 1 "$time \[WARN  beam_serve::log_writer\] [0-9]+ lin
 logs "a line after them" 1 "$time \[INFO  $module\] process <0\.1\.0>: ended with told"
 stops
 wait "$reader"
-# Three lines of each session, those of the connections of the client and of beamctl, that of the load, and that of the end.
+# Three lines of each session, a line of the client's connection, one of beamctl's, one of the load, and one of the end.
 count=$((count + 1))
 lost=$(sed -n 's/.*\] \([0-9]*\) lines lost$/\1/p' log)
 lines=$(grep -cv 'lines lost$' log)
