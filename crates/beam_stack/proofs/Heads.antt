@@ -8,7 +8,7 @@ use Rattle.beam_machine.specs.Prelude.{words_of, with_y, tag_in, tag_of, slots_o
 use Rattle.beam_term.specs.Prelude.{TermValue}
 use Rattle.beam_model.specs.Prelude.{Place}
 use Rattle.beam_machine.specs.declared.process.Slot.TheVariants as slot
-use Rattle.beam_stack.specs.Prelude.{Word, newest_y, y_count, is_bare, frames_of, are_linked, IsStack, slots_with, marked}
+use Rattle.beam_stack.specs.Prelude.{Word, newest_y, y_count, is_bare, frames_of, are_linked, IsStack, slots_with, marked, needs_no_drop}
 use Rattle.beam_stack.specs.Word as word
 use Rattle.beam_stack.proofs.Grown.{one_more}
 use Rattle.beam_stack.proofs.Tops.{are_y, frame_with, frames_top, by_top, stack_of, none_after, linked_parts}
@@ -58,6 +58,20 @@ bare_end ws newest stack = by_top (λ vs at. is_bare (frames_of vs) ≡ true →
         let none : has_y ≡ false = bare_top has_y back (slots_with [] after) (frames_of before) (ap is_bare (sym (frames_top before back has_y below after slots)) ∙ bare) in
         let nothing : after ≡ [] = none_after after (subst (λ b. are_y b after ≡ true) none slots) in
         omega (arith, length-append before (word.Head back has_y below ∷ after), ap length nothing)
+
+-- a frame without y registers ends with a word that has nothing to be freed
+pub bare_plain : (ws : List Word) (newest : ℕ) → IsStack ws newest → is_bare (frames_of ws) ≡ true → (front : List Word) (last : Word) → ws ≡ front ++ last ∷ [] → needs_no_drop last ≡ true
+bare_plain ws newest stack =
+    by_top (λ vs at. is_bare (frames_of vs) ≡ true → (front : List Word) (last : Word) → vs ≡ front ++ last ∷ [] → needs_no_drop last ≡ true) (λ bare. absurd (false≢true bare)) some ws newest stack
+  where
+    some : (before : List Word) (back : Option Place) (has_y : Bool) (below : ℕ) (after : List Word) → words_of (frames_of before) ≡ length before → are_y has_y after ≡ true
+        → is_bare (frames_of (before ++ word.Head back has_y below ∷ after)) ≡ true → (front : List Word) (last : Word) → before ++ word.Head back has_y below ∷ after ≡ front ++ last ∷ []
+        → needs_no_drop last ≡ true
+    some before back has_y below after whole slots bare front last is =
+        let none : has_y ≡ false = bare_top has_y back (slots_with [] after) (frames_of before) (ap is_bare (sym (frames_top before back has_y below after slots)) ∙ bare) in
+        let nothing : after ≡ [] = none_after after (subst (λ b. are_y b after ≡ true) none slots) in
+        let same : (front ≡ before) × (last ≡ word.Head back has_y below) = same_from_push front before last (word.Head back has_y below) (sym is ∙ ap (λ vs. before ++ word.Head back has_y below ∷ vs) nothing) in
+        ap needs_no_drop same.1
 
 -- where there is a frame there is a word
 pub bare_length : (ws : List Word) (newest : ℕ) → IsStack ws newest → is_bare (frames_of ws) ≡ true → 0 < length ws

@@ -5,8 +5,8 @@ use Rattle.beam_machine.specs.declared.process.Slot.{Slot}
 use Rattle.beam_machine.specs.Prelude.{is_in, is_place_in, words_of, with_y}
 use Rattle.beam_machine.specs.declared.process.Slot.TheVariants as slot
 use Rattle.beam_machine.specs.declared.process.Tag.{Tag as CatchTag}
-use Rattle.beam_term.specs.Prelude.{int_term, nil_term}
 use Rattle.beam_stack.specs.declared.word.Head.{Head}
+use Rattle.beam_stack.specs.Plain.{is_plain}
 use Rattle.beam_stack.specs.Word.{Word}
 use Rattle.beam_stack.specs.Word as word
 use Rattle.beam_stack.specs.Frames.{newest_y, y_count, older_than}
@@ -62,9 +62,7 @@ tag_of_word w = None
 
 -- whether a word has nothing to be freed: a frame's head, a catch tag, an integer or []
 abbrev pub needs_no_drop : Word → Bool
-needs_no_drop (word.Value (int_term n)) = true
-needs_no_drop (word.Value nil_term) = true
-needs_no_drop (word.Value t) = false
+needs_no_drop (word.Value t) = is_plain t
 needs_no_drop w = true
 
 -- the count of y registers of the frame below, which a head holds

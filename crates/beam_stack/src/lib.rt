@@ -5,5 +5,6 @@
 #![tactic(auto)]
 
 pub mod frames;
+pub mod plain;
 pub mod walk;
 mod word;

@@ -9,6 +9,7 @@ ghost use Rattle.beam_stack.specs.Word as word;
 ghost use Rattle.beam_stack.specs.Word.{Word as TheWord};
 ghost use Rattle.beam_stack.specs.Words.{word_of, marked, needs_no_drop, is_word_in, slots_with, below_in, head_in, slot_in, tag_of_word};
 
+use crate::plain::{forget_plain, forget_plain_word};
 use beam_machine::process::{Slot, Slots, Tag};
 use beam_model::place::Place;
 use beam_term::{Term, TermView};
@@ -441,7 +442,7 @@ pub(crate) fn copy_slots(alloc: Global, words: &[Word]) -> Result<Slots, AllocEr
 fn let_go_of(term: Term) {
     let needs_no_drop = matches!(term.view(), TermView::Integer(_) | TermView::Nil);
     if needs_no_drop {
-        mem::forget(term);
+        forget_plain(term);
     } else {
         drop(term);
     }
@@ -451,7 +452,7 @@ fn let_go_of(term: Term) {
 #[inline(always)]
 fn let_go(word: Word) {
     if word.needs_no_drop() {
-        mem::forget(word);
+        forget_plain_word(word);
     } else {
         drop(word);
     }
@@ -470,10 +471,11 @@ pub(crate) fn truncate_words(words: &mut Vec<Word>, count: usize)
 /// Drops the last word, which is a head: it has nothing to be freed.
 #[inline(always)]
 pub(crate) fn drop_last(words: &mut Vec<Word>)
-    requires { 0 < vec_len words.old }
+    requires some { 0 < vec_len words.old }
+    requires plain { (front : List TheWord) (last : TheWord) → words.old.items ≡ front ++ last ∷ [] → needs_no_drop last ≡ true }
     ensures { words.new.items ≡ take (length words.old.items - 1) words.old.items }
 {
-    mem::forget(words.take_last());
+    forget_plain_word(words.take_last());
 }
 
 /// Adds a word. Where memory is refused nothing changes.

@@ -1,14 +1,17 @@
 use Rattle.std.proofs.Common.{◌≡◌, ◌≤◌, ◌+◌, ◌-◌, length, take, slice_get, ap, sym, ◌∙◌, subst, arith}
 use Rattle.beam_stack.specs.Prelude.{is_bare, older_than, frames_of, IsStack, below_in}
-use Rattle.beam_stack.proofs.Heads.{bare_end}
+use Rattle.beam_stack.proofs.Heads.{bare_end, bare_plain}
 use Rattle.beam_stack.proofs.Lists.{take_most}
 use Rattle.beam_stack.proofs.Tops.{IsPopped, popped}
 use Rattle.beam_stack.proofs.frames.Frames.pop_bare.Goals as goal
 
-pub drop_last-requires : goal.drop_last-requires
-drop_last-requires c =
+pub drop_last-requires-clause-some : goal.drop_last-requires-clause-some
+drop_last-requires-clause-some c =
     let end : length c.self.inside.words.items ≡ c.self.inside.newest + 1 = bare_end c.self.inside.words.items c.self.inside.newest c.self.invariant.0 (ap is_bare c.self.view_is ∙ c.requires) in
     omega (arith, end, c.self.inside.words.ok.0)
+
+pub drop_last-requires-clause-plain : goal.drop_last-requires-clause-plain
+drop_last-requires-clause-plain c = bare_plain c.self.inside.words.items c.self.inside.newest c.self.invariant.0 (ap is_bare c.self.view_is ∙ c.requires)
 
 pub invariant_of-self : goal.invariant_of-self
 invariant_of-self c =
