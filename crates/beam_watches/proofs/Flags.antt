@@ -5,7 +5,7 @@ use Rattle.std.specs.List.Sorted.{IsSearchInRange, IsBinarySearchResult, IsNonDe
 use Rattle.std.specs.Ordering.{ordering_index, nat_cmp}
 use Rattle.std.proofs.lemmas.Bool.Decides.{nat_tests}
 use Rattle.std.proofs.lemmas.Cmp.{ranked}
-use Rattle.std.proofs.lemmas.List.{length-replicate, get_or_append_left, get_or_push, get_or_default, set-get_or, map-append}
+use Rattle.std.proofs.lemmas.List.{length-replicate, get_or_append_left, get_or_push, get_or_default, set-get_or, map-append, length-map}
 use Rattle.std.proofs.lemmas.List.Sorted.{IsNonDecreasingBy-from_default}
 use Rattle.beam_machine.specs.declared.process.Monitor.{Monitor}
 use Rattle.beam_machine.specs.Prelude.{monitor_of, without_monitor}
@@ -181,6 +181,10 @@ searched n es rising (Err at) within parted = record {
 
     greater : (j : ℕ) → at ≤ j → j < length es → n < reference_at es j
     greater j h within = ranked _ n _ (sym ((parted (rise n es rising)).1 j (0, nil_term) h within))
+
+-- the count of the flags that are set is that of the monitors
+pub counted_monitors : (es : Entries) (fs : List Bool) (count : ℕ) → AreFlagged es fs count → count ≡ length (monitors_in (flagged es fs))
+counted_monitors es fs count kept = kept.counted ∙ sym (length-map {B = Monitor} (flagged es fs) (λ (e : ℕ × TermValue). record { reference = e.0; pid = e.1 }))
 
 -- ---- changes of the kept entries
 

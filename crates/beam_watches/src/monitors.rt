@@ -1,5 +1,5 @@
 //! The monitors of a process.
-ghost use Rattle.std.specs.Prelude.{◌≡◌, ◌↔◌, IsTrue, [], ◌∷◌, ◌++◌, OnOk, OnErr, IfOk, option_map, length};
+ghost use Rattle.std.specs.Prelude.{◌≡◌, ◌==◌, [], ◌∷◌, ◌++◌, OnOk, OnErr, IfOk, option_map, length};
 ghost use Rattle.std.specs.List.{list_any};
 ghost use Rattle.std.specs.Option.{option_copied};
 ghost use Rattle.std.specs.Iterator.{at_most};
@@ -129,7 +129,7 @@ impl Monitors {
 
     /// Whether there are none.
     pub fn is_empty(&self) -> bool
-        ensures { IsTrue result → self.now ≡ [] }
+        ensures { result ≡ (length self.now == 0) }
     {
         self.older.is_none() && self.newest.is_none()
     }

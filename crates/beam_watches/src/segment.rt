@@ -1,5 +1,5 @@
 //! A part of the monitors of a process.
-ghost use Rattle.std.specs.Prelude.{◌≡◌, ◌∷◌, ◌++◌, [], IsTrue, IfOk, OnOk, OnErr, option_map};
+ghost use Rattle.std.specs.Prelude.{◌≡◌, ◌==◌, ◌<◌, ◌∷◌, ◌++◌, [], IfOk, OnOk, OnErr, option_map, length};
 ghost use Rattle.std.specs.Option.{option_copied};
 ghost use Rattle.beam_machine.specs.Process.{monitor_of, without_monitor};
 ghost use Rattle.beam_watches.specs.MonitorEntries.{monitors_in, AreBelow, AreApart, AreRising};
@@ -22,7 +22,7 @@ impl Drop for Segment {
 }
 
 impl Model for Segment {
-    ghost use Rattle.std.specs.Prelude.{List, [], unwrap_or};
+    ghost use Rattle.std.specs.Prelude.{◌<◌, List, [], IfSome, length, unwrap_or};
     ghost use Rattle.std.specs.Coded.{codes};
     ghost use Rattle.beam_term.specs.Coding.{term_code};
     ghost use Rattle.beam_machine.specs.declared.process.Monitor.{Monitor};
@@ -32,6 +32,8 @@ impl Model for Segment {
     ghost coded = { Prim.hlevel (codes, term_code) };
 
     ghost view = { λ p. unwrap_or p.shared [] };
+
+    ghost invariant = { λ p. IfSome p.shared (λ kept. 0 < length kept) };
 }
 
 impl Segment {
@@ -44,16 +46,15 @@ impl Segment {
 
     /// Whether there are none.
     pub(crate) fn is_none(&self) -> bool
-        ensures { IsTrue result → self.now ≡ [] }
+        ensures { result ≡ (length self.now == 0) }
     {
-        match &self.shared {
-            Some(shared) => shared.is_empty(),
-            None => true,
-        }
+        self.shared.is_none()
     }
 
     /// How many are kept.
-    fn count(&self) -> usize {
+    fn count(&self) -> usize
+        ensures { result ≡ length self.now }
+    {
         match &self.shared {
             Some(shared) => shared.count(),
             None => 0,
@@ -61,7 +62,9 @@ impl Segment {
     }
 
     /// How many entries it holds, kept or not.
-    pub(crate) fn len(&self) -> usize {
+    pub(crate) fn len(&self) -> usize
+        ensures { 0 < result → 0 < length self.now }
+    {
         match &self.shared {
             Some(shared) => shared.len(),
             None => 0,
@@ -93,10 +96,14 @@ impl Segment {
     pub(crate) fn remove(&mut self, reference: u32)
         ensures { self.new ≡ without_monitor reference self.old }
     {
-        if let Some(shared) = &mut self.shared {
-            shared.remove(reference);
-        }
-        if self.is_none() {
+        let was_last = match &mut self.shared {
+            Some(shared) => {
+                shared.remove(reference);
+                shared.is_empty()
+            }
+            None => false,
+        };
+        if was_last {
             self.shared = None;
         }
     }
@@ -121,9 +128,10 @@ impl Segment {
         }
     }
 
-    /// These, and after them others of greater references, in one part that shares nothing but the pids.
+    /// These, and after them others of greater references, which aren't none, in one part that shares nothing but the pids.
     pub(crate) fn joined(&self, alloc: Global, others: &Segment) -> Result<Segment, AllocError>
-        requires { AreApart self.now others.now }
+        requires apart { AreApart self.now others.now }
+        requires some { 0 < length others.now }
         ensures { IfOk result (λ part. part ≡ self.now ++ others.now) }
     {
         let count = self.count().saturating_add(others.count());

@@ -1,5 +1,5 @@
 //! Monitors that copies share, each copy with its own flags of those that it keeps.
-ghost use Rattle.std.specs.Prelude.{◌≡◌, ◌∷◌, ◌++◌, [], IsTrue, IfOk, IfErr, OnOk, OnErr, option_map, length};
+ghost use Rattle.std.specs.Prelude.{◌≡◌, ◌==◌, ◌/◌, ◌∷◌, ◌++◌, [], IsTrue, IfOk, IfErr, OnOk, OnErr, nat_lt, option_map, length};
 ghost use Rattle.std.specs.Option.{option_copied};
 ghost use Rattle.std.specs.Iterator.{at_most};
 ghost use Rattle.std.specs.Map.Iter.{TakesFirst, deref_pair};
@@ -138,6 +138,13 @@ pub(crate) fn gather(
     Ok(())
 }
 
+/// Whether less than half of the entries are kept.
+fn is_sparse(kept: usize, entries: usize) -> bool
+    ensures { result ≡ nat_lt kept (entries / 2) }
+{
+    kept < entries / 2
+}
+
 impl SharedMonitors {
     /// The monitors of a list, all of them kept.
     pub(crate) fn whole(alloc: Global, all: Vec<(u32, Term)>) -> Result<SharedMonitors, AllocError>
@@ -164,14 +171,18 @@ impl SharedMonitors {
     }
 
     /// Whether no monitor is kept.
+    #[tactic(auto, using(crate::proofs::Flags::counted_monitors))]
     pub(crate) fn is_empty(&self) -> bool
-        ensures { IsTrue result → self.now ≡ [] }
+        ensures { result ≡ (length self.now == 0) }
     {
         self.count == 0
     }
 
     /// How many are kept.
-    pub(crate) fn count(&self) -> usize {
+    #[tactic(auto, using(crate::proofs::Flags::counted_monitors))]
+    pub(crate) fn count(&self) -> usize
+        ensures { result ≡ length self.now }
+    {
         self.count
     }
 
@@ -238,7 +249,7 @@ impl SharedMonitors {
         ensures err { OnErr result (self.new ≡ self.old) }
         ensures back { IfErr result (λ back. back ≡ pid) }
     {
-        if self.is_sparse() || self.flags.reserve(1).is_err() {
+        if is_sparse(self.count, self.flags.len()) || self.flags.reserve(1).is_err() {
             return Err(pid);
         }
         let Some(all) = Arc::get_mut(&mut self.all) else {
@@ -251,11 +262,6 @@ impl SharedMonitors {
         self.flags.push_reserved(true);
         self.count += 1;
         Ok(())
-    }
-
-    /// Whether less than half of them are kept.
-    fn is_sparse(&self) -> bool {
-        self.count < self.flags.len() / 2
     }
 
     /// Adds a monitor of a greater reference. Where memory is refused nothing changes.
@@ -278,7 +284,7 @@ impl SharedMonitors {
         ensures { IfOk result (λ copy. copy ≡ self.now) }
     {
         let alloc = *self.flags.allocator();
-        if self.is_sparse() {
+        if is_sparse(self.count, self.flags.len()) {
             return SharedMonitors::whole(alloc, self.gathered(SPARE)?);
         }
         let flags = Vec::from_slice(alloc, &self.flags)?;
