@@ -1,12 +1,12 @@
 //! An entry of the process table: a process, or the pid, the reason and the value of one that has ended.
-ghost use Rattle.std.specs.Prelude.{◌≡◌, ◌==◌, ◌++◌, not, true, false, length, if◌then◌else◌, Some, None, MatchOption, IfOk, OnOk, OnErr, option_map};
+ghost use Rattle.std.specs.Prelude.{◌≡◌, ◌≢◌, ◌==◌, ◌++◌, not, true, false, length, if◌then◌else◌, Some, None, MatchOption, IfOk, OnOk, OnErr, option_map};
 ghost use Rattle.std.specs.Fn.{FnOnceTakesAtMut, FnOnceReturnsAtMut};
 ghost use Rattle.std.specs.List.{list_any};
 ghost use Rattle.std.specs.Option.{option_copied};
 ghost use Rattle.beam_machine.specs.Change.{lingers};
 ghost use Rattle.beam_machine.specs.Process.{is_running, is_waiting, is_ended};
 ghost use Rattle.beam_machine.specs.State.{monitors_process};
-ghost use Rattle.beam_proc.specs.Entry.{bare, end_of};
+ghost use Rattle.beam_proc.specs.Entry.{bare, end_of, process_in, HasOnlyEnd, IsSettled};
 ghost use Rattle.beam_proc.specs.Downs.{downs_to};
 
 use crate::private::Sent;
@@ -39,19 +39,22 @@ impl Model for ProcessEntry {
     ghost use Rattle.std.specs.Coded.{codes};
     ghost use Rattle.beam_term.specs.Coding.{term_code};
     ghost use Rattle.beam_machine.specs.Process.{Process as TheProcess};
-    ghost use Rattle.beam_proc.specs.Entry.{process_in};
+    ghost use Rattle.beam_proc.specs.Entry.{process_in, IsSettled};
 
     ghost Value = { TheProcess };
 
     ghost coded = { Prim.hlevel (codes, term_code) };
 
     ghost view = { λ e. process_in e.state };
+
+    ghost invariant = { λ e. IsSettled e.state };
 }
 
 impl Process {
     /// Whether the process has only its pid and its status.
     fn holds_nothing(&self) -> bool
-        ensures { result ≡ true → self.now ≡ bare self.now.pid self.now.status }
+        ensures bare { result ≡ true → self.now ≡ bare self.now.pid self.now.status }
+        ensures more { result ≡ false → self.now ≢ bare self.now.pid self.now.status }
     {
         self.name.is_none()
             && self.x.is_empty()
@@ -67,7 +70,8 @@ impl Process {
 
     /// Takes the reason and the value out, if it has ended and has only its pid beside them.
     fn take_end(&mut self) -> Option<(Term, Term)>
-        ensures { MatchOption result (self.new ≡ self.old) (λ end. self.old ≡ bare self.new.pid (Status.Ended end.0 end.1)) }
+        ensures end { MatchOption result (self.new ≡ self.old) (λ end. self.old ≡ bare self.new.pid (Status.Ended end.0 end.1)) }
+        ensures none { result ≡ None → HasOnlyEnd self.old → ⊥ }
     {
         if !self.holds_nothing() {
             return None;
@@ -86,26 +90,27 @@ impl Process {
     }
 }
 
+/// Reduces an ended process to its pid, its reason and its value.
+fn settle(state: &mut EntryState)
+    ensures same { process_in state.new ≡ process_in state.old }
+    ensures settled { IsSettled state.new }
+{
+    if let EntryState::Living(process) = state
+        && let Some((reason, value)) = process.take_end()
+    {
+        let pid = process.pid();
+        *state = EntryState::Ended { pid, reason, value };
+    }
+}
+
 impl ProcessEntry {
     /// The entry of a process. Where memory is refused there is none.
     pub fn new(alloc: Global, process: Process) -> Result<ProcessEntry, AllocError>
         ensures { IfOk result (λ entry. entry ≡ process) }
     {
-        Ok(ProcessEntry {
-            state: EntryState::Living(Box::new(alloc, process)?),
-        })
-    }
-
-    /// Reduces an ended process to its pid, its reason and its value.
-    fn settle(&mut self)
-        ensures { self.new ≡ self.old }
-    {
-        if let EntryState::Living(process) = &mut self.state
-            && let Some((reason, value)) = process.take_end()
-        {
-            let pid = process.pid();
-            self.state = EntryState::Ended { pid, reason, value };
-        }
+        let mut state = EntryState::Living(Box::new(alloc, process)?);
+        settle(&mut state);
+        Ok(ProcessEntry { state })
     }
 
     /// Makes a change of a process that hasn't ended, and answers the result of the change.
@@ -118,7 +123,7 @@ impl ProcessEntry {
             EntryState::Living(process) => change(process),
             EntryState::Ended { .. } => unreachable!(),
         };
-        self.settle();
+        settle(&mut self.state);
         result
     }
 

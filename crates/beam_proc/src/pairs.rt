@@ -6,6 +6,7 @@ ghost use Rattle.beam_proc.specs.Pairs.{PutsBefore, TakesApart};
 
 use crate::process::Process;
 use crate::quick::rewrite;
+use beam_stack::plain::forget_plain;
 use beam_term::{NoPair, Term, pair};
 use std::alloc::Global;
 use std::mem;
@@ -22,15 +23,18 @@ fn take(x: &mut Vec<Term>, register: usize) -> Term
 
 /// Puts a value into a register that holds `[]`, which has nothing to be freed.
 #[inline(always)]
+#[tactic(auto, using(crate::proofs::Emptied::empty_plain))]
 fn give(x: &mut Vec<Term>, register: usize, value: Term)
-    requires { register < length x.old.items }
+    requires register { register < length x.old.items }
+    requires empty { read_x x.old.items register ≡ nil_term }
     ensures items { x.new.items ≡ slice_set x.old.items register value }
 {
-    mem::forget(mem::replace(&mut x[register], value));
+    forget_plain(mem::replace(&mut x[register], value));
 }
 
 /// Takes the pair in a register apart, as `Process::take_apart` does.
 #[inline(always)]
+#[tactic(auto, using(crate::proofs::Emptied::emptied, crate::proofs::Emptied::emptied_behind))]
 fn take_apart(x: &mut Vec<Term>, register: usize, head: u32) -> bool
     requires register { register < length x.old.items }
     requires head { head < length x.old.items }
@@ -53,6 +57,7 @@ fn take_apart(x: &mut Vec<Term>, register: usize, head: u32) -> bool
 
 /// Puts a head before the value of a register, as `Process::put_before` does.
 #[inline(always)]
+#[tactic(auto, using(crate::proofs::Emptied::emptied))]
 fn put_before(x: &mut Vec<Term>, alloc: Global, head: Term, register: usize) -> bool
     requires { register < length x.old.items }
     ensures done { result ≡ true → PutsBefore x.old.items head register x.new.items }
