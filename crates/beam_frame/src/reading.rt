@@ -48,7 +48,7 @@ fn read_frame(alloc: Global, bytes: &[u8]) -> Result<Option<(Command, usize)>, F
 pub struct FrameReader {
     alloc: Global,
     buffer: Vec<u8>,
-    // How many bytes at the front of the buffer belong to frames that were read.
+    // How many bytes at the front of the buffer belong to frames that were read: at most half of them.
     start: usize,
     failed: bool,
 }
@@ -65,14 +65,14 @@ impl Drop for FrameReader {
 }
 
 impl Model for FrameReader {
-    ghost use Rattle.std.specs.Prelude.{◌≤◌, drop, vec_len};
+    ghost use Rattle.std.specs.Prelude.{◌≤◌, ◌*◌, drop, vec_len};
     ghost use Rattle.beam_frame.specs.Reader.{Reader};
 
     ghost Value = { Reader };
 
     ghost view = { λ r. record { pending = drop r.start r.buffer.items; failed = r.failed } };
 
-    ghost invariant = { λ r. r.start ≤ vec_len r.buffer };
+    ghost invariant = { λ r. 2 * r.start ≤ vec_len r.buffer };
 }
 
 /// Removes `count` bytes from the front.
