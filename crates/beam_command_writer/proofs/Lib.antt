@@ -1,0 +1,5 @@
+pub mod BigNumbers
+pub mod RoundTrip
+pub mod Spelled
+pub mod Unspelled
+pub mod UpgradeFiles
