@@ -1,0 +1,10 @@
+pub mod PlainRows
+pub mod Downs
+pub mod Telling
+pub mod Ends
+pub mod Entering
+pub mod Staying
+pub mod StayingRows
+pub mod OnlyEnds
+pub mod Deadlines
+pub mod Present
