@@ -1,13 +1,15 @@
 -- Each step of a pass keeps the rule.
-use Rattle.std.proofs.Common.{◌≡◌, ◌≢◌, ◌⊎◌, inl, inr, ℕ, zero, suc, ◌+◌, ◌<◌, List, [], ◌∷◌, ◌++◌, length, set, true, false, cond, eqb, eq-eqb, ne_eqb, refl, sym, ap, ◌∙◌, subst, ⊎_elim, arith, slice_get, slice_index_or, Option, Some, None, option_map, IfSome, append-nil}
+use Rattle.std.proofs.Common.{◌≡◌, ◌≢◌, ◌⊎◌, inl, inr, ℕ, zero, suc, ◌+◌, ◌<◌, List, [], ◌∷◌, ◌++◌, length, set, true, false, cond, eqb, eq-eqb, ne_eqb, refl, sym, ap, ◌∙◌, subst, ⊎_elim, arith, slice_get, slice_index_or, Option, Some, None, option_map, IfSome, append-nil, All, take, length-append}
+use Rattle.std.proofs.lemmas.List.{take-append-le}
 use Rattle.std.proofs.lemmas.List.Elements.{filter-append, All-nil, All-head, All-tail, All-append}
 use mathlib.Core.Option.{some, some-injective, some-ne-none}
 use lib.ListN.{get_elem?}
 use Rattle.atomic_table.proofs.Lists.{at_set, set_again, set_else}
 use Rattle.beam_machine.specs.Prelude.{Entry}
 use Rattle.beam_laws.specs.Prelude.{Origin}
-use Rattle.beam_receipts.specs.Receipts.{History, empty_history, SeatHistory, Checkout, is_number, is_of, of_seat, AreOfGiven}
-use Rattle.beam_receipts.specs.Rule.{Claim, keeper_claim, seat_claim, ticket_claim, no_claim, IsSeatHistory, IsCheckout, Fits, ClaimsAgree, with_seat, with_entry, with_origin, new_seat_claim, new_ticket_claim, with_seat_entry, taken_in, alone, given_back, alone_with, given_back_with, Compares}
+use Rattle.beam_receipts.specs.Receipts.{History, empty_history, Checkout, Move, RefusedCommand, is_number, is_of, moved_in, moved_out, of_seat, AreOfGiven}
+use Rattle.beam_receipts.specs.Refused.{WereRefused, CanRefuse, WasRefused}
+use Rattle.beam_receipts.specs.Rule.{Claim, SeatClaim, keeper_claim, seat_claim, ticket_claim, no_claim, IsSeatClaim, IsCheckout, Fits, ClaimsAgree, with_seat, with_entry, with_origin, new_seat_claim, new_ticket_claim, with_seat_entry, with_checked_in, with_refused, taken_in, alone, given_back, given_back_refused, alone_with, given_back_with, Compares}
 
 -- ---- lists and options
 
@@ -37,18 +39,18 @@ if_some (Some a) P Q f h = f a h
 
 -- ---- which pass has a seat's history
 
-abbrev placed : (ℕ → ℕ) → Option SeatHistory → ℕ → ℕ → ℕ
+abbrev placed : (ℕ → ℕ) → Option SeatClaim → ℕ → ℕ → ℕ
 placed owner None at m = owner m
 placed owner (Some s) at m = cond (eqb m s.number) at (owner m)
 
-placed_here : (owner : ℕ → ℕ) (s : SeatHistory) (at : ℕ) → placed owner (Some s) at s.number ≡ at
+placed_here : (owner : ℕ → ℕ) (s : SeatClaim) (at : ℕ) → placed owner (Some s) at s.number ≡ at
 placed_here owner s at = ap (λ b. cond b at (owner s.number)) (eq-eqb s.number s.number refl)
 
-placed_else : (owner : ℕ → ℕ) (s : SeatHistory) (at m : ℕ) → m ≢ s.number → placed owner (Some s) at m ≡ owner m
+placed_else : (owner : ℕ → ℕ) (s : SeatClaim) (at m : ℕ) → m ≢ s.number → placed owner (Some s) at m ≡ owner m
 placed_else owner s at m apart = ap (λ b. cond b at (owner m)) (ne_eqb m s.number apart)
 
 -- a seat's history is in the pass where it was, if this pass didn't have it
-elsewhere : (owner : ℕ → ℕ) (o : Option SeatHistory) (by at j m : ℕ) → IfSome o (λ s. by ≡ owner s.number) → j ≢ by → j ≡ owner m → j ≡ placed owner o at m
+elsewhere : (owner : ℕ → ℕ) (o : Option SeatClaim) (by at j m : ℕ) → IfSome o (λ s. by ≡ owner s.number) → j ≢ by → j ≡ owner m → j ≡ placed owner o at m
 elsewhere owner None by at j m had apart e = e
 elsewhere owner (Some s) by at j m had apart e = e ∙ sym (placed_else owner s at m (λ same. apart (e ∙ ap owner same ∙ sym had)))
 
@@ -81,20 +83,58 @@ given_later : (given : ℕ) (entries : List Entry) → AreOfGiven given entries 
 given_later given entries below = λ k d lt. if_some (slice_index_or entries k d).seat (λ n. n < given) (λ n. n < given + 1) (λ n less. omega arith) (below k d lt)
 
 -- an entry of the seat whose history a pass had, or of no seat, isn't of a seat whose history another pass has
-not_theirs : (owner : ℕ → ℕ) (o : Option SeatHistory) (seat : Option ℕ) (by j n : ℕ) → option_map (λ s. s.number) o ≡ seat → IfSome o (λ s. by ≡ owner s.number) → j ≢ by → j ≡ owner n → is_number n seat ≡ false
+not_theirs : (owner : ℕ → ℕ) (o : Option SeatClaim) (seat : Option ℕ) (by j n : ℕ) → option_map (λ s. s.number) o ≡ seat → IfSome o (λ s. by ≡ owner s.number) → j ≢ by → j ≡ owner n → is_number n seat ≡ false
 not_theirs owner None seat by j n is had apart e = ap (is_number n) (sym is)
 not_theirs owner (Some s) seat by j n is had apart e = is_other n s.number seat (sym is) (λ same. apart (e ∙ ap owner same ∙ sym had))
+
+-- ---- refused commands
+
+-- what holds of a refused command holds of it after one more entry
+refused_after_entry : (journal : List Entry) (moves : List Move) (n : ℕ) (e : Entry) (r : RefusedCommand) → WasRefused journal moves n r → WasRefused (journal ++ e ∷ []) moves n r
+refused_after_entry journal moves n e r h =
+    let longer : length (journal ++ e ∷ []) ≡ length journal + 1 = length-append journal (e ∷ []) in
+    let front = sym (take-append-le r.entered journal (e ∷ []) h.entered) in
+    record {
+      entered = omega (arith, longer, h.entered);
+      moved = h.moved;
+      accepted = subst (λ es. length (of_seat n es) ≡ r.accepted) front h.accepted;
+      why = subst (λ es. CanRefuse es (take r.moves moves) r.event r.refusal) front h.why;
+    }
+
+-- and after one more process was checked out or in
+refused_after_move : (journal : List Entry) (moves : List Move) (n : ℕ) (m : Move) (r : RefusedCommand) → WasRefused journal moves n r → WasRefused journal (moves ++ m ∷ []) n r
+refused_after_move journal moves n m r h =
+    let longer : length (moves ++ m ∷ []) ≡ length moves + 1 = length-append moves (m ∷ []) in
+    record {
+      entered = h.entered;
+      moved = omega (arith, longer, h.moved);
+      accepted = h.accepted;
+      why = subst (λ ms. CanRefuse (take r.entered journal) ms r.event r.refusal) (sym (take-append-le r.moves moves (m ∷ []) h.moved)) h.why;
+    }
+
+all_after_entry : (journal : List Entry) (moves : List Move) (n : ℕ) (e : Entry) (refused : List RefusedCommand) → WereRefused journal moves n refused → WereRefused (journal ++ e ∷ []) moves n refused
+all_after_entry journal moves n e refused h = λ k d less. refused_after_entry journal moves n e (slice_index_or refused k d) (h k d less)
+
+all_after_move : (journal : List Entry) (moves : List Move) (n : ℕ) (m : Move) (refused : List RefusedCommand) → WereRefused journal moves n refused → WereRefused journal (moves ++ m ∷ []) n refused
+all_after_move journal moves n m refused h = λ k d less. refused_after_move journal moves n m (slice_index_or refused k d) (h k d less)
+
+pub and_one_more : {A : Type 0} (P : A → Type 0) (xs : List A) (x : A) → All P xs → P x → All P (xs ++ x ∷ [])
+and_one_more {A = A} P xs x h one = All-append P xs (x ∷ []) h only
+  where
+    only : (k : ℕ) (d : A) → k < 1 → P (slice_index_or (x ∷ []) k d)
+    only zero d lt = one
+    only (suc k) d lt = absurd (omega arith)
 
 -- ---- the rule after a step
 
 -- the claim of another pass holds after a step of the keeper's pass
 others : (all now : History) (knower : ℕ) (owner next : ℕ → ℕ) (by j : ℕ) (c : Claim) → by ≡ knower → j ≢ by
-    → ((s : SeatHistory) → (j ≡ owner s.number) × IsSeatHistory all s → (j ≡ next s.number) × IsSeatHistory now s)
+    → ((s : SeatClaim) → (j ≡ owner s.number) × IsSeatClaim all s → (j ≡ next s.number) × IsSeatClaim now s)
     → ((t : Checkout) → IsCheckout all t → IsCheckout now t)
     → Fits all knower owner j c → Fits now knower next j c
 others all now knower owner next by j c knows apart shares checkouts fits = (
   if_some c.history (λ k. (j ≡ knower) × (k ≡ all)) (λ k. (j ≡ knower) × (k ≡ now)) (λ k h. absurd (apart (h.0 ∙ sym knows))) fits.0,
-  if_some c.seat_history (λ s. (j ≡ owner s.number) × IsSeatHistory all s) (λ s. (j ≡ next s.number) × IsSeatHistory now s) shares fits.1,
+  if_some c.seat_history (λ s. (j ≡ owner s.number) × IsSeatClaim all s) (λ s. (j ≡ next s.number) × IsSeatClaim now s) shares fits.1,
   if_some c.checkout (IsCheckout all) (IsCheckout now) checkouts fits.2,
 )
 
@@ -137,7 +177,7 @@ begins = (empty_history, 0, (λ _. 0), All-nil (λ (e : Entry). IfSome e.seat (�
     one (suc by) c e = absurd (some-ne-none c (sym e))
 
 -- the claim of the keeper's pass, with the seat history or the checkout that it has taken in
-abbrev pub full : History → Option SeatHistory → Option Checkout → Claim
+abbrev pub full : History → Option SeatClaim → Option Checkout → Claim
 full k seat_history checkout = record { history = Some k; seat_history = seat_history; checkout = checkout }
 
 gives_seat : (by : ℕ) (k : History) → Cuts by (keeper_claim k) (keeper_claim (with_seat k)) (new_seat_claim (keeper_claim k))
@@ -146,7 +186,7 @@ gives_seat by k claims h at =
     let knower = h.1 in
     let owner = h.2 in
     let mine = (h.4 by (keeper_claim k) at).0 in
-    let s : SeatHistory = record { number = k.given; kept = [] } in
+    let s : SeatClaim = record { number = k.given; kept = []; refused = [] } in
     let next = placed owner (Some s) (length claims) in (
       with_seat all,
       knower,
@@ -154,11 +194,11 @@ gives_seat by k claims h at =
       given_later all.given all.journal h.3,
       fits_cut (with_seat all) knower next claims by (keeper_claim (with_seat k)) (seat_claim s)
           (λ j c apart e. others all (with_seat all) knower owner next by j c mine.0 apart
-          (λ t f. (f.0 ∙ sym (placed_else owner s (length claims) t.number (λ same. let less : t.number < all.given = f.1.0 in let is : t.number ≡ k.given = same in let history : k.given ≡ all.given = ap (λ x. x.given) mine.1 in omega arith)), ((let less : t.number < all.given = f.1.0 in omega arith), f.1.1)))
+          (λ t f. (f.0 ∙ sym (placed_else owner s (length claims) t.number (λ same. let less : t.number < all.given = f.1.0 in let is : t.number ≡ k.given = same in let history : k.given ≡ all.given = ap (λ x. x.given) mine.1 in omega arith)), ((let less : t.number < all.given = f.1.0 in omega arith), f.1.1, f.1.2)))
           (λ t f. f)
           (h.4 j c e))
           ((mine.0, ap with_seat mine.1), tt, tt)
-          (tt, (sym (placed_here owner s (length claims)), ((let history : k.given ≡ all.given = ap (λ x. x.given) mine.1 in omega arith), sym (ap (λ (x : History). of_seat x.given all.journal) mine.1 ∙ unused all.given all.journal h.3))), tt),
+          (tt, (sym (placed_here owner s (length claims)), ((let history : k.given ≡ all.given = ap (λ x. x.given) mine.1 in omega arith), sym (ap (λ (x : History). of_seat x.given all.journal) mine.1 ∙ unused all.given all.journal h.3), All-nil (WasRefused all.journal all.moves k.given))), tt),
     )
 
 checks_out : (by : ℕ) (k : History) (o : Origin) → Cuts by (keeper_claim k) (keeper_claim (with_origin o k)) (new_ticket_claim o (keeper_claim k))
@@ -174,19 +214,38 @@ checks_out by k o claims h at =
       h.3,
       fits_cut (with_origin o all) knower owner claims by (keeper_claim (with_origin o k)) (ticket_claim t)
           (λ j c apart e. others all (with_origin o all) knower owner owner by j c mine.0 apart
-          (λ s f. f)
+          (λ s f. (f.0, (f.1.0, f.1.1, all_after_move all.journal all.moves s.number (moved_out o.pid) s.refused f.1.2)))
           (λ u f. slice_get_front all.checkouts (o ∷ []) u.serial u.origin f)
           (h.4 j c e))
           ((mine.0, ap (with_origin o) mine.1), tt, tt)
           (tt, tt, subst (λ (x : History). slice_get (x.checkouts ++ o ∷ []) (length k.checkouts) ≡ Some o) mine.1 (slice_get_end k.checkouts o)),
     )
 
+checks_in : (by : ℕ) (k : History) (pid : ℕ) → Cuts by (keeper_claim k) (keeper_claim (with_checked_in pid k)) no_claim
+checks_in by k pid claims h at =
+    let all = h.0 in
+    let knower = h.1 in
+    let owner = h.2 in
+    let mine = (h.4 by (keeper_claim k) at).0 in (
+      with_checked_in pid all,
+      knower,
+      owner,
+      h.3,
+      fits_cut (with_checked_in pid all) knower owner claims by (keeper_claim (with_checked_in pid k)) no_claim
+          (λ j c apart e. others all (with_checked_in pid all) knower owner owner by j c mine.0 apart
+          (λ s f. (f.0, (f.1.0, f.1.1, all_after_move all.journal all.moves s.number (moved_in pid) s.refused f.1.2)))
+          (λ t f. f)
+          (h.4 j c e))
+          ((mine.0, ap (with_checked_in pid) mine.1), tt, tt)
+          (tt, tt, tt),
+    )
+
 -- a pass that had a seat's history owned it
-had : (all : History) (owner : ℕ → ℕ) (by : ℕ) (o : Option SeatHistory) → IfSome o (λ s. (by ≡ owner s.number) × IsSeatHistory all s) → IfSome o (λ s. by ≡ owner s.number)
-had all owner by o f = if_some o (λ s. (by ≡ owner s.number) × IsSeatHistory all s) (λ s. by ≡ owner s.number) (λ s h. h.0) f
+had : (all : History) (owner : ℕ → ℕ) (by : ℕ) (o : Option SeatClaim) → IfSome o (λ s. (by ≡ owner s.number) × IsSeatClaim all s) → IfSome o (λ s. by ≡ owner s.number)
+had all owner by o f = if_some o (λ s. (by ≡ owner s.number) × IsSeatClaim all s) (λ s. by ≡ owner s.number) (λ s h. h.0) f
 
 -- the pass that now has the seat's history
-has : (all : History) (owner : ℕ → ℕ) (by at : ℕ) (o : Option SeatHistory) → IfSome o (λ s. (by ≡ owner s.number) × IsSeatHistory all s) → IfSome o (λ s. (at ≡ placed owner o at s.number) × IsSeatHistory all s)
+has : (all : History) (owner : ℕ → ℕ) (by at : ℕ) (o : Option SeatClaim) → IfSome o (λ s. (by ≡ owner s.number) × IsSeatClaim all s) → IfSome o (λ s. (at ≡ placed owner o at s.number) × IsSeatClaim all s)
 has all owner by at None f = tt
 has all owner by at (Some s) f = (sym (placed_here owner s at), f.1)
 
@@ -210,7 +269,7 @@ takes_in by k other w claims h at apart there =
     (at_set claims by j both c e) in
     (all, knower, next, h.3, fits_set all knower next (set claims by both) other no_claim untouched (tt, tt, tt))
 
-gives_back : (by : ℕ) (k : History) (seat_history : Option SeatHistory) (checkout : Option Checkout) → Cuts by (full k seat_history checkout) (alone (full k seat_history checkout)) (given_back (full k seat_history checkout))
+gives_back : (by : ℕ) (k : History) (seat_history : Option SeatClaim) (checkout : Option Checkout) → Cuts by (full k seat_history checkout) (alone (full k seat_history checkout)) (given_back (full k seat_history checkout))
 gives_back by k seat_history checkout claims h at =
     let all = h.0 in
     let knower = h.1 in
@@ -231,17 +290,17 @@ gives_back by k seat_history checkout claims h at =
     )
 
 -- the pass that has the seat's history with the entry
-has_more : (all : History) (owner : ℕ → ℕ) (by at : ℕ) (e : Entry) (o : Option SeatHistory) → option_map (λ s. s.number) o ≡ e.seat → IfSome o (λ s. (by ≡ owner s.number) × IsSeatHistory all s)
-    → IfSome (option_map (with_seat_entry e) o) (λ s. (at ≡ placed owner o at s.number) × IsSeatHistory (with_entry e all) s)
+has_more : (all : History) (owner : ℕ → ℕ) (by at : ℕ) (e : Entry) (o : Option SeatClaim) → option_map (λ s. s.number) o ≡ e.seat → IfSome o (λ s. (by ≡ owner s.number) × IsSeatClaim all s)
+    → IfSome (option_map (with_seat_entry e) o) (λ s. (at ≡ placed owner o at s.number) × IsSeatClaim (with_entry e all) s)
 has_more all owner by at e None is f = tt
-has_more all owner by at e (Some s) is f = (sym (placed_here owner s at), (f.1.0, ap (λ l. l ++ e ∷ []) f.1.1 ∙ sym (of_seat_more s.number all.journal e (is_this s.number e.seat (sym is)))))
+has_more all owner by at e (Some s) is f = (sym (placed_here owner s at), (f.1.0, ap (λ l. l ++ e ∷ []) f.1.1 ∙ sym (of_seat_more s.number all.journal e (is_this s.number e.seat (sym is))), all_after_entry all.journal all.moves s.number e s.refused f.1.2))
 
 -- an entry of the seat whose history a pass had is of a seat that was given
-given_more : (all : History) (owner : ℕ → ℕ) (by : ℕ) (e : Entry) (o : Option SeatHistory) → option_map (λ s. s.number) o ≡ e.seat → IfSome o (λ s. (by ≡ owner s.number) × IsSeatHistory all s)
+given_more : (all : History) (owner : ℕ → ℕ) (by : ℕ) (e : Entry) (o : Option SeatClaim) → option_map (λ s. s.number) o ≡ e.seat → IfSome o (λ s. (by ≡ owner s.number) × IsSeatClaim all s)
     → AreOfGiven all.given all.journal → AreOfGiven all.given (all.journal ++ e ∷ [])
 given_more all owner by e o is f was = All-append (λ (x : Entry). IfSome x.seat (λ n. n < all.given)) all.journal (e ∷ []) was only
   where
-    number_of : (p : Option SeatHistory) → IfSome p (λ s. (by ≡ owner s.number) × IsSeatHistory all s) → IfSome (option_map (λ s. s.number) p) (λ n. n < all.given)
+    number_of : (p : Option SeatClaim) → IfSome p (λ s. (by ≡ owner s.number) × IsSeatClaim all s) → IfSome (option_map (λ s. s.number) p) (λ n. n < all.given)
     number_of None g = tt
     number_of (Some s) g = g.1.0
 
@@ -249,7 +308,7 @@ given_more all owner by e o is f was = All-append (λ (x : Entry). IfSome x.seat
     only zero d lt = subst (λ s. IfSome s (λ n. n < all.given)) is (number_of o f)
     only (suc k) d lt = absurd (omega arith)
 
-enters : (by : ℕ) (k : History) (seat_history : Option SeatHistory) (e : Entry) → option_map (λ s. s.number) seat_history ≡ e.seat
+enters : (by : ℕ) (k : History) (seat_history : Option SeatClaim) (e : Entry) → option_map (λ s. s.number) seat_history ≡ e.seat
     → Cuts by (full k seat_history None) (alone_with e (full k seat_history None)) (given_back_with e (full k seat_history None))
 enters by k seat_history e is claims h at =
     let all = h.0 in
@@ -265,7 +324,7 @@ enters by k seat_history e is claims h at =
           (λ j c apart there. others all (with_entry e all) knower owner next by j c was.0.0 apart
           (λ s f. (
             elsewhere owner seat_history by (length claims) j s.number (had all owner by seat_history was.1) apart f.0,
-            (f.1.0, f.1.1 ∙ sym (of_seat_same s.number all.journal e (not_theirs owner seat_history e.seat by j s.number is (had all owner by seat_history was.1) apart f.0))),
+            (f.1.0, f.1.1 ∙ sym (of_seat_same s.number all.journal e (not_theirs owner seat_history e.seat by j s.number is (had all owner by seat_history was.1) apart f.0)), all_after_entry all.journal all.moves s.number e s.refused f.1.2),
           ))
           (λ t f. f)
           (h.4 j c there))
@@ -273,12 +332,35 @@ enters by k seat_history e is claims h at =
           (tt, has_more all owner by (length claims) e seat_history is was.1, tt),
     )
 
-compares : (claims : List Claim) (by : ℕ) (k : History) (seat_history : Option SeatHistory) (checkout : Option Checkout) → ClaimsAgree claims → get_elem? claims by ≡ some (full k seat_history checkout) → Compares (full k seat_history checkout)
+-- a command of the seat whose claim was taken in is refused
+notes : (by : ℕ) (k : History) (s : SeatClaim) (r : RefusedCommand) → WasRefused k.journal k.moves s.number r
+    → Cuts by (full k (Some s) None) (alone (full k (Some s) None)) (given_back_refused r (full k (Some s) None))
+notes by k s r is claims h at =
+    let all = h.0 in
+    let knower = h.1 in
+    let owner = h.2 in
+    let was = h.4 by (full k (Some s) None) at in
+    let next = placed owner (Some s) (length claims) in
+    let here : WasRefused all.journal all.moves s.number r = subst (λ (x : History). WasRefused x.journal x.moves s.number r) was.0.1 is in (
+      all,
+      knower,
+      next,
+      h.3,
+      fits_cut all knower next claims by (alone (full k (Some s) None)) (given_back_refused r (full k (Some s) None))
+          (λ j c apart e. others all all knower owner next by j c was.0.0 apart
+          (λ t f. (elsewhere owner (Some s) by (length claims) j t.number (had all owner by (Some s) was.1) apart f.0, f.1))
+          (λ t f. f)
+          (h.4 j c e))
+          (was.0, tt, tt)
+          (tt, (sym (placed_here owner s (length claims)), (was.1.1.0, was.1.1.1, and_one_more (WasRefused all.journal all.moves s.number) s.refused r was.1.1.2 here)), tt),
+    )
+
+compares : (claims : List Claim) (by : ℕ) (k : History) (seat_history : Option SeatClaim) (checkout : Option Checkout) → ClaimsAgree claims → get_elem? claims by ≡ some (full k seat_history checkout) → Compares (full k seat_history checkout)
 compares claims by k seat_history checkout h at =
     let all = h.0 in
     let owner = h.2 in
     let was = h.4 by (full k seat_history checkout) at in
-    subst (λ (x : History). AreOfGiven x.given x.journal × IfSome seat_history (IsSeatHistory x) × IfSome checkout (IsCheckout x)) (sym was.0.1) (h.3, if_some seat_history (λ s. (by ≡ owner s.number) × IsSeatHistory all s) (IsSeatHistory all) (λ s f. f.1) was.1, was.2)
+    subst (λ (x : History). AreOfGiven x.given x.journal × IfSome seat_history (IsSeatClaim x) × IfSome checkout (IsCheckout x)) (sym was.0.1) (h.3, if_some seat_history (λ s. (by ≡ owner s.number) × IsSeatClaim all s) (IsSeatClaim all) (λ s f. f.1) was.1, was.2)
 
 -- ---- the steps, at a claim that is known
 
@@ -288,17 +370,23 @@ gives_seat_as by v k is = subst (λ (u : Claim). Cuts by u (record u { history =
 pub checks_out_as : (by : ℕ) (v : Claim) (k : History) (o : Origin) → v ≡ keeper_claim k → Cuts by v (record v { history = option_map (with_origin o) v.history }) (new_ticket_claim o v)
 checks_out_as by v k o is = subst (λ (u : Claim). Cuts by u (record u { history = option_map (with_origin o) u.history }) (new_ticket_claim o u)) (sym is) (checks_out by k o)
 
+pub checks_in_as : (by : ℕ) (v : Claim) (k : History) (pid : ℕ) → v ≡ keeper_claim k → Cuts by v (record v { history = option_map (with_checked_in pid) v.history }) no_claim
+checks_in_as by v k pid is = subst (λ (u : Claim). Cuts by u (record u { history = option_map (with_checked_in pid) u.history }) no_claim) (sym is) (checks_in by k pid)
+
 pub takes_in_as : (by : ℕ) (v : Claim) (k : History) (other : ℕ) (w : Claim) → v ≡ keeper_claim k → Glues by v other w (taken_in v w) no_claim
 takes_in_as by v k other w is = subst (λ (u : Claim). Glues by u other w (taken_in u w) no_claim) (sym is) (takes_in by k other w)
 
-pub gives_back_as : (by : ℕ) (v : Claim) (k : History) (seat_history : Option SeatHistory) (checkout : Option Checkout) → v ≡ full k seat_history checkout → Cuts by v (alone v) (given_back v)
+pub gives_back_as : (by : ℕ) (v : Claim) (k : History) (seat_history : Option SeatClaim) (checkout : Option Checkout) → v ≡ full k seat_history checkout → Cuts by v (alone v) (given_back v)
 gives_back_as by v k seat_history checkout is = subst (λ (u : Claim). Cuts by u (alone u) (given_back u)) (sym is) (gives_back by k seat_history checkout)
 
-pub enters_as : (by : ℕ) (v : Claim) (k : History) (seat_history : Option SeatHistory) (e : Entry) → v ≡ full k seat_history None → option_map (λ s. s.number) seat_history ≡ e.seat → Cuts by v (alone_with e v) (given_back_with e v)
+pub enters_as : (by : ℕ) (v : Claim) (k : History) (seat_history : Option SeatClaim) (e : Entry) → v ≡ full k seat_history None → option_map (λ s. s.number) seat_history ≡ e.seat → Cuts by v (alone_with e v) (given_back_with e v)
 enters_as by v k seat_history e is own = subst (λ (u : Claim). Cuts by u (alone_with e u) (given_back_with e u)) (sym is) (enters by k seat_history e own)
 
+pub notes_as : (by : ℕ) (v : Claim) (k : History) (s : SeatClaim) (r : RefusedCommand) → v ≡ full k (Some s) None → WasRefused k.journal k.moves s.number r → Cuts by v (alone v) (given_back_refused r v)
+notes_as by v k s r is refused = subst (λ (u : Claim). Cuts by u (alone u) (given_back_refused r u)) (sym is) (notes by k s r refused)
+
 -- a load leaves the claim as it is, and compares it
-pub compares_as : (claims : List Claim) (by : ℕ) (v : Claim) (k : History) (seat_history : Option SeatHistory) (checkout : Option Checkout) → v ≡ full k seat_history checkout → ClaimsAgree claims → get_elem? claims by ≡ some v → ClaimsAgree (set claims by v) × Compares v
+pub compares_as : (claims : List Claim) (by : ℕ) (v : Claim) (k : History) (seat_history : Option SeatClaim) (checkout : Option Checkout) → v ≡ full k seat_history checkout → ClaimsAgree claims → get_elem? claims by ≡ some v → ClaimsAgree (set claims by v) × Compares v
 compares_as claims by v k seat_history checkout is h at = (
   subst ClaimsAgree (sym (set_again claims by v at)) h,
   subst Compares (sym is) (compares claims by k seat_history checkout h (subst (λ (u : Claim). get_elem? claims by ≡ some u) is at)),
@@ -310,7 +398,7 @@ abbrev pub first : List Claim → Claim
 first [] = no_claim
 first (c ∷ rest) = c
 
-pub with_seat_history : (v w x : Claim) (k : History) (s : SeatHistory) → x ≡ taken_in v w → v ≡ keeper_claim k → w ≡ seat_claim s → x ≡ full k (Some s) None
+pub with_seat_history : (v w x : Claim) (k : History) (s : SeatClaim) → x ≡ taken_in v w → v ≡ keeper_claim k → w ≡ seat_claim s → x ≡ full k (Some s) None
 with_seat_history v w x k s e knows has = e ∙ (λ i. taken_in (knows i) (has i))
 
 pub with_checkout : (v w x : Claim) (k : History) (t : Checkout) → x ≡ taken_in v w → v ≡ keeper_claim k → w ≡ ticket_claim t → x ≡ full k None (Some t)

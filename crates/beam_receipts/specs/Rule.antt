@@ -4,18 +4,25 @@ use mathlib.Core.Option.{some}
 use lib.ListN.{get_elem?}
 use Rattle.beam_machine.specs.Prelude.{Entry}
 use Rattle.beam_laws.specs.Prelude.{Origin}
-use Rattle.beam_receipts.specs.Receipts.{History, empty_history, SeatHistory, Checkout, no_checkout, of_seat, AreOfGiven}
+use Rattle.beam_receipts.specs.Receipts.{History, empty_history, Checkout, no_checkout, RefusedCommand, moved_in, moved_out, of_seat, AreOfGiven}
+use Rattle.beam_receipts.specs.Refused.{WereRefused}
 
--- the claim of a pass: the keeper's has the whole history, a seat's the history of that seat, a ticket's its checkout
+-- a seat's number, its entries, and its commands that were refused
+pub record SeatClaim : Type 0 where
+  pub number : ℕ
+  pub kept : List Entry
+  pub refused : List RefusedCommand
+
+-- the claim of a pass: the keeper's has the whole history, a seat's that of the seat, a ticket's its checkout
 pub record Claim : Type 0 where
   pub history : Option History
-  pub seat_history : Option SeatHistory
+  pub seat_history : Option SeatClaim
   pub checkout : Option Checkout
 
 abbrev pub keeper_claim : History → Claim
 keeper_claim k = record { history = Some k; seat_history = None; checkout = None }
 
-abbrev pub seat_claim : SeatHistory → Claim
+abbrev pub seat_claim : SeatClaim → Claim
 seat_claim s = record { history = None; seat_history = Some s; checkout = None }
 
 abbrev pub ticket_claim : Checkout → Claim
@@ -26,9 +33,10 @@ no_claim = record { history = None; seat_history = None; checkout = None }
 
 -- ---- the rule
 
--- the history is of a seat that was given, and has all entries of that seat
-abbrev pub IsSeatHistory : History → SeatHistory → Type 0
-IsSeatHistory all s = (s.number < all.given) × (s.kept ≡ of_seat s.number all.journal)
+-- the claim is of a seat that was given, it has all entries of that seat, and each of its commands that were refused could be refused so
+abbrev pub IsSeatClaim : History → SeatClaim → Type 0
+IsSeatClaim all s =
+    (s.number < all.given) × (s.kept ≡ of_seat s.number all.journal) × WereRefused all.journal all.moves s.number s.refused
 
 abbrev pub IsCheckout : History → Checkout → Type 0
 IsCheckout all t = slice_get all.checkouts t.serial ≡ Some t.origin
@@ -37,7 +45,7 @@ IsCheckout all t = slice_get all.checkouts t.serial ≡ Some t.origin
 abbrev pub Fits : History → ℕ → (ℕ → ℕ) → ℕ → Claim → Type 0
 Fits all knower owner by c =
     IfSome c.history (λ k. (by ≡ knower) × (k ≡ all))
-    × IfSome c.seat_history (λ s. (by ≡ owner s.number) × IsSeatHistory all s)
+    × IfSome c.seat_history (λ s. (by ≡ owner s.number) × IsSeatClaim all s)
     × IfSome c.checkout (IsCheckout all)
 
 abbrev pub ClaimsAgree : List Claim → Type 0
@@ -58,18 +66,25 @@ abbrev pub with_entry : Entry → History → History
 with_entry e k = record k { journal = k.journal ++ e ∷ [] }
 
 abbrev pub with_origin : Origin → History → History
-with_origin o k = record k { checkouts = k.checkouts ++ o ∷ [] }
+with_origin o k = record k { checkouts = k.checkouts ++ o ∷ []; moves = k.moves ++ moved_out o.pid ∷ [] }
+
+-- a process was checked in
+abbrev pub with_checked_in : ℕ → History → History
+with_checked_in pid k = record k { moves = k.moves ++ moved_in pid ∷ [] }
 
 -- the claim of a new seat's pass, from the keeper's
 abbrev pub new_seat_claim : Claim → Claim
-new_seat_claim c = seat_claim (record { number = (history_of c).given; kept = [] })
+new_seat_claim c = seat_claim (record { number = (history_of c).given; kept = []; refused = [] })
 
 -- the claim of a new ticket's pass, from the keeper's
 abbrev pub new_ticket_claim : Origin → Claim → Claim
 new_ticket_claim o c = ticket_claim (record { serial = length (history_of c).checkouts; origin = o })
 
-abbrev pub with_seat_entry : Entry → SeatHistory → SeatHistory
+abbrev pub with_seat_entry : Entry → SeatClaim → SeatClaim
 with_seat_entry e s = record s { kept = s.kept ++ e ∷ [] }
+
+abbrev pub with_refused : RefusedCommand → SeatClaim → SeatClaim
+with_refused r s = record s { refused = s.refused ++ r ∷ [] }
 
 -- the claim of the keeper's pass, with a seat's or a ticket's claim taken in
 abbrev pub taken_in : Claim → Claim → Claim
@@ -90,19 +105,31 @@ alone_with e c = record { history = option_map (with_entry e) c.history; seat_hi
 abbrev pub given_back_with : Entry → Claim → Claim
 given_back_with e c = record { history = None; seat_history = option_map (with_seat_entry e) c.seat_history; checkout = None }
 
+-- the claim that the keeper's pass had taken in, with one more command that was refused
+abbrev pub given_back_refused : RefusedCommand → Claim → Claim
+given_back_refused r c = record c { history = None; seat_history = option_map (with_refused r) c.seat_history }
+
 -- each entry of a seat in the keeper's history is of one that was given, and the claim that its pass took in agrees with the history
 abbrev pub Compares : Claim → Type 0
-Compares c = IfSome c.history (λ k. AreOfGiven k.given k.journal × IfSome c.seat_history (IsSeatHistory k) × IfSome c.checkout (IsCheckout k))
+Compares c = IfSome c.history (λ k. AreOfGiven k.given k.journal × IfSome c.seat_history (IsSeatClaim k) × IfSome c.checkout (IsCheckout k))
 
 -- ---- what a receipt shows
 
-abbrev pub kept_in : Option SeatHistory → List Entry
+abbrev pub kept_in : Option SeatClaim → List Entry
 kept_in None = []
 kept_in (Some s) = s.kept
 
 abbrev pub kept_by : List Claim → List Entry
 kept_by [] = []
 kept_by (c ∷ rest) = kept_in c.seat_history
+
+abbrev pub refused_in : Option SeatClaim → List RefusedCommand
+refused_in None = []
+refused_in (Some s) = s.refused
+
+abbrev pub refused_by : List Claim → List RefusedCommand
+refused_by [] = []
+refused_by (c ∷ rest) = refused_in c.seat_history
 
 abbrev pub checkout_of : Claim → Checkout
 checkout_of c = unwrap_or c.checkout no_checkout

@@ -1,9 +1,12 @@
 //! The keeper of a node: what it knows of the journal, the seats and the checkouts.
 ghost use Rattle.std.specs.Prelude.{◌≡◌, ◌+◌, ◌-◌, ◌<◌, ◌^◌, [], ◌∷◌, ◌++◌, length, min, slice_get, Some, None};
-ghost use Rattle.beam_receipts.specs.Receipts.{empty_history, of_seat, AreOfGiven};
+ghost use Rattle.beam_receipts.specs.Receipts.{empty_history, moved_in, moved_out, of_seat, AreOfGiven};
+ghost use Rattle.beam_receipts.specs.Refused.{AreFullAt, WereRefused, IsFullAt, WasRefused};
 
-use crate::brand::{GhostEntry, GhostOrigin, NodeBrand};
-use crate::rule::{ChecksOut, Compared, Enters, GivesSeat, Pass, Passes, Shown};
+use crate::brand::{GhostEntry, GhostOrigin, GhostPid, GhostRefusedCommand, NodeBrand};
+use crate::rule::{
+    ChecksIn, ChecksOut, Compared, Enters, GivesSeat, NotesRefused, Pass, Passes, Shown,
+};
 use crate::seat::SeatReceipt;
 use crate::ticket::TicketReceipt;
 use atomic_table::Badge;
@@ -66,8 +69,8 @@ impl UnbrandedKeeper {
     }
 }
 
-/// The value that knows all: the journal's entries, how many seats were given, and all checkouts. Entries and origins are for proofs
-/// alone; it stores how many seats and checkouts there were.
+/// The value that knows all: the journal's entries, how many seats were given, all checkouts, and which processes were checked out and in.
+/// All that is for proofs alone; it stores how many seats and checkouts there were.
 pub struct Keeper<B: NodeBrand> {
     passes: Passes,
     pass: Pass,
@@ -125,7 +128,7 @@ impl<B: NodeBrand> Keeper<B> {
     /// Gives a seat's receipt, with the next number. At most 2^32 - 1 are given.
     pub fn seat(&mut self) -> SeatReceipt<B>
         requires few { self.old.given < 2 ^ 32 - 1 }
-        ensures seat { result ≡ record { number = self.old.given; kept = [] } }
+        ensures seat { result ≡ record { number = self.old.given; limit = B.limit; kept = []; refused = [] } }
         ensures keeper { self.new ≡ record self.old { given = self.old.given + 1 } }
     {
         let passes = &self.passes;
@@ -154,6 +157,22 @@ impl<B: NodeBrand> Keeper<B> {
         seat.pass = pass.into_badge();
     }
 
+    /// Notes at a seat that its command was refused. Nothing is entered, and the keeper stays as it was.
+    pub fn note_refused<F: GhostRefusedCommand>(&mut self, seat: &mut SeatReceipt<B>)
+        requires refused { WasRefused self.old.journal self.old.moves seat.old.number F.refused }
+        requires full { IsFullAt B.limit F.refused.entered F.refused.refusal }
+        ensures keeper { self.new ≡ self.old }
+        ensures seat { seat.new ≡ record seat.old { refused = seat.old.refused ++ F.refused ∷ [] } }
+    {
+        let passes = &self.passes;
+        let pass = mem::replace(&mut seat.pass, Badge::blank());
+        passes
+            .shared
+            .join_seat::<Shown>(&mut self.pass, pass.into_seat());
+        let pass = passes.shared.split_seat::<NotesRefused<F>>(&mut self.pass);
+        seat.pass = pass.into_badge();
+    }
+
     /// Enters an entry that is of no seat.
     pub fn enter_without_seat<E: GhostEntry>(&mut self)
         requires alone { E.entry.seat ≡ None }
@@ -166,7 +185,7 @@ impl<B: NodeBrand> Keeper<B> {
     /// Gives the ticket of a checkout, with the next number.
     pub fn check_out<O: GhostOrigin>(&mut self) -> TicketReceipt<B>
         ensures ticket { result ≡ record { serial = length self.old.checkouts; origin = O.origin } }
-        ensures keeper { self.new ≡ record self.old { checkouts = self.old.checkouts ++ O.origin ∷ [] } }
+        ensures keeper { self.new ≡ record self.old { checkouts = self.old.checkouts ++ O.origin ∷ []; moves = self.old.moves ++ moved_out O.origin.pid ∷ [] } }
     {
         let passes = &self.passes;
         let pass = passes.shared.split_seat::<ChecksOut<O>>(&mut self.pass);
@@ -179,6 +198,14 @@ impl<B: NodeBrand> Keeper<B> {
         }
     }
 
+    /// Notes that a process was checked in.
+    pub fn check_in<P: GhostPid>(&mut self)
+        ensures { self.new ≡ record self.old { moves = self.old.moves ++ moved_in P.pid ∷ [] } }
+    {
+        let passes = &self.passes;
+        passes.shared.split_seat::<ChecksIn<P>>(&mut self.pass);
+    }
+
     /// Shows that each entry of a seat is of one that was given. Nothing changes.
     pub fn check_seats(&mut self)
         ensures keeper { self.new ≡ self.old }
@@ -188,12 +215,16 @@ impl<B: NodeBrand> Keeper<B> {
         passes.shared.load::<Compared>(&mut self.pass, 0);
     }
 
-    /// Shows that a seat was given, and has exactly the journal's entries of its number. Nothing changes.
+    /// Shows that a seat was given, that it has exactly the journal's entries of its number, and that each of its refused commands could be
+    /// refused so, `JournalFull` exactly at the journal's limit. Nothing changes.
     pub fn check_seat(&mut self, seat: &mut SeatReceipt<B>)
         ensures keeper { self.new ≡ self.old }
         ensures seat { seat.new ≡ seat.old }
         ensures kept { seat.old.kept ≡ of_seat seat.old.number self.old.journal }
         ensures given { seat.old.number < self.old.given }
+        ensures refused { WereRefused self.old.journal self.old.moves seat.old.number seat.old.refused }
+        ensures full { AreFullAt seat.old.limit seat.old.refused }
+        ensures limit { seat.old.limit ≡ B.limit }
     {
         let passes = &self.passes;
         let pass = mem::replace(&mut seat.pass, Badge::blank());

@@ -4,6 +4,7 @@
 pub mod brand;
 pub mod keeper;
 pub mod laws;
+pub mod refusal;
 mod rule;
 pub mod seat;
 pub mod ticket;

@@ -1,6 +1,6 @@
 //! The rule of the node's table. The table has one word, which is never changed, and passes, each with a claim about the node.
 
-use crate::brand::{GhostEntry, GhostOrigin};
+use crate::brand::{GhostEntry, GhostOrigin, GhostPid, GhostRefusedCommand};
 use atomic_table::{Join, Play, Seat, Split, Table, TableRule};
 use std::alloc::Global;
 use std::marker::{Model, PhantomData};
@@ -62,6 +62,20 @@ impl<O: GhostOrigin> Split<Claim> for ChecksOut<O> {
     ghost right = { new_ticket_claim O.origin };
 }
 
+/// The keeper's pass notes that a process was checked in.
+pub(crate) struct ChecksIn<P> {
+    pid: PhantomData<P>,
+}
+
+impl<P: GhostPid> Split<Claim> for ChecksIn<P> {
+    ghost use Rattle.std.specs.Prelude.{option_map};
+    ghost use Rattle.beam_receipts.specs.Rule.{no_claim, with_checked_in};
+
+    ghost left = { λ c. record c { history = option_map (with_checked_in P.pid) c.history } };
+
+    ghost right = { λ _. no_claim };
+}
+
 /// The keeper's pass enters an entry, and gives back the seat's history with it, if it had taken one in.
 pub(crate) struct Enters<E> {
     entry: PhantomData<E>,
@@ -73,6 +87,19 @@ impl<E: GhostEntry> Split<Claim> for Enters<E> {
     ghost left = { alone_with E.entry };
 
     ghost right = { given_back_with E.entry };
+}
+
+/// The keeper's pass gives back the seat's history that it had taken in, with one more command that was refused.
+pub(crate) struct NotesRefused<F> {
+    refused: PhantomData<F>,
+}
+
+impl<F: GhostRefusedCommand> Split<Claim> for NotesRefused<F> {
+    ghost use Rattle.beam_receipts.specs.Rule.{alone, given_back_refused};
+
+    ghost left = { alone };
+
+    ghost right = { given_back_refused F.refused };
 }
 
 /// The keeper's pass takes in another, and gives it back.

@@ -11,7 +11,7 @@ use Rattle.beam_machine.specs.declared.debug.DebugReply.TheVariants.{Node as Nod
 use Rattle.beam_model.specs.Prelude.{Listing}
 use Rattle.beam_laws.specs.Prelude.{AreSpotsLive, may_change, IsEarlierCode, Origin, IsOut}
 use Rattle.beam_journal.specs.Entering.{Journal, entry_of}
-use Rattle.beam_receipts.specs.Receipts.{History, AreOfGiven}
+use Rattle.beam_receipts.specs.Receipts.{History, AreOfGiven, moved_out}
 use Rattle.beam_receipts.proofs.Moves.{slice_get_end}
 use Rattle.beam_shared.specs.declared.checked_out.CheckoutEntry.{CheckoutEntry}
 use Rattle.beam_shared.specs.Prelude.{changes_after, context_after, CodeContext, context_of, process_has_incoming, deliveries, delivered_if, must_wait, checked_out_of, node_of, context_in, IsHanded, AreHanded, NodeInvariant}
@@ -118,7 +118,7 @@ handed_entry x changes checkouts entry o serial own checked_out kin now context 
 }
 
 pub kept_with : (x : Debugged) (k : Journal) (known later : History) (checked_out : List CheckoutEntry) (entry : CheckoutEntry) (o : Origin) (changes : ℕ) (shared : Option CodeContext)
-    → NodeInvariant x k known checked_out changes shared → later ≡ record known { checkouts = known.checkouts ++ o ∷ [] } → length known.checkouts < 2 ^ 64 - 1 → length checked_out + 1 ≤ k.capacity
+    → NodeInvariant x k known checked_out changes shared → later ≡ record known { checkouts = known.checkouts ++ o ∷ []; moves = known.moves ++ moved_out o.pid ∷ [] } → length known.checkouts < 2 ^ 64 - 1 → length checked_out + 1 ≤ k.capacity
     → IsHanded x changes (known.checkouts ++ o ∷ []) entry → NodeInvariant x k later (checked_out ++ entry ∷ []) changes shared
 kept_with x k known later checked_out entry o changes shared kept is fewer capacity handed = record {
   replays = kept.replays;

@@ -4,8 +4,10 @@ pub mod HandedOut
 pub mod Keeping
 pub mod Numbered
 pub mod Refused
+pub mod RefusedCommands
 pub mod Refusing
 pub mod Seating
+pub mod ThoseOut
 pub mod Totals
 pub mod Unchanged
 pub mod Returning

@@ -9,7 +9,7 @@ use Rattle.beam_machine.specs.Prelude.{Debugged, DebugNext, Halting, halting, ha
 use Rattle.beam_machine.specs.declared.event.Event.TheVariants as event
 use Rattle.beam_model.specs.Prelude.{Listing, Place}
 use Rattle.beam_machine.specs.Next.{steps}
-use Rattle.beam_shared.specs.declared.refusal.Refusal.TheVariants.{Node as OfNode}
+use Rattle.beam_receipts.specs.declared.refusal.Refusal.TheVariants.{Node as OfNode}
 use Rattle.beam_shared.specs.Prelude.{Node, must_wait, RefusesCommand}
 
 abbrev Keeps : Debugged → DebugNext → Type 0

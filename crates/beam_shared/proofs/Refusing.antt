@@ -3,8 +3,8 @@ use Rattle.std.proofs.Common.{◌≡◌, ℕ, ◌||◌, Bool, cond, List, map, O
 use Rattle.beam_machine.specs.declared.event.Refused.TheVariants.{NotReady, Stopped}
 use Rattle.beam_machine.specs.Prelude.{Debugged, is_among, Process, is_running, live_process}
 use Rattle.beam_shared.specs.declared.checked_out.CheckoutEntry.{CheckoutEntry}
-use Rattle.beam_shared.specs.declared.refusal.Refusal.{Refusal}
-use Rattle.beam_shared.specs.declared.refusal.Refusal.TheVariants.{Node as OfNode, Busy}
+use Rattle.beam_receipts.specs.declared.refusal.Refusal.{Refusal}
+use Rattle.beam_receipts.specs.declared.refusal.Refusal.TheVariants.{Node as OfNode, Busy}
 use Rattle.beam_shared.specs.Prelude.{has_any, refusal_in, refusal_of, checked_out_of, entry_of}
 use Rattle.beam_shared.proofs.Entries.{is_found}
 

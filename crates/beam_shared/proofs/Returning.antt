@@ -6,7 +6,7 @@ use Rattle.beam_machine.specs.declared.debug.DebugReply.{DebugReply}
 use Rattle.beam_machine.specs.Prelude.{Debugged, DebugNext, debug_next, debug_after, debug_cut_event, DebugAnswers, replay, Private, View}
 use Rattle.beam_laws.specs.Prelude.{AreSpotsLive, Origin}
 use Rattle.beam_journal.specs.Entering.{Journal, entry_of as entry_by}
-use Rattle.beam_receipts.specs.Receipts.{History}
+use Rattle.beam_receipts.specs.Receipts.{History, moved_in}
 use Rattle.beam_shared.specs.declared.checked_out.CheckoutEntry.{CheckoutEntry}
 use Rattle.beam_shared.specs.Prelude.{advanced, event_of, is_serial, checked_in, without_checkout, CodeContext, checked_out_of, entry_of, node_of, AreHanded, IsHanded, NodeInvariant, CheckedOut, serial_of, without_entry}
 use Rattle.beam_shared.proofs.Entries.{serial_in, serial_found, is_free}
@@ -127,7 +127,7 @@ handed_still d changes handed pid (entry ∷ rest) h =
     handed_by d changes handed entry (without_entry pid rest) (not (entry.pid == pid)) h.0 (handed_still d changes handed pid rest h.1)
 
 pub kept_without : (d : Debugged) (j : Journal) (known later : History) (checked_out : List CheckoutEntry) (changes : ℕ) (shared : Option CodeContext) (pid : ℕ)
-    → NodeInvariant d j known checked_out changes shared → later ≡ known → NodeInvariant d j later (without_entry pid checked_out) changes shared
+    → NodeInvariant d j known checked_out changes shared → later ≡ record known { moves = known.moves ++ moved_in pid ∷ [] } → NodeInvariant d j later (without_entry pid checked_out) changes shared
 kept_without d j known later checked_out changes shared pid kept same =
     subst (λ l. NodeInvariant d j l (without_entry pid checked_out) changes shared) (sym same) (record {
       replays = kept.replays;
@@ -166,17 +166,17 @@ not_open pid own entries none = sym (ap (is_serial own) (serial_found pid entrie
 
 -- ---- the node after it
 
-pub taken : (d x : Debugged) (j : Journal) (known later : History) (checked_out : List CheckoutEntry) (pid : ℕ) → x ≡ d → later ≡ known
+pub taken : (d x : Debugged) (j : Journal) (known later : History) (checked_out : List CheckoutEntry) (pid : ℕ) → x ≡ d → later ≡ record known { moves = known.moves ++ moved_in pid ∷ [] }
     → node_of x j later (without_entry pid checked_out) ≡ checked_in (node_of d j known checked_out) pid
 taken d x j known later checked_out pid same is =
     ap (λ y. node_of y j later (without_entry pid checked_out)) same
     ∙ (ap (λ (l : History). node_of d j l (without_entry pid checked_out)) is
-    ∙ ap (λ checkouts. record (node_of d j known checked_out) { checked_out = checkouts }) (mapped pid checked_out))
+    ∙ ap (λ checkouts. record (node_of d j known checked_out) { checked_out = checkouts; moves = known.moves ++ moved_in pid ∷ [] }) (mapped pid checked_out))
 
 pub advanced_is : (d x : Debugged) (j k : Journal) (known later : History) (checked_out : List CheckoutEntry) (pid : ℕ) (rows : Private) (reply : DebugReply View)
     → debug_next d (event_of pid rows) ≡ record { answer = Ok reply; state = x } → debug_cut_event (event_of pid rows) (Ok reply) ≡ event_of pid rows
     → k.entries ≡ j.entries ++ entry_by (event_of pid rows) None reply ∷ [] → k.limit ≡ j.limit
-    → later ≡ record known { journal = known.journal ++ entry_by (event_of pid rows) None reply ∷ [] }
+    → later ≡ record known { journal = known.journal ++ entry_by (event_of pid rows) None reply ∷ []; moves = known.moves ++ moved_in pid ∷ [] }
     → node_of x k later (without_entry pid checked_out) ≡ advanced (node_of d j known checked_out) pid rows reply
 advanced_is d x j k known later checked_out pid rows reply next cut entered limit is =
     let event = event_of pid rows in
@@ -185,7 +185,7 @@ advanced_is d x j k known later checked_out pid rows reply next cut entered limi
     let state : x ≡ (debug_next d event).state = sym (ap (λ (n : DebugNext). n.state) next) in
     ap (λ y. node_of y k later (without_entry pid checked_out)) state
     ∙ (ap (λ (l : History). node_of (debug_next d event).state k l (without_entry pid checked_out)) is
-    ∙ (ap (λ es. record (node_of (debug_next d event).state k known (without_entry pid checked_out)) { journal = es }) journal
+    ∙ (ap (λ es. record (node_of (debug_next d event).state k known (without_entry pid checked_out)) { journal = es; moves = known.moves ++ moved_in pid ∷ [] }) journal
     ∙ (ap (λ n. record (advanced (node_of d j known checked_out) pid rows reply) { checked_out = map checked_out_of (without_entry pid checked_out); limit = n }) limit
     ∙ ap (λ checkouts. record (advanced (node_of d j known checked_out) pid rows reply) { checked_out = checkouts }) (mapped pid checked_out))))
 
@@ -194,8 +194,9 @@ pub kept_on : (d x : Debugged) (j k : Journal) (known later : History) (checked_
     (reply : DebugReply View) → NodeInvariant d j known checked_out changes shared → AreSpotsLive d → DebugAnswers d (event_of pid rows) (Ok reply) x
     → k.entries ≡ j.entries ++ entry_by (event_of pid rows) None reply ∷ []
     → replay k.entries ≡ debug_after (replay j.entries) (event_of pid rows) (Ok reply)
-    → later ≡ record known { journal = known.journal ++ entry_by (event_of pid rows) None reply ∷ [] }
+    → later ≡ record known { journal = known.journal ++ entry_by (event_of pid rows) None reply ∷ []; moves = known.moves ++ moved_in pid ∷ [] }
     → length (without_entry pid checked_out) ≤ k.capacity → NodeInvariant x k later (without_entry pid checked_out) changes shared
 kept_on d x j k known later checked_out changes shared pid rows reply kept live answers entered leads is capacity =
-    kept_after d x j k known (without_entry pid checked_out) changes shared (event_of pid rows) None reply
-    (kept_without d j known known checked_out changes shared pid kept refl) tt live answers (free_again pid checked_out) entered leads capacity later is
+    let now : History = record known { moves = known.moves ++ moved_in pid ∷ [] } in
+    kept_after d x j k now (without_entry pid checked_out) changes shared (event_of pid rows) None reply
+    (kept_without d j known now checked_out changes shared pid kept refl) tt live answers (free_again pid checked_out) entered leads capacity later is

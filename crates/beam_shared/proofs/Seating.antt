@@ -92,6 +92,16 @@ module _ (given : ℕ) (journal : List Entry) (seats : List SeatHistory) (seen :
     below = λ i t l found. below_by i t less (last_or i at l) found;
   }
 
+-- what holds of the seats up to one, and of that one
+pub each_more : (P : SeatHistory → Type 0) (seats : List SeatHistory) (at : ℕ) (s : SeatHistory) → slice_get seats at ≡ Some s → P s
+    → ((i : ℕ) (t : SeatHistory) → i < at → slice_get seats i ≡ Some t → P t)
+    → (i : ℕ) (t : SeatHistory) → i < at + 1 → slice_get seats i ≡ Some t → P t
+each_more P seats at s here holds before i t less found = by (last_or i at less)
+  where
+    by : (i < at) ⊎ (i ≡ at) → P t
+    by (inl l) = before i t l found
+    by (inr e) = subst P (sym (same_Some t s (sym found ∙ (ap (slice_get seats) e ∙ here)))) holds
+
 -- ---- before the first seat, at a number that was noted, and after the last seat
 
 none_is : (n m : ℕ) → get_or (replicate n false) m false ≡ false

@@ -8,6 +8,7 @@ use Rattle.beam_machine.specs.declared.debug.DebugEvent.TheVariants.{Node as Nod
 use Rattle.beam_model.specs.Prelude.{Listing}
 use Rattle.beam_laws.specs.Prelude.{Origin, slice_of, rows_of_event}
 use Rattle.beam_core.specs.Installing.{AreQuiet}
+use Rattle.beam_receipts.specs.Receipts.{moved_in}
 use Rattle.beam_shared.specs.declared.drop_reason.DropReason.{DropReason}
 use Rattle.beam_shared.specs.declared.drop_reason.DropReason.TheVariants.{Stranger, Gone, StaleCode, JournalFull, NoMemory}
 use Rattle.beam_shared.specs.FinishedSlice.{CodeContext, FinishedSlice, context_of}
@@ -66,7 +67,7 @@ without_checkout pid checked_out = filter (λ o. not (o.pid == pid)) checked_out
 
 -- the node after a process was checked in, without its rows
 abbrev pub checked_in : Node → ℕ → Node
-checked_in n pid = record n { checked_out = without_checkout pid n.checked_out }
+checked_in n pid = record n { checked_out = without_checkout pid n.checked_out; moves = n.moves ++ moved_in pid ∷ [] }
 
 -- the node after a process was checked in and its rows took effect, with this reply
 abbrev pub advanced : Node → ℕ → Private → DebugReply View → Node
@@ -74,6 +75,7 @@ advanced n pid rows reply = record n {
   state = (debug_next n.state (event_of pid rows)).state;
   journal = n.journal ++ record { event = event_of pid rows; seat = None; reply = reply } ∷ [];
   checked_out = without_checkout pid n.checked_out;
+  moves = n.moves ++ moved_in pid ∷ [];
 }
 
 -- rows took effect with this reply; where there are no rows, nothing is entered

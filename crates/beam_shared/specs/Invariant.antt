@@ -5,7 +5,7 @@ use Rattle.beam_machine.specs.Prelude.{Debugged, replay}
 use Rattle.beam_debug.specs.Prelude.{Debugger}
 use Rattle.beam_journal.specs.Entering.{Journal}
 use Rattle.beam_laws.specs.Prelude.{IsEarlierCode, Origin, IsOut}
-use Rattle.beam_receipts.specs.Receipts.{History, AreOfGiven}
+use Rattle.beam_receipts.specs.Receipts.{History, Move, AreOfGiven, after_moves}
 use Rattle.beam_step.specs.Slices.{Work}
 use Rattle.beam_shared.specs.declared.checked_out.CheckoutEntry.{CheckoutEntry}
 use Rattle.beam_shared.specs.FinishedSlice.{CodeContext, context_of}
@@ -17,7 +17,15 @@ checked_out_of entry = record { pid = entry.pid; serial = entry.serial }
 
 -- what callers see of a node
 abbrev pub node_of : Debugged → Journal → History → List CheckoutEntry → Node
-node_of d j known checked_out = record { state = d; journal = j.entries; seats = known.given; handed = known.checkouts; checked_out = map checked_out_of checked_out; limit = j.limit }
+node_of d j known checked_out = record {
+  state = d;
+  journal = j.entries;
+  seats = known.given;
+  handed = known.checkouts;
+  checked_out = map checked_out_of checked_out;
+  moves = known.moves;
+  limit = j.limit;
+}
 
 -- the code and the break spots of a node
 abbrev pub context_in : Debugged → CodeContext
@@ -57,6 +65,10 @@ pub record NodeInvariant (d : Debugged) (j : Journal) (known : History) (checked
 -- each process that is checked out can be held as it is checked in, without memory
 abbrev pub HasCapacityFor : Debugger → List CheckoutEntry → Type 0
 HasCapacityFor d checked_out = AllByRecursion (λ (entry : CheckoutEntry). entry.pid < d.capacity) checked_out
+
+-- the processes that are checked out are those that the moves leave out
+abbrev pub AreThoseOut : List Move → List CheckoutEntry → Type 0
+AreThoseOut moves checked_out = map (λ (entry : CheckoutEntry). entry.pid) checked_out ≡ after_moves [] moves
 
 -- ---- the list of the processes that are checked out
 

@@ -10,6 +10,7 @@ use Rattle.beam_machine.specs.declared.debug.DebugEvent.TheVariants.{Node as Nod
 use Rattle.beam_machine.specs.declared.debug.DebugReply.TheVariants.{Node as NodeReply}
 use Rattle.beam_model.specs.Prelude.{Listing}
 use Rattle.beam_laws.specs.Prelude.{Origin}
+use Rattle.beam_receipts.specs.Receipts.{Move, moved_out}
 use Rattle.beam_journal.specs.Entering.{entry_of}
 
 -- a process that is checked out, to be run apart from the node, and the number of its checkout
@@ -23,11 +24,12 @@ pub record Node : Type 0 where
   pub seats : ℕ  -- how many seats were given
   pub handed : List Origin  -- all that was handed out, in its order: checkout n is the one at position n
   pub checked_out : List CheckedOut
+  pub moves : List Move  -- which processes were checked out and in, in this order
   pub limit : ℕ  -- how many entries the journal can have
 
 -- the node with no code, no processes and no entries, and with this limit
 abbrev pub new_node : ℕ → Node
-new_node limit = record { state = undisturbed empty; journal = []; seats = 0; handed = []; checked_out = []; limit = limit }
+new_node limit = record { state = undisturbed empty; journal = []; seats = 0; handed = []; checked_out = []; moves = []; limit = limit }
 
 -- the most seats of a node
 abbrev pub most_seats : ℕ
@@ -90,6 +92,7 @@ handed_out n pid o = record n {
   journal = n.journal ++ deliveries pid (has_incoming n pid);
   handed = n.handed ++ o ∷ [];
   checked_out = n.checked_out ++ record { pid = pid; serial = length n.handed } ∷ [];
+  moves = n.moves ++ moved_out pid ∷ [];
 }
 
 -- ---- a command of a seat

@@ -1,20 +1,15 @@
 -- Which calls of a shared node are refused, and why. (This node's own.)
-use Rattle.std.specs.Prelude.{◌≡◌, ◌≢◌, ℕ, ◌-◌, ◌^◌, ◌||◌, Bool, true, false, if◌then◌else◌, List, length, Option, Some, None, is_some, Err}
+use Rattle.std.specs.Prelude.{◌≡◌, ◌≢◌, ℕ, ◌-◌, ◌^◌, ◌||◌, Bool, true, false, if◌then◌else◌, List, [], ◌∷◌, ◌++◌, length, Option, Some, None, is_some, Err}
 use Rattle.std.specs.List.{list_any}
 use Rattle.beam_model.specs.Prelude.{Listing}
 use Rattle.beam_machine.specs.declared.debug.DebugEvent.{DebugEvent}
 use Rattle.beam_machine.specs.declared.event.Refused.TheVariants.{NoMemory, NoProcess, NotReady, Stopped, TooMany}
-use Rattle.beam_machine.specs.Prelude.{Debugged, debug_next, is_among, Process, is_running, number_of_refusal as number_of_refused, live_process}
+use Rattle.beam_machine.specs.Prelude.{Debugged, debug_next, is_among, Process, is_running, live_process}
 use Rattle.beam_laws.specs.Prelude.{is_busy}
-use Rattle.beam_shared.specs.declared.refusal.Refusal.{Refusal}
-use Rattle.beam_shared.specs.declared.refusal.Refusal.TheVariants.{Node as OfNode, Busy, JournalFull}
+use Rattle.beam_receipts.specs.declared.refusal.Refusal.{Refusal}
+use Rattle.beam_receipts.specs.declared.refusal.Refusal.TheVariants.{Node as OfNode, Busy, JournalFull}
+use Rattle.beam_receipts.specs.Receipts.{History, RefusedCommand, SeatHistory}
 use Rattle.beam_shared.specs.Node.{Node, CheckedOut, serial_of, has_any, has_incoming}
-
--- the number of a refusal
-abbrev pub number_of : Refusal → ℕ
-number_of (OfNode refused) = number_of_refused refused
-number_of Busy = 6
-number_of JournalFull = 10
 
 -- ---- checkouts
 
@@ -59,3 +54,19 @@ RefusesCommand n event Busy = (length n.journal ≢ n.limit) × (must_wait n.che
 RefusesCommand n event (OfNode NoMemory) = (length n.journal ≢ n.limit) × (must_wait n.checked_out event ≡ false)
 RefusesCommand n event (OfNode refused) =
     (length n.journal ≢ n.limit) × (must_wait n.checked_out event ≡ false) × ((debug_next n.state event).answer ≡ Err refused)
+
+-- ---- what a seat notes of a refusal
+
+-- a seat's command that is refused for this reason, after all that is known of the node
+abbrev pub refused_now : History → SeatHistory → DebugEvent Listing → Refusal → RefusedCommand
+refused_now known s event refusal =
+    record { event = event; refusal = refusal; entered = length known.journal; accepted = length s.kept; moves = length known.moves }
+
+-- a seat's command that this node refuses for this reason
+abbrev pub refused_command : Node → SeatHistory → DebugEvent Listing → Refusal → RefusedCommand
+refused_command n s event refusal =
+    record { event = event; refusal = refusal; entered = length n.journal; accepted = length s.kept; moves = length n.moves }
+
+-- a seat whose command this node refused
+abbrev pub with_refused : Node → DebugEvent Listing → Refusal → SeatHistory → SeatHistory
+with_refused n event refusal s = record s { refused = s.refused ++ refused_command n s event refusal ∷ [] }

@@ -1,7 +1,8 @@
 -- The seats of a shared node, and what they add up to. (This node's own.)
 use Rattle.std.specs.Prelude.{◌≡◌, ◌<◌, ℕ, List, length, count_by, is_some, slice_get, sum_by, Some}
 use Rattle.beam_machine.specs.Prelude.{Entry}
-use Rattle.beam_receipts.specs.Receipts.{AreOfGiven, SeatHistory, of_seat, sum_below}
+use Rattle.beam_receipts.specs.Receipts.{AreOfGiven, Move, SeatHistory, of_seat, sum_below}
+use Rattle.beam_receipts.specs.Refused.{AreFullAt, WereRefused}
 use Rattle.beam_shared.specs.Node.{Node}
 
 -- no two of these seats have one number
@@ -19,6 +20,14 @@ AreBelow given seats = (i : ℕ) (s : SeatHistory) → slice_get seats i ≡ Som
 -- each seat keeps exactly the journal's entries of its number, in their order
 abbrev pub Agree : List Entry → List SeatHistory → Type 0
 Agree journal seats = (i : ℕ) (s : SeatHistory) → slice_get seats i ≡ Some s → s.kept ≡ of_seat s.number journal
+
+-- each seat's refused commands could be refused so over this journal and these moves, `JournalFull` exactly at the limit
+abbrev pub WereEachRefused : List Entry → List Move → ℕ → List SeatHistory → Type 0
+WereEachRefused journal moves limit seats = (i : ℕ) (s : SeatHistory) → slice_get seats i ≡ Some s
+    → WereRefused journal moves s.number s.refused × AreFullAt limit s.refused
+
+abbrev pub WereAllRefused : Node → List SeatHistory → Type 0
+WereAllRefused n seats = WereEachRefused n.journal n.moves n.limit seats
 
 -- ---- counts
 

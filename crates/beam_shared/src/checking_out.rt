@@ -6,17 +6,17 @@ ghost use Rattle.beam_machine.specs.Journal.{replay};
 ghost use Rattle.beam_machine.specs.Process.{is_ended, is_running};
 ghost use Rattle.beam_machine.specs.State.{live_process};
 ghost use Rattle.beam_rows.specs.Finds.{AlwaysFinds};
-ghost use Rattle.beam_shared.specs.declared.refusal.Refusal.TheVariants.{Node as OfNode};
+ghost use Rattle.beam_receipts.specs.declared.refusal.Refusal.TheVariants.{Node as OfNode};
 ghost use Rattle.beam_shared.specs.Node.{all_arrived, process_has_incoming, deliveries, delivered_if, has_any, handed_out, has_incoming, origin};
 ghost use Rattle.beam_shared.specs.Refusals.{RefusesCheckout, most_checkouts, refusal_of, why_not};
 ghost use Rattle.beam_shared.specs.Invariant.{context_in, origin_by, checked_out_of};
+ghost use Rattle.beam_receipts.specs.Receipts.{moved_out};
 
 use crate::checked_out::{CheckoutEntry, entry_of};
 use crate::checkout::Checkout;
 use crate::code_context::CodeContext;
 use crate::entering::{enter_without_seat, make_room};
 use crate::node::Node;
-use crate::refusal::Refusal;
 use beam_debug::debugger::Debugger;
 use beam_journal::journal::Journal;
 use beam_machine::debug::DebugEvent;
@@ -24,6 +24,7 @@ use beam_machine::event::{Event, Refused};
 use beam_proc::process::Process;
 use beam_receipts::brand::{GhostOrigin, NodeBrand};
 use beam_receipts::keeper::Keeper;
+use beam_receipts::refusal::Refusal;
 use beam_receipts::ticket::TicketReceipt;
 use beam_step::work::Work;
 use std::alloc::AllocError;
@@ -131,7 +132,7 @@ fn hand_out<B: NodeBrand, O: GhostOrigin>(
 ) -> TicketReceipt<B>
     requires { O.origin ≡ origin_by pid work.now context.now }
     ensures ticket { result ≡ record { serial = length keeper.old.checkouts; origin = origin_by pid work.now context.now } }
-    ensures keeper { keeper.new ≡ record keeper.old { checkouts = keeper.old.checkouts ++ origin_by pid work.now context.now ∷ [] } }
+    ensures keeper { keeper.new ≡ record keeper.old { checkouts = keeper.old.checkouts ++ origin_by pid work.now context.now ∷ []; moves = keeper.old.moves ++ moved_out pid ∷ [] } }
 {
     keeper.check_out::<O>()
 }

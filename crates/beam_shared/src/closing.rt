@@ -2,7 +2,7 @@
 ghost use Rattle.std.specs.Prelude.{◌≡◌, ◌≤◌, ◌↔◌, IsTrue, OnOk, OnErr, IfOk, IfErr};
 ghost use Rattle.beam_machine.specs.Journal.{IsLawful, replay};
 ghost use Rattle.beam_shared.specs.Node.{most_seats};
-ghost use Rattle.beam_shared.specs.Seats.{Agree, AreAll, AreBelow, AreDistinct, commands_in, commands_kept};
+ghost use Rattle.beam_shared.specs.Seats.{Agree, AreAll, AreBelow, AreDistinct, WereAllRefused, WereEachRefused, commands_in, commands_kept};
 
 use crate::node::{MOST_SEATS, Node};
 use crate::seat_mismatch::SeatMismatch;
@@ -18,6 +18,7 @@ fn are_distinct<B: NodeBrand>(keeper: &mut Keeper<B>, seats: &mut Vec<SeatReceip
     ensures is { IsTrue result ↔ AreDistinct seats.old.items }
     ensures below { IsTrue result → AreBelow keeper.old.given seats.old.items }
     ensures agree { IsTrue result → Agree keeper.old.journal seats.old.items }
+    ensures refused { IsTrue result → WereEachRefused keeper.old.journal keeper.old.moves B.limit seats.old.items }
     ensures keeper { keeper.new ≡ keeper.old }
     ensures seats { seats.new.items ≡ seats.old.items }
 {
@@ -36,8 +37,9 @@ fn are_distinct<B: NodeBrand>(keeper: &mut Keeper<B>, seats: &mut Vec<SeatReceip
 impl<B: NodeBrand> Node<B> {
     /// Closes the node and gives its journal, if these are all of its seats, each once. The journal is lawful and replays to the node's
     /// state. Each seat kept the commands that were accepted of it, with their replies: exactly the journal's entries of that seat, in
-    /// their order. Each seat's number is below the count of seats given, and together they kept as many commands as the journal has.
-    /// Otherwise the node and the seats come back. It takes time for the seats, at most 4,096, and not for the journal.
+    /// their order. Each command that was refused of a seat could be refused so: the state to which the entries before it lead refuses it, or
+    /// its process had been checked out; and `JournalFull` was told exactly where the journal was full. Each seat's number is below the
+    /// count of seats given, and together they kept as many commands as the journal has. Otherwise the node and the seats come back. It takes time for the seats, at most 4,096, and not for the journal.
     pub fn close(self, seats: Vec<SeatReceipt<B>>) -> Result<Journal, SeatMismatch<B>>
         ensures journal { IfOk result (λ journal. journal.entries ≡ self.journal) }
         ensures lawful { OnOk result (IsLawful self.journal) }
@@ -45,6 +47,7 @@ impl<B: NodeBrand> Node<B> {
         ensures all { OnOk result (AreAll self seats.items) }
         ensures below { OnOk result (AreBelow self.seats seats.items) }
         ensures agree { OnOk result (Agree self.journal seats.items) }
+        ensures refused { OnOk result (WereAllRefused self seats.items) }
         ensures counts { OnOk result (commands_kept seats.items ≡ commands_in self.journal) }
         ensures mismatch { OnErr result (AreAll self seats.items → ⊥) }
         ensures back { IfErr result (λ back. (back.node ≡ self) × (back.seats.items ≡ seats.items)) }

@@ -1,8 +1,9 @@
 //! Committing the rows of processes that were checked out.
-ghost use Rattle.std.specs.Prelude.{◌≡◌, ◌≢◌, ◌≤◌, ◌||◌, true, false, is_some, map, length, option_map, slice_get, Some, IfOk, IfErr, OnOk, OnErr};
+ghost use Rattle.std.specs.Prelude.{◌≡◌, ◌≢◌, ◌≤◌, ◌||◌, ◌++◌, ◌∷◌, [], true, false, is_some, map, length, option_map, slice_get, Some, IfOk, IfErr, OnOk, OnErr};
 ghost use Rattle.beam_laws.specs.Slice.{rows_of_event};
 ghost use Rattle.beam_debug.specs.Answers.{reply_of};
 ghost use Rattle.beam_debug.specs.Installing.{AreSlices};
+ghost use Rattle.beam_receipts.specs.Receipts.{moved_in};
 ghost use Rattle.beam_shared.specs.Committing.{AreBack, Commits, DropsEntry, DropsFor, DropsRows, MayCommit, is_open, checked_in};
 ghost use Rattle.beam_shared.specs.FinishedSlice.{context_of};
 ghost use Rattle.beam_shared.specs.Node.{serial_of};
@@ -21,7 +22,8 @@ use beam_machine::debug::DebugEvent;
 use beam_machine::event::Event;
 use beam_model::place::{Place, is_same_place};
 use beam_proc::private::{End, Private};
-use beam_receipts::brand::NodeBrand;
+use beam_receipts::brand::{GhostPid, NodeBrand};
+use beam_receipts::keeper::Keeper;
 use beam_receipts::ticket::TicketReceipt;
 use std::marker::Brand;
 
@@ -66,11 +68,25 @@ fn is_context(debugger: &Debugger, is_unchanged: bool, context: &CodeContext) ->
             && are_same_places(context.spots(), debugger.spots()))
 }
 
-/// Removes a process from the list of those that are checked out.
-fn check_in(pid: u32, checked_out: &mut Vec<CheckoutEntry>)
+/// Removes a process from the list of the processes that are checked out.
+fn remove_checkout(pid: u32, checked_out: &mut Vec<CheckoutEntry>)
     ensures { checked_out.new.items ≡ without_entry pid checked_out.old.items }
 {
     checked_out.retain(move |entry| !(entry.pid == pid));
+}
+
+/// Checks a process in: it isn't checked out any more, which the keeper notes.
+fn check_in<B: NodeBrand, P: GhostPid>(
+    keeper: &mut Keeper<B>,
+    pid: u32,
+    checked_out: &mut Vec<CheckoutEntry>,
+)
+    requires { P.pid ≡ pid }
+    ensures checked_out { checked_out.new.items ≡ without_entry pid checked_out.old.items }
+    ensures keeper { keeper.new ≡ record keeper.old { moves = keeper.old.moves ++ moved_in pid ∷ [] } }
+{
+    keeper.check_in::<P>();
+    remove_checkout(pid, checked_out);
 }
 
 impl<B: NodeBrand> Node<B> {
@@ -128,7 +144,7 @@ impl<B: NodeBrand> Node<B> {
     fn check_in(&mut self, pid: u32)
         ensures { self.new ≡ checked_in self.old pid }
     {
-        check_in(pid, &mut self.checked_out);
+        check_in::<B, Brand>(&mut self.keeper, pid, &mut self.checked_out);
     }
 
     /// Lets rows take effect, enters them, and checks the process in. The process is checked in too if the rows are dropped.
@@ -143,12 +159,12 @@ impl<B: NodeBrand> Node<B> {
     {
         self.debugger.recall_invariant();
         if self.journal.is_full() {
-            check_in(pid, &mut self.checked_out);
+            check_in::<B, Brand>(&mut self.keeper, pid, &mut self.checked_out);
             return Err(DropReason::JournalFull);
         }
         let asked = rows_asked(&rows);
         let installed = self.debugger.install(pid, rows);
-        check_in(pid, &mut self.checked_out);
+        check_in::<B, Brand>(&mut self.keeper, pid, &mut self.checked_out);
         match installed {
             Ok(reply) => {
                 let event = DebugEvent::Node(Event::Steps { pid, rows: asked });

@@ -12,5 +12,4 @@ pub mod drop_reason;
 mod entering;
 pub mod finished_slice;
 pub mod node;
-pub mod refusal;
 pub mod seat_mismatch;

@@ -6,17 +6,17 @@ ghost use Rattle.beam_machine.specs.Ready.{ready_after, next_deadline};
 ghost use Rattle.beam_machine.specs.declared.event.Refused.TheVariants.{TooMany};
 ghost use Rattle.beam_shared.specs.Node.{most_seats, new_node};
 ghost use Rattle.beam_shared.specs.Seats.{AddUp, AreOfSeats};
-ghost use Rattle.beam_shared.specs.declared.refusal.Refusal.TheVariants as refusals;
+ghost use Rattle.beam_receipts.specs.declared.refusal.Refusal.TheVariants as refusals;
 
 use crate::checked_out::CheckoutEntry;
 use crate::code_context::CodeContext;
-use crate::refusal::Refusal;
 use beam_debug::debugger::Debugger;
 use beam_journal::entry::Entry;
 use beam_journal::journal::{Journal, MOST_ENTRIES};
 use beam_machine::event::Refused;
 use beam_receipts::brand::NodeBrand;
 use beam_receipts::keeper::{Keeper, UnbrandedKeeper};
+use beam_receipts::refusal::Refusal;
 use beam_receipts::seat::SeatReceipt;
 use std::alloc::Global;
 use std::marker::Model;
@@ -53,10 +53,11 @@ impl<B: NodeBrand> Drop for Node<B> {
 }
 
 impl<B: NodeBrand> Model for Node<B> {
+    ghost use Rattle.std.specs.Prelude.{◌≡◌};
     ghost use Rattle.std.specs.Coded.{codes};
     ghost use Rattle.beam_term.specs.Coding.{term_code};
     ghost use Rattle.beam_shared.specs.Node.{Node as TheNode};
-    ghost use Rattle.beam_shared.specs.Invariant.{node_of, HasCapacityFor, NodeInvariant};
+    ghost use Rattle.beam_shared.specs.Invariant.{node_of, AreThoseOut, HasCapacityFor, NodeInvariant};
 
     ghost Value = { TheNode };
 
@@ -64,13 +65,15 @@ impl<B: NodeBrand> Model for Node<B> {
 
     ghost view = { λ n. node_of n.debugger.state n.journal n.keeper n.checked_out.items };
 
-    ghost invariant = { λ n. NodeInvariant n.debugger.state n.journal n.keeper n.checked_out.items n.changes n.context × HasCapacityFor n.debugger n.checked_out.items };
+    ghost invariant = { λ n. NodeInvariant n.debugger.state n.journal n.keeper n.checked_out.items n.changes n.context × HasCapacityFor n.debugger n.checked_out.items
+        × (n.journal.limit ≡ B.limit) × AreThoseOut n.keeper.moves n.checked_out.items };
 }
 
 impl<B: NodeBrand> Node<B> {
     /// A node with no code, no processes and an empty journal, which can have 16,777,216 entries. It takes no memory.
     pub fn new(alloc: Global, unbranded: UnbrandedKeeper) -> Node<B>
-        requires { unbranded ≡ B.table }
+        requires unbranded { unbranded ≡ B.table }
+        requires limit { B.limit ≡ most_entries }
         ensures { result ≡ new_node most_entries }
     {
         Node::with_limit(alloc, unbranded, MOST_ENTRIES)
@@ -80,6 +83,7 @@ impl<B: NodeBrand> Node<B> {
     pub fn with_limit(alloc: Global, unbranded: UnbrandedKeeper, limit: u32) -> Node<B>
         requires unbranded { unbranded ≡ B.table }
         requires limit { limit ≤ most_entries }
+        requires brand { B.limit ≡ limit }
         ensures { result ≡ new_node limit }
     {
         Node {
@@ -128,7 +132,7 @@ impl<B: NodeBrand> Node<B> {
 
     /// Gives a seat to a sender of commands. `TooMany` where 4,096 were given. It takes no memory.
     pub fn seat(&mut self) -> Result<SeatReceipt<B>, Refusal>
-        ensures seat { IfOk result (λ seat. seat ≡ record { number = self.old.seats; kept = [] }) }
+        ensures seat { IfOk result (λ seat. seat ≡ record { number = self.old.seats; limit = self.old.limit; kept = []; refused = [] }) }
         ensures given { IfOk result (λ seat. self.new ≡ record self.old { seats = self.old.seats + 1 }) }
         ensures refused { IfErr result (λ refusal. (refusal ≡ refusals.Node TooMany) × (self.old.seats ≡ most_seats)) }
         ensures err { OnErr result (self.new ≡ self.old) }

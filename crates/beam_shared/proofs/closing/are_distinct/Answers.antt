@@ -1,10 +1,12 @@
 use Rattle.std.proofs.Common.{◌≡◌, ◌+◌, ◌≤◌, ◌<◌, Some, true, false, length, refl, sym, ap, subst, ◌∙◌, arith, true≢false, slice_get, slice_index_or as get_or, slice_set as set}
-use Rattle.beam_receipts.specs.Receipts.{of_seat}
-use Rattle.beam_shared.proofs.Seating.{AreNoted, none_noted, one_more, noted_twice, all_agree, all_below, all_distinct, written_back, read_is, seat_at}
+use Rattle.std.proofs.lemmas.Option.{slice_get_within}
+use Rattle.beam_receipts.specs.Receipts.{History, of_seat}
+use Rattle.beam_receipts.specs.Refused.{AreFullAt, WereRefused}
+use Rattle.beam_shared.proofs.Seating.{AreNoted, each_more, none_noted, one_more, noted_twice, all_agree, all_below, all_distinct, written_back, read_is, seat_at}
 use Rattle.beam_shared.proofs.closing.are_distinct.Goals as goal
 
 pub loop-at-init : goal.loop-at-init
-loop-at-init g c = record { keeper = refl; seats = refl; noted = none_noted _ _ _ }
+loop-at-init g c = record { keeper = refl; seats = refl; refused = λ i s less found. absurd (omega (arith, less)); noted = none_noted _ _ _ }
 
 pub bounds-seen-number : goal.bounds-seen-number
 bounds-seen-number g c =
@@ -57,10 +59,16 @@ loop-at-preserved g c =
     let kept : s.kept ≡ of_seat s.number c.args.keeper.now.journal = subst (λ k. s.kept ≡ of_seat s.number k.journal) l.invariant.keeper c.check_seat.ensures.kept in
     let below : s.number < c.args.keeper.now.given = omega (arith, given, c.check_seat.ensures.given) in
     let more = one_more c.args.keeper.now.given c.args.keeper.now.journal c.args.seats.now.items l.seen l.at s l.invariant.noted here few free kept below in
+    let limit : s.limit ≡ g.B.NodeBrand.limit = c.check_seat.ensures.limit in
+    let full : AreFullAt g.B.NodeBrand.limit s.refused = subst (λ n. AreFullAt n s.refused) limit c.check_seat.ensures.full in
+    let were : WereRefused c.args.keeper.now.journal c.args.keeper.now.moves s.number s.refused
+    = subst (λ (k : History). WereRefused k.journal k.moves s.number s.refused) l.invariant.keeper c.check_seat.ensures.refused in
     let back : set l.seats.items l.at c.check_seat.new.seat ≡ l.seats.items = written_back l.seats.items l.at s c.check_seat.new.seat c.index.result.now within c.index_mut.ensures.value c.check_seat.ensures.seat c.index.ensures in
     record {
       keeper = c.check_seat.ensures.keeper ∙ l.invariant.keeper;
       seats = back ∙ l.invariant.seats;
+      refused = each_more (λ t. WereRefused c.args.keeper.now.journal c.args.keeper.now.moves t.number t.refused × AreFullAt g.B.NodeBrand.limit t.refused)
+          c.args.seats.now.items l.at s here (were, full) l.invariant.refused;
       noted = subst (λ n. AreNoted c.args.keeper.now.given c.args.keeper.now.journal c.args.seats.now.items (set l.seen n true) (l.at + 1)) (sym number) more;
     }
 
@@ -81,3 +89,9 @@ returns-clause-below g c =
     let l = c.loop-at in
     let all : length c.args.seats.now.items ≤ l.at = omega (arith, c.loop-at-test.false, l.auto.at-end, c.len-at-end.ensures) in
     λ _. all_below _ _ _ l.seen l.at l.invariant.noted all
+
+pub returns-clause-refused : goal.returns-clause-refused
+returns-clause-refused g c =
+    let l = c.loop-at in
+    let all : length c.args.seats.now.items ≤ l.at = omega (arith, c.loop-at-test.false, l.auto.at-end, c.len-at-end.ensures) in
+    λ _ i s found. let less = slice_get_within c.args.seats.now.items i s found in l.invariant.refused i s (omega (arith, less, all)) found

@@ -1,7 +1,6 @@
 use Rattle.std.proofs.Common.{◌≡◌, ◌<◌, Some, None, refl, sym, ap, ◌∙◌, subst}
 use Rattle.atomic_table.specs.Table.{keeps}
-use Rattle.beam_receipts.specs.Receipts.{SeatHistory}
-use Rattle.beam_receipts.specs.Rule.{history_of, seat_claim, kept_by, taken_in}
+use Rattle.beam_receipts.specs.Rule.{SeatClaim, history_of, seat_claim, kept_by, refused_by, taken_in}
 use Rattle.beam_receipts.proofs.Moves.{first, with_seat_history, takes_in_as, gives_back_as, compares_as}
 use Rattle.beam_receipts.proofs.keeper.Keeper.check_seat.Goals as goal
 
@@ -18,7 +17,7 @@ load-requires g c =
     let i = c.self.invariant in
     let p = c.self.inside.pass in
     let w = c.into_seat.result.me.0 in
-    let seat_history : SeatHistory = record { number = c.seat.inside.number; kept = kept_by c.seat.inside.pass.views } in
+    let seat_history : SeatClaim = record { number = c.seat.inside.number; kept = kept_by c.seat.inside.pass.views; refused = refused_by c.seat.inside.pass.views } in
     let views : c.replace-pass.result.views ≡ c.seat.inside.pass.views = ap (λ b. b.views) c.replace-pass.ensures.value in
     let has : w ≡ seat_claim seat_history = ap first (sym c.into_seat.ensures.2 ∙ views ∙ c.seat.invariant.1) in
     let x = c.join_seat.new.seat in
@@ -33,7 +32,7 @@ split_seat-pass-requires g c =
     let i = c.self.invariant in
     let p = c.self.inside.pass in
     let w = c.into_seat.result.me.0 in
-    let seat_history : SeatHistory = record { number = c.seat.inside.number; kept = kept_by c.seat.inside.pass.views } in
+    let seat_history : SeatClaim = record { number = c.seat.inside.number; kept = kept_by c.seat.inside.pass.views; refused = refused_by c.seat.inside.pass.views } in
     let views : c.replace-pass.result.views ≡ c.seat.inside.pass.views = ap (λ b. b.views) c.replace-pass.ensures.value in
     let has : w ≡ seat_claim seat_history = ap first (sym c.into_seat.ensures.2 ∙ views ∙ c.seat.invariant.1) in
     let x = c.join_seat.new.seat in

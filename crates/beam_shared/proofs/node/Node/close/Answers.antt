@@ -1,6 +1,6 @@
-use Rattle.std.proofs.Common.{◌≡◌, length, ap, subst, ◌∙◌, arith}
+use Rattle.std.proofs.Common.{◌≡◌, length, sym, ap, subst, ◌∙◌, arith}
 use Rattle.std.proofs.lemmas.Bool.Decides.{nat_tests}
-use Rattle.beam_shared.specs.Prelude.{Node, Agree, AreAll, AreBelow, AreOfSeats}
+use Rattle.beam_shared.specs.Prelude.{Node, Agree, AreAll, AreBelow, AreOfSeats, WereAllRefused, WereEachRefused}
 use Rattle.beam_shared.proofs.Totals.{they_add_up}
 use Rattle.beam_shared.proofs.node.Node.close.Goals as goal
 
@@ -32,3 +32,13 @@ returns-then-are_distinct-clause-counts g c =
     = subst (λ journal. Agree journal c.args.seats.items) (c.node.invariant.0.known_is ∙ ap (λ n. n.journal) c.node.view_is) kept in
     let of_seats : AreOfSeats c.args.self = subst AreOfSeats c.node.view_is c.node.invariant.0.of_given in
     they_add_up c.args.self c.args.seats.items all below agree of_seats
+
+pub returns-then-are_distinct-clause-refused : goal.returns-then-are_distinct-clause-refused
+returns-then-are_distinct-clause-refused g c =
+    let i = c.node.inside in
+    let were : WereEachRefused i.keeper.journal i.keeper.moves g.B.NodeBrand.limit c.args.seats.items = c.are_distinct.ensures.refused c.if-are_distinct.true in
+    let of_journal : WereEachRefused i.journal.entries i.keeper.moves g.B.NodeBrand.limit c.args.seats.items
+    = subst (λ journal. WereEachRefused journal i.keeper.moves g.B.NodeBrand.limit c.args.seats.items) c.node.invariant.0.known_is were in
+    let at_limit : WereEachRefused i.journal.entries i.keeper.moves i.journal.limit c.args.seats.items
+    = subst (λ limit. WereEachRefused i.journal.entries i.keeper.moves limit c.args.seats.items) (sym c.node.invariant.2) of_journal in
+    subst (λ (n : Node). WereAllRefused n c.args.seats.items) c.node.view_is at_limit

@@ -4,25 +4,30 @@ use Rattle.beam_machine.specs.declared.event.Event.TheVariants.{Steps}
 use Rattle.beam_machine.specs.Prelude.{DebugNext, debug_next, debug_after, debug_cut_event, replay}
 use Rattle.beam_debug.specs.Prelude.{reply_of, AreSlices}
 use Rattle.beam_journal.specs.Entering.{Accepts, entry_of}
-use Rattle.beam_shared.specs.Prelude.{advanced, event_of, checked_in, checked_out_of, HasCapacityFor, NodeInvariant, node_of, Node, serial_of, without_entry}
+use Rattle.beam_receipts.specs.Receipts.{History, moved_in}
+use Rattle.beam_shared.specs.Prelude.{advanced, event_of, checked_in, checked_out_of, AreThoseOut, HasCapacityFor, NodeInvariant, node_of, Node, serial_of, without_entry}
 use Rattle.beam_shared.proofs.CommittedRows.{not_cut, rows_answer}
 use Rattle.beam_shared.proofs.Returning.{advanced_is, fewer, kept_on, kept_without, taken}
+use Rattle.beam_shared.proofs.ThoseOut.{those_in}
 use Rattle.beam_shared.proofs.Capacities.{more_capacity, capacity_for, capacity_without}
 use Rattle.beam_shared.proofs.node.Node.enter_rows.Goals as goal
 
 pub invariant_of-self : goal.invariant_of-self
 invariant_of-self g c =
     let i = c.self.inside in (
-      subst (λ checked_out. NodeInvariant i.debugger.state i.journal i.keeper checked_out i.changes i.context) (sym c.check_in.ensures)
-          (kept_without i.debugger.state i.journal i.keeper i.keeper i.checked_out.items i.changes i.context c.args.pid c.self.invariant.0 refl),
-      subst (λ checked_out. HasCapacityFor i.debugger checked_out) (sym c.check_in.ensures) (capacity_without i.debugger c.args.pid i.checked_out.items c.self.invariant.1),
+      subst (λ checked_out. NodeInvariant i.debugger.state i.journal c.check_in.new.keeper checked_out i.changes i.context) (sym c.check_in.ensures.checked_out)
+          (kept_without i.debugger.state i.journal i.keeper c.check_in.new.keeper i.checked_out.items i.changes i.context c.args.pid c.self.invariant.0 c.check_in.ensures.keeper),
+      subst (λ checked_out. HasCapacityFor i.debugger checked_out) (sym c.check_in.ensures.checked_out) (capacity_without i.debugger c.args.pid i.checked_out.items c.self.invariant.1),
+      c.self.invariant.2,
+      subst (λ moves. AreThoseOut moves c.check_in.new.checked_out.items) (sym (ap (λ (k : History). k.moves) c.check_in.ensures.keeper))
+          (subst (AreThoseOut (i.keeper.moves ++ moved_in c.args.pid ∷ [])) (sym c.check_in.ensures.checked_out) (those_in i.keeper.moves c.args.pid i.checked_out.items c.self.invariant.3)),
     )
 
 pub returns-then-is_full-clause-back : goal.returns-then-is_full-clause-back
 returns-then-is_full-clause-back g c =
     let i = c.self.inside in
-    ap (node_of i.debugger.state i.journal i.keeper) c.check_in.ensures
-    ∙ (taken i.debugger.state i.debugger.state i.journal i.keeper i.keeper i.checked_out.items c.args.pid refl refl
+    ap (node_of i.debugger.state i.journal c.check_in.new.keeper) c.check_in.ensures.checked_out
+    ∙ (taken i.debugger.state i.debugger.state i.journal i.keeper c.check_in.new.keeper i.checked_out.items c.args.pid refl c.check_in.ensures.keeper
     ∙ ap (λ n. checked_in n c.args.pid) c.self.view_is)
 
 pub enter_without_seat-requires-clause-entry : goal.enter_without_seat-requires-clause-entry
@@ -64,21 +69,32 @@ invariant_of-self-in-Ok g c =
     = subst (λ n. k.entries ≡ j.entries ++ entry_of (NodeEvent (Steps pid n)) None reply ∷ []) asked c.enter_without_seat.ensures.entered in
     let leads : replay k.entries ≡ debug_after (replay j.entries) (event_of pid rows) (Ok reply)
     = subst (λ n. replay k.entries ≡ debug_after (replay j.entries) (NodeEvent (Steps pid n)) (Ok reply)) asked c.enter_without_seat.ensures.leads in
-    let is : later ≡ record known { journal = known.journal ++ entry_of (event_of pid rows) None reply ∷ [] }
-    = subst (λ n. later ≡ record known { journal = known.journal ++ entry_of (NodeEvent (Steps pid n)) None reply ∷ [] }) asked c.enter_without_seat.ensures.keeper in
+    let noted : c.check_in-2.new.keeper ≡ record known { moves = known.moves ++ moved_in pid ∷ [] } = c.check_in-2.ensures.keeper in
+    let is : later ≡ record known { journal = known.journal ++ entry_of (event_of pid rows) None reply ∷ []; moves = known.moves ++ moved_in pid ∷ [] }
+    = subst (λ n. later ≡ record known { journal = known.journal ++ entry_of (NodeEvent (Steps pid n)) None reply ∷ []; moves = known.moves ++ moved_in pid ∷ [] }) asked
+    (c.enter_without_seat.ensures.keeper
+    ∙ ap (λ (l : History). record l { journal = l.journal ++ entry_of (NodeEvent (Steps pid c.rows_asked-asked.result)) None reply ∷ [] }) noted) in
     let kept = kept_on d x j k known later i.checked_out.items i.changes i.context pid rows reply c.self.invariant.0 c.recall_invariant.ensures.spots
-    (rows_answer d pid rows reply slices says x c.in-Ok.ensures.next) entered leads is capacity in
-    (subst (λ checked_out. NodeInvariant x k later checked_out i.changes i.context) (sym c.check_in-2.ensures) kept, subst (λ checked_out. HasCapacityFor new checked_out) (sym c.check_in-2.ensures) held)
+    (rows_answer d pid rows reply slices says x c.in-Ok.ensures.next) entered leads is capacity in (
+      subst (λ checked_out. NodeInvariant x k later checked_out i.changes i.context) (sym c.check_in-2.ensures.checked_out) kept,
+      subst (λ checked_out. HasCapacityFor new checked_out) (sym c.check_in-2.ensures.checked_out) held,
+      c.enter_without_seat.ensures.limit ∙ c.self.invariant.2,
+      subst (λ moves. AreThoseOut moves c.check_in-2.new.checked_out.items) (sym (ap (λ (l : History). l.moves) is))
+          (subst (AreThoseOut (known.moves ++ moved_in pid ∷ [])) (sym c.check_in-2.ensures.checked_out) (those_in known.moves pid i.checked_out.items c.self.invariant.3)),
+    )
 
 pub invariant_of-self-in-Err : goal.invariant_of-self-in-Err
 invariant_of-self-in-Err g c =
     let i = c.self.inside in
     let new = c.install-installed.new.self in
     let held = more_capacity i.debugger new (without_entry c.args.pid i.checked_out.items) c.install-installed.ensures.capacity (capacity_without i.debugger c.args.pid i.checked_out.items c.self.invariant.1) in
-    let kept = kept_without i.debugger.state i.journal i.keeper i.keeper i.checked_out.items i.changes i.context c.args.pid c.self.invariant.0 refl in (
-      subst (λ checked_out. NodeInvariant c.install-installed.new.self.state i.journal i.keeper checked_out i.changes i.context) (sym c.check_in-2.ensures)
-          (subst (λ d. NodeInvariant d i.journal i.keeper (without_entry c.args.pid i.checked_out.items) i.changes i.context) (sym c.in-Err.ensures.err) kept),
-      subst (λ checked_out. HasCapacityFor new checked_out) (sym c.check_in-2.ensures) held,
+    let kept = kept_without i.debugger.state i.journal i.keeper c.check_in-2.new.keeper i.checked_out.items i.changes i.context c.args.pid c.self.invariant.0 c.check_in-2.ensures.keeper in (
+      subst (λ checked_out. NodeInvariant c.install-installed.new.self.state i.journal c.check_in-2.new.keeper checked_out i.changes i.context) (sym c.check_in-2.ensures.checked_out)
+          (subst (λ d. NodeInvariant d i.journal c.check_in-2.new.keeper (without_entry c.args.pid i.checked_out.items) i.changes i.context) (sym c.in-Err.ensures.err) kept),
+      subst (λ checked_out. HasCapacityFor new checked_out) (sym c.check_in-2.ensures.checked_out) held,
+      c.self.invariant.2,
+      subst (λ moves. AreThoseOut moves c.check_in-2.new.checked_out.items) (sym (ap (λ (k : History). k.moves) c.check_in-2.ensures.keeper))
+          (subst (AreThoseOut (i.keeper.moves ++ moved_in c.args.pid ∷ [])) (sym c.check_in-2.ensures.checked_out) (those_in i.keeper.moves c.args.pid i.checked_out.items c.self.invariant.3)),
     )
 
 -- the process can be held without memory, since it is checked out
@@ -110,14 +126,17 @@ returns-in-Ok-clause-commits g c =
     let says : (debug_next d (event_of pid rows)).answer ≡ Ok reply = ap (λ (n : DebugNext). n.answer) c.in-Ok.ensures.next in
     let entered : k.entries ≡ j.entries ++ entry_of (event_of pid rows) None reply ∷ []
     = subst (λ n. k.entries ≡ j.entries ++ entry_of (NodeEvent (Steps pid n)) None reply ∷ []) asked c.enter_without_seat.ensures.entered in
-    let is : later ≡ record known { journal = known.journal ++ entry_of (event_of pid rows) None reply ∷ [] }
-    = subst (λ n. later ≡ record known { journal = known.journal ++ entry_of (NodeEvent (Steps pid n)) None reply ∷ [] }) asked c.enter_without_seat.ensures.keeper in (
+    let noted : c.check_in-2.new.keeper ≡ record known { moves = known.moves ++ moved_in pid ∷ [] } = c.check_in-2.ensures.keeper in
+    let is : later ≡ record known { journal = known.journal ++ entry_of (event_of pid rows) None reply ∷ []; moves = known.moves ++ moved_in pid ∷ [] }
+    = subst (λ n. later ≡ record known { journal = known.journal ++ entry_of (NodeEvent (Steps pid n)) None reply ∷ []; moves = known.moves ++ moved_in pid ∷ [] }) asked
+    (c.enter_without_seat.ensures.keeper
+    ∙ ap (λ (l : History). record l { journal = l.journal ++ entry_of (NodeEvent (Steps pid c.rows_asked-asked.result)) None reply ∷ [] }) noted) in (
       c.requires.some,
       λ full.
           let was : length j.entries ≡ j.limit = subst (λ (n : Node). length n.journal ≡ n.limit) (sym c.self.view_is) full in
           absurd (cc (c.is_full.ensures.1 was, c.if-is_full.false)),
       ap (λ (n : Node). (debug_next n.state (event_of pid rows)).answer) (sym c.self.view_is) ∙ says,
-      ap (node_of x k later) c.check_in-2.ensures
+      ap (node_of x k later) c.check_in-2.ensures.checked_out
           ∙ (advanced_is d x j k known later i.checked_out.items pid rows reply c.in-Ok.ensures.next (not_cut d pid rows reply slices says) entered c.enter_without_seat.ensures.limit is
           ∙ ap (λ n. advanced n pid rows reply) c.self.view_is),
     )
@@ -125,6 +144,6 @@ returns-in-Ok-clause-commits g c =
 pub returns-in-Err-clause-back : goal.returns-in-Err-clause-back
 returns-in-Err-clause-back g c =
     let i = c.self.inside in
-    ap (node_of c.install-installed.new.self.state i.journal i.keeper) c.check_in-2.ensures
-    ∙ (taken i.debugger.state c.install-installed.new.self.state i.journal i.keeper i.keeper i.checked_out.items c.args.pid c.in-Err.ensures.err refl
+    ap (node_of c.install-installed.new.self.state i.journal c.check_in-2.new.keeper) c.check_in-2.ensures.checked_out
+    ∙ (taken i.debugger.state c.install-installed.new.self.state i.journal i.keeper c.check_in-2.new.keeper i.checked_out.items c.args.pid c.in-Err.ensures.err c.check_in-2.ensures.keeper
     ∙ ap (λ n. checked_in n c.args.pid) c.self.view_is)

@@ -3,14 +3,15 @@ use Rattle.beam_machine.specs.Prelude.{live_process}
 use Rattle.beam_machine.specs.declared.event.Event.TheVariants.{Deliver}
 use Rattle.beam_machine.specs.declared.debug.DebugEvent.TheVariants.{Node as NodeEvent}
 use Rattle.beam_laws.specs.Prelude.{IsEarlierCode, Origin, IsOut}
-use Rattle.beam_receipts.specs.Receipts.{Checkout, History}
+use Rattle.beam_receipts.specs.Receipts.{Checkout, History, moved_out}
 use Rattle.beam_rows.specs.Prelude.{AlwaysFinds}
 use Rattle.beam_shared.specs.declared.checked_out.CheckoutEntry.{CheckoutEntry}
-use Rattle.beam_shared.specs.Prelude.{CodeContext, process_has_incoming, delivered_if, origin, origin_in, checked_out_of, origin_by, context_in, HasCapacityFor, NodeInvariant, must_wait, refusal_of, why_not}
+use Rattle.beam_shared.specs.Prelude.{CodeContext, process_has_incoming, delivered_if, origin, origin_in, checked_out_of, origin_by, context_in, AreThoseOut, HasCapacityFor, NodeInvariant, must_wait, refusal_of, why_not}
 use Rattle.beam_shared.proofs.Entries.{is_free}
 use Rattle.beam_shared.proofs.HandedOut.{handed_out, not_out}
 use Rattle.beam_shared.proofs.Keeping.{context_delivered, handed_entry, kept_as, kept_delivered, kept_with, min_is}
 use Rattle.beam_shared.proofs.Numbered.{kin_there}
+use Rattle.beam_shared.proofs.ThoseOut.{those_out}
 use Rattle.beam_shared.proofs.Capacities.{more_capacity, capacity_with}
 use Rattle.beam_shared.proofs.node.Node.hand_out.Goals as goal
 
@@ -57,6 +58,10 @@ invariant_of-self-2 g c =
     let held = capacity_with c.deliver.new.debugger i.checked_out.items entry (more_capacity i.debugger c.deliver.new.debugger i.checked_out.items more c.self.invariant.1) less in (
       subst (λ entries. NodeInvariant x k c.hand_out-ticket.new.keeper entries i.changes i.context) (sym entries) all,
       subst (λ entries. HasCapacityFor c.deliver.new.debugger entries) (sym entries) held,
+      c.deliver.ensures.limit ∙ (c.make_room.ensures.limit ∙ c.self.invariant.2),
+      subst (λ moves. AreThoseOut moves c.push_reserved.new.self.items) (sym (ap (λ (l : History). l.moves) c.hand_out-ticket.ensures.keeper))
+          (subst (AreThoseOut (later.moves ++ moved_out pid ∷ [])) (sym entries)
+          (those_out later.moves i.checked_out.items entry (subst (λ moves. AreThoseOut moves i.checked_out.items) (sym (ap (λ (l : History). l.moves) c.in_ok-deliver.ensures.keeper)) c.self.invariant.3))),
     )
 
 pub invariant_of-result : goal.invariant_of-result

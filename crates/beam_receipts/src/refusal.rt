@@ -20,7 +20,7 @@ pub enum Refusal {
 
 impl Refusal {
     ghost use Rattle.std.specs.Prelude.{◌≡◌};
-    ghost use Rattle.beam_shared.specs.Refusals.{number_of};
+    ghost use Rattle.beam_receipts.specs.Refused.{number_of};
 
     /// Its number: that of the node's refusal, 6 for `Busy`, 10 for `JournalFull`.
     pub fn number(&self) -> u8
@@ -36,7 +36,7 @@ impl Refusal {
 
 impl From<Refused> for Refusal {
     ghost use Rattle.std.specs.Prelude.{◌≡◌};
-    ghost use Rattle.beam_shared.specs.declared.refusal.Refusal.TheVariants as TheRefusal;
+    ghost use Rattle.beam_receipts.specs.declared.refusal.Refusal.TheVariants as TheRefusal;
 
     ghost from_gives = { λ refused e. e ≡ TheRefusal.Node refused };
 
@@ -48,7 +48,7 @@ impl From<Refused> for Refusal {
 impl From<AllocError> for Refusal {
     ghost use Rattle.std.specs.Prelude.{◌≡◌};
     ghost use Rattle.beam_machine.specs.declared.event.Refused.TheVariants.{NoMemory};
-    ghost use Rattle.beam_shared.specs.declared.refusal.Refusal.TheVariants as TheRefusal;
+    ghost use Rattle.beam_receipts.specs.declared.refusal.Refusal.TheVariants as TheRefusal;
 
     ghost from_gives = { λ _ e. e ≡ TheRefusal.Node NoMemory };
 
