@@ -7,21 +7,22 @@ use Rattle.beam_debug.specs.declared.outcome.Outcome.{Outcome}
 use Rattle.beam_debug.specs.Prelude.{reply_of, DebugLoudly}
 use Rattle.beam_journal.specs.Entering.{Accepts, entry_of}
 use Rattle.beam_receipts.specs.Receipts.{SeatHistory, of_seat}
-use Rattle.beam_shared.specs.declared.refusal.Refusal.{Refusal}
-use Rattle.beam_shared.specs.Prelude.{Node, accepted, RefusesCommand, must_wait, AddUp, AreOfSeats}
+use Rattle.beam_receipts.specs.declared.refusal.Refusal.{Refusal}
+use Rattle.beam_shared.specs.Prelude.{Node, accepted, RefusesCommand, must_wait, with_refused, AddUp, AreOfSeats}
 use Rattle.beam_sched.specs.CommandAnswers.{CommandAnswered, answer_of}
 
 pub command_answered : (n new : Node) (s t : SeatHistory) (event : DebugEvent Listing) (r : Result Outcome Refusal)
-    → IsLawful n.journal → replay n.journal ≡ n.state → AreOfSeats n → AddUp n → s.kept ≡ of_seat s.number n.journal → s.number < n.seats
+    → IsLawful n.journal → replay n.journal ≡ n.state → AreOfSeats n → AddUp n → s.kept ≡ of_seat s.number n.journal → s.number < n.seats → s.limit ≡ n.limit
     → IfOk r (λ reply. Accepts n.state event (reply_of reply))
     → IfOk r (λ reply. new ≡ accepted n event s.number (reply_of reply))
     → IfOk r (λ reply. t ≡ record s { kept = s.kept ++ entry_of event (Some s.number) (reply_of reply) ∷ [] })
     → IfOk r (λ reply. DebugLoudly n.state event (Ok (reply_of reply)) new.state)
     → OnOk r ((length n.journal ≢ n.limit) × (must_wait n.checked_out event ≡ false))
     → IfErr r (λ refusal. RefusesCommand n event refusal)
-    → OnErr r ((new ≡ n) × (t ≡ s))
+    → OnErr r (new ≡ n)
+    → IfErr r (λ refusal. t ≡ with_refused n event refusal s)
     → CommandAnswered s event (answer_of r) t
-command_answered n new s t event (Ok outcome) lawful replays of_seats add_up kept given accepts node seat loud may refused err = record {
+command_answered n new s t event (Ok outcome) lawful replays of_seats add_up kept given limit accepts node seat loud may refused err noted = record {
   node = n;
   new = new;
   lawful = lawful;
@@ -29,10 +30,11 @@ command_answered n new s t event (Ok outcome) lawful replays of_seats add_up kep
   of_seats = of_seats;
   add_up = add_up;
   given = given;
+  limit = limit;
   kept = kept;
   answered = record { accepts = accepts; loud = loud; may = may; node = node; seat = seat };
 }
-command_answered n new s t event (Err refusal) lawful replays of_seats add_up kept given accepts node seat loud may refused err = record {
+command_answered n new s t event (Err refusal) lawful replays of_seats add_up kept given limit accepts node seat loud may refused err noted = record {
   node = n;
   new = new;
   lawful = lawful;
@@ -40,6 +42,7 @@ command_answered n new s t event (Err refusal) lawful replays of_seats add_up ke
   of_seats = of_seats;
   add_up = add_up;
   given = given;
+  limit = limit;
   kept = kept;
-  answered = record { why = refused; node = err.0; seat = err.1 };
+  answered = record { why = refused; node = err; seat = noted };
 }

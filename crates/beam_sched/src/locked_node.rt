@@ -11,11 +11,11 @@ use crate::thread_context::ThreadContext;
 use beam_debug::outcome::Outcome;
 use beam_queue::QueueBrand;
 use beam_receipts::brand::NodeBrand;
+use beam_receipts::refusal::Refusal;
 use beam_shared::checkout::Checkout;
 use beam_shared::drop_reason::DropReason;
 use beam_shared::finished_slice::FinishedSlice;
 use beam_shared::node::Node;
-use beam_shared::refusal::Refusal;
 use std::alloc::Global;
 
 /// A node, the queue states of its processes, and when it is to be scanned.

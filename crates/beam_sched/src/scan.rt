@@ -13,9 +13,9 @@ use beam_machine::debug::DebugEvent;
 use beam_machine::event::{Event, Refused};
 use beam_queue::QueueBrand;
 use beam_receipts::brand::NodeBrand;
+use beam_receipts::refusal::Refusal;
 use beam_receipts::seat::SeatReceipt;
 use beam_shared::node::Node;
-use beam_shared::refusal::Refusal;
 use beam_term::Term;
 
 /// The most processes that one scan finds, and the most waits that it ends.

@@ -20,8 +20,8 @@ use beam_machine::debug::DebugEvent;
 use beam_machine::event::Event;
 use beam_queue::QueueBrand;
 use beam_receipts::brand::NodeBrand;
+use beam_receipts::refusal::Refusal;
 use beam_shared::node::Node;
-use beam_shared::refusal::Refusal;
 use beam_term::Term;
 use std::alloc::Global;
 use std::sync::{Mutex, Wait};
@@ -136,7 +136,7 @@ impl<B: NodeBrand + QueueBrand> Shared<B> {
 
     /// Gives the node an event under its lock, as a command of a thread context's seat. The process that it makes runnable is enqueued in
     /// the thread context's run queue, and a worker is woken, unless the event only reads something and the journal reaches no threshold by
-    /// it. The answer is that of `Node::command`; a refusal changes nothing. The lock is held only for the command and for enqueueing.
+    /// it. The answer is that of `Node::command`; a refusal changes nothing but what the seat notes. The lock is held only for the command and for enqueueing.
     /// Moments are advanced to the clock that it sets.
     pub fn command<R: Wait>(
         &self,
@@ -145,7 +145,7 @@ impl<B: NodeBrand + QueueBrand> Shared<B> {
         event: DebugEvent<Image>,
     ) -> Result<Outcome, Refusal>
         ensures kept { IfOk result (λ reply. context.new.seat ≡ with_kept context.old.seat event (reply_of reply)) }
-        ensures err { OnErr result (context.new.seat ≡ context.old.seat) }
+        ensures err { OnErr result (context.new.seat.kept ≡ context.old.seat.kept) }
         ensures command_answered { CommandAnswered context.old.seat event (answer_of result) context.new.seat }
     {
         let set = time_set(&event);
