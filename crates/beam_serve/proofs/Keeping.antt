@@ -1,52 +1,48 @@
--- The entries that a seat keeps of the commands of a session.
-use Rattle.std.proofs.Common.{◌≡◌, ◌∙◌, inl, inr, ℕ, List, [], ◌∷◌, ◌++◌, refl, ap, sym, subst, append_assoc, append-nil, Some, Result, Ok, Err, take}
+-- The entries that a seat keeps of the commands of a session, and the refusals that it notes.
+use Rattle.std.proofs.Common.{◌≡◌, ◌∙◌, inl, inr, ℕ, List, [], ◌∷◌, ◌++◌, refl, ap, sym, append_assoc, append-nil, Some, Result, Ok, Err, take}
 use Rattle.beam_machine.specs.declared.command.Response.{Response}
 use Rattle.beam_machine.specs.declared.debug.DebugEvent.{DebugEvent}
 use Rattle.beam_machine.specs.declared.debug.DebugReply.{DebugReply}
-use Rattle.beam_machine.specs.declared.event.Event.TheVariants.{Load}
+use Rattle.beam_machine.specs.declared.event.Event.TheVariants.{Load, LoadStrict, AtomicLoad}
 use Rattle.beam_machine.specs.Prelude.{Entry, View, Command, response_of, stream_of}
 use Rattle.beam_machine.specs.declared.command.Response.TheVariants as response
-use Rattle.beam_machine.specs.declared.debug.DebugEvent.TheVariants.{Node}
+use Rattle.beam_machine.specs.declared.debug.DebugEvent.TheVariants.{Node as NodeEvent}
 use Rattle.beam_machine.specs.declared.event.Refused.TheVariants as refused
 use Rattle.beam_model.specs.Prelude.{Listing}
 use Rattle.beam_journal.specs.Entering.{entry_of}
-use Rattle.beam_receipts.specs.Receipts.{SeatHistory}
+use Rattle.beam_receipts.specs.Receipts.{RefusedCommand, SeatHistory}
 use Rattle.beam_remote.specs.declared.error.Served.{Served}
 use Rattle.beam_remote.specs.declared.error.ServeError.{ServeError}
-use Rattle.beam_remote.specs.Prelude.{Answered, IsServed, IsStopped, IsUnloaded, Serves}
-use Rattle.beam_shared.specs.declared.refusal.Refusal.{Refusal}
-use Rattle.beam_shared.specs.declared.refusal.Refusal.TheVariants as refusal
+use Rattle.beam_remote.specs.Prelude.{Answered, AreUnprepared, IsServed, IsStopped, IsUnloaded, IsUnprepared, Serves}
+use Rattle.beam_receipts.specs.declared.refusal.Refusal.{Refusal}
+use Rattle.beam_shared.specs.Prelude.{Node, refused_command, with_refused}
 use Rattle.beam_sched.specs.CommandAnswers.{CommandAnswered, with_kept}
 use Rattle.beam_serve.specs.Answers.{SeatAnswers, response_by, response_to}
-use Rattle.beam_serve.specs.SessionReplies.{IsPartlyWrittenAndKept, IsRefusal, IsWrittenAndKept, KeepsReplied, AreRepliesOf}
+use Rattle.beam_serve.specs.SessionReplies.{IsPartlyWrittenAndKept, IsUnloadedResponse, IsWrittenAndKept, KeepsReplied}
 
-refused_is : (why : Refusal) → IsRefusal (response_to why)
-refused_is (refusal.Node r) = tt
-refused_is refusal.Busy = tt
-refused_is refusal.JournalFull = tt
+unprepared_one : (file : List ℕ) (r : Response) → IsUnprepared file r → IsUnloadedResponse r
+unprepared_one file (response.BadFile layer number) h = tt
+unprepared_one file (response.Refused refused.NoMemory) h = tt
+unprepared_one file r h = absurd h
 
-unprepared_is : (c : Command) (r : Response) → IsUnloaded c r → IsRefusal r
-unprepared_is c (response.Refused r) h = tt
-unprepared_is c response.Busy h = tt
-unprepared_is c response.JournalFull h = tt
-unprepared_is c (response.BadFile layer number) h = tt
-unprepared_is (Node (Load f)) (response.Node r) h = absurd h
-unprepared_is (Node (Load f)) (response.Held n) h = absurd h
-unprepared_is (Node (Load f)) (response.Viewed t) h = absurd h
-unprepared_is _ (response.Node r) h = absurd h
-unprepared_is _ (response.Held n) h = absurd h
-unprepared_is _ (response.Viewed t) h = absurd h
+unprepared_some : (files : List (List ℕ)) (r : Response) → AreUnprepared files r → IsUnloadedResponse r
+unprepared_some files (response.BadFile layer number) h = tt
+unprepared_some files (response.Refused refused.NoMemory) h = tt
+unprepared_some files r h = absurd h
 
--- the responses of a session after a refusal report the same entries
-more_refusal : (r : Response) (rs : List Response) (es : List Entry) → IsRefusal r → AreRepliesOf rs es → AreRepliesOf (r ∷ rs) es
-more_refusal r rs [] is h = (is, h)
-more_refusal r rs (e ∷ es) is h = inr (is, h)
+unprepared_is : (c : Command) (r : Response) → IsUnloaded c r → IsUnloadedResponse r
+unprepared_is (NodeEvent (Load file)) r h = unprepared_one file r h
+unprepared_is (NodeEvent (LoadStrict file)) r h = unprepared_one file r h
+unprepared_is (NodeEvent (AtomicLoad mode files)) r h = unprepared_some files r h
+unprepared_is c r h = absurd h
 
-keeps_refusal : (s next t : SeatHistory) (r : Response) (rs : List Response) → IsRefusal r → next ≡ s → KeepsReplied next rs t → KeepsReplied s (r ∷ rs) t
-keeps_refusal s next t r rs is same h = record {
+-- a load that never got to the node, before the other responses of a session
+keeps_unloaded : (s next t : SeatHistory) (r : Response) (rs : List Response) → IsUnloadedResponse r → next ≡ s → KeepsReplied next rs t → KeepsReplied s (r ∷ rs) t
+keeps_unloaded s next t r rs is same h = record {
   entries = h.entries;
-  kept = h.kept ∙ ap (λ (x : SeatHistory). record x { kept = x.kept ++ h.entries }) same;
-  told = more_refusal r rs h.entries is h.told;
+  refusals = h.refusals;
+  kept = h.kept ∙ ap (λ (x : SeatHistory). record x { kept = x.kept ++ h.entries; refused = x.refused ++ h.refusals }) same;
+  told = inr (inr (is, h.told));
 }
 
 -- a reply to an accepted event, before the other responses of a session
@@ -54,26 +50,40 @@ keeps_reply : (s next t : SeatHistory) (event : DebugEvent Listing) (reply : Deb
     → r ≡ response_of (Ok reply) → next ≡ with_kept s event reply → KeepsReplied next rs t → KeepsReplied s (r ∷ rs) t
 keeps_reply s next t event reply r rs is same h = record {
   entries = entry_of event (Some s.number) reply ∷ h.entries;
-  kept = h.kept ∙ ap (λ (x : SeatHistory). record x { kept = x.kept ++ h.entries }) same
-      ∙ ap (λ (es : List Entry). record s { kept = es }) (append_assoc s.kept (entry_of event (Some s.number) reply ∷ []) h.entries);
+  refusals = h.refusals;
+  kept = h.kept ∙ ap (λ (x : SeatHistory). record x { kept = x.kept ++ h.entries; refused = x.refused ++ h.refusals }) same
+      ∙ ap (λ (es : List Entry). record s { kept = es; refused = s.refused ++ h.refusals }) (append_assoc s.kept (entry_of event (Some s.number) reply ∷ []) h.entries);
   told = inl (is, h.told);
+}
+
+-- a refusal, before the other responses of a session
+keeps_refusal : (n : Node) (s next t : SeatHistory) (event : DebugEvent Listing) (why : Refusal) (r : Response) (rs : List Response)
+    → r ≡ response_to why → next ≡ with_refused n event why s → KeepsReplied next rs t → KeepsReplied s (r ∷ rs) t
+keeps_refusal n s next t event why r rs is same h = record {
+  entries = h.entries;
+  refusals = refused_command n s event why ∷ h.refusals;
+  kept = h.kept ∙ ap (λ (x : SeatHistory). record x { kept = x.kept ++ h.entries; refused = x.refused ++ h.refusals }) same
+      ∙ ap (λ (fs : List RefusedCommand). record s { kept = s.kept ++ h.entries; refused = fs }) (append_assoc s.refused (refused_command n s event why ∷ []) h.refusals);
+  told = inr (inl (is, h.told));
 }
 
 keeps_answer : (s next t : SeatHistory) (event : DebugEvent Listing) (answer : Result (DebugReply View) Refusal) (r : Response) (rs : List Response)
     → CommandAnswered s event answer next → r ≡ response_by answer → KeepsReplied next rs t → KeepsReplied s (r ∷ rs) t
 keeps_answer s next t event (Ok reply) r rs c is h = keeps_reply s next t event reply r rs is c.answered.seat h
-keeps_answer s next t event (Err why) r rs c is h = keeps_refusal s next t r rs (subst IsRefusal (sym is) (refused_is why)) c.answered.seat h
+keeps_answer s next t event (Err why) r rs c is h = keeps_refusal c.node s next t event why r rs is c.answered.seat h
 
 keeps_one : (s next t : SeatHistory) (c : Command) (r : Response) (rs : List Response) → Answered SeatAnswers s c r next → KeepsReplied next rs t → KeepsReplied s (r ∷ rs) t
 keeps_one s next t c r rs (inl a) h = keeps_answer s next t a.0 a.2.answer r rs a.2.command_answered a.2.is_response h
-keeps_one s next t c r rs (inr a) h = keeps_refusal s next t r rs (unprepared_is c r a.0) a.1 h
+keeps_one s next t c r rs (inr a) h = keeps_unloaded s next t r rs (unprepared_is c r a.0) a.1 h
 
--- a seat keeps of a session's commands the entries that their responses report
+-- a seat keeps of a session's commands the entries that their responses report, and notes the refusals
 pub keeps : (s : SeatHistory) (cs : List Command) (rs : List Response) (t : SeatHistory) → Serves SeatAnswers s cs rs t → KeepsReplied s rs t
 keeps s [] [] t h = record {
   entries = [];
-  kept = h ∙ ap (λ (es : List Entry). record s { kept = es }) (sym (append-nil s.kept));
-  told = tt;
+  refusals = [];
+  kept = h ∙ ap (λ (es : List Entry). record s { kept = es }) (sym (append-nil s.kept))
+      ∙ ap (λ (fs : List RefusedCommand). record s { kept = s.kept ++ []; refused = fs }) (sym (append-nil s.refused));
+  told = (refl, refl);
 }
 keeps s [] (r ∷ rs) t h = absurd h
 keeps s (c ∷ cs) [] t h = absurd h
@@ -91,6 +101,7 @@ kept_stopped s read written e t h = record {
   responses = h.responses;
   untold = h.untold;
   begun = h.begun;
+  last = h.at_most_one;
   is_written = h.is_written;
   keeps = keeps s (take e.done (stream_of read).commands) (h.responses ++ h.untold) t h.answered;
 }

@@ -1,3 +1,4 @@
+pub mod NodeStart
 pub mod Keeping
 pub mod Ports
 pub mod Crossing

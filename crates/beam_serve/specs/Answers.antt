@@ -7,8 +7,8 @@ use Rattle.beam_machine.specs.Prelude.{response_of, View}
 use Rattle.beam_machine.specs.declared.command.Response.TheVariants as response
 use Rattle.beam_model.specs.Prelude.{Listing}
 use Rattle.beam_receipts.specs.Receipts.{SeatHistory}
-use Rattle.beam_shared.specs.declared.refusal.Refusal.{Refusal}
-use Rattle.beam_shared.specs.declared.refusal.Refusal.TheVariants.{Node as OfNode, Busy, JournalFull}
+use Rattle.beam_receipts.specs.declared.refusal.Refusal.{Refusal}
+use Rattle.beam_receipts.specs.declared.refusal.Refusal.TheVariants.{Node as OfNode, Busy, JournalFull}
 use Rattle.beam_sched.specs.CommandAnswers.{CommandAnswered}
 
 -- the response to a refused command

@@ -1,2 +1,4 @@
 pub mod Answers
+pub mod Loading
 pub mod SessionReplies
+pub mod StreamsHistory

@@ -9,7 +9,7 @@ const MOST: u32 = 100;
 /// How long a period takes at least, in seconds.
 const SECONDS: u64 = 1;
 
-/// The ends of a period, and those of the periods before it.
+/// The ends of a period, and the ends of the periods before it.
 #[derive(Drop)]
 struct EndPeriod {
     began: Duration,

@@ -113,9 +113,9 @@ impl<'a, R: Wait + Clock + Log> Incoming<Link<'a, R>> for IncomingConnections<'a
         for _ in self.rt.forever() {
             let (stream, peer) = self.acceptor.next(self.rt)?;
             info!(self.rt; "{peer}: connected");
+            self.acceptor.endpoint().reserve.begin_session(self.rt);
             if let Some(link) = self.open(stream) {
                 self.peer = Some(peer);
-                self.acceptor.endpoint().reserve.begin_session(self.rt);
                 log_places(self.rt, self.acceptor);
                 return Some(link);
             }

@@ -4,6 +4,8 @@
 
 mod accepting;
 mod acceptor;
+mod begun;
+mod closed_node;
 mod command_log;
 mod connection_thread;
 mod end_limit;
@@ -23,6 +25,7 @@ mod serve_gate;
 mod served_stream;
 mod serving;
 mod sessions;
+mod stream_session;
 mod streams;
 mod timed_stream;
 
@@ -32,5 +35,6 @@ pub use piping::pipe;
 pub use seat_desk::SeatDesk;
 pub use serving::serve;
 pub use sessions::{Incoming, serve_sessions, session};
+pub use stream_session::pipe_over;
 pub use streams::Streams;
 pub use timed_stream::TimedStream;

@@ -1,5 +1,11 @@
 //! The code and the process that a node begins with.
-ghost use Rattle.std.specs.Prelude.{IfErr};
+ghost use Rattle.std.specs.Prelude.{◌≡◌, ℕ, [], List, None, IfErr, OnOk};
+ghost use Rattle.beam_machine.specs.declared.debug.DebugEvent.TheVariants.{Node as NodeEvent};
+ghost use Rattle.beam_machine.specs.declared.event.Event.TheVariants.{Spawn};
+ghost use Rattle.beam_model.specs.Heads.{IsWellFormed};
+ghost use Rattle.beam_model.specs.Listing.{Listing};
+ghost use Rattle.beam_serve.specs.Loading.{Begins, IsReply, Keeps, LoadsFiles, load_of, texts};
+ghost use Rattle.beam_tools.specs.Call.{IsFileOf};
 ghost use Rattle.beam_tools.specs.Job.{IsOfPort};
 
 use crate::seat_desk::SeatDesk;
@@ -25,16 +31,29 @@ enum EventRefusal {
     JournalFull,
 }
 
-/// Gives the desk an event. The answer is never `Busy`: no process is checked out before schedulers run.
+/// Why the response says that an event isn't accepted. It is never `Busy`: no process is checked out before schedulers run.
+fn refusal_in(response: Response) -> Option<EventRefusal>
+    ensures { result ≡ None → IsReply response }
+{
+    match response {
+        Response::Refused(refused) => Some(EventRefusal::Refused(refused)),
+        Response::Busy => Some(EventRefusal::Refused(Refused::NotReady)),
+        Response::JournalFull => Some(EventRefusal::JournalFull),
+        _ => None,
+    }
+}
+
+/// Gives the desk an event.
+#[tactic(auto, using(crate::proofs::NodeStart::kept_if_reply))]
 fn apply_event<B: NodeBrand + QueueBrand, R: Wait + Log + AllocGlobal>(
     desk: &mut SeatDesk<'_, B, R>,
     event: Event<Image>,
-) -> Result<(), EventRefusal> {
-    match desk.command(DebugEvent::Node(event)) {
-        Response::Refused(refused) => Err(EventRefusal::Refused(refused)),
-        Response::Busy => Err(EventRefusal::Refused(Refused::NotReady)),
-        Response::JournalFull => Err(EventRefusal::JournalFull),
-        _ => Ok(()),
+) -> Result<(), EventRefusal>
+    ensures kept { OnOk result (Keeps desk.old (NodeEvent event) desk.new) }
+{
+    match refusal_in(desk.command(DebugEvent::Node(event))) {
+        Some(refusal) => Err(refusal),
+        None => Ok(()),
     }
 }
 
@@ -46,6 +65,8 @@ fn load<'a, F: Files, B: NodeBrand + QueueBrand, R: Wait + Log + AllocGlobal>(
     line: &Serve<'a>,
     name: &'a str,
 ) -> Result<(), JobFault<'a>>
+    ensures loaded { OnOk result ((l : Listing) × IsFileOf (F.contents files.old) name.now l × IsWellFormed l × Keeps desk.old (load_of l) desk.new) }
+    ensures keeps { (n : List ℕ) → F.contents files.new n ≡ F.contents files.old n }
     ensures fault { IfErr result (IsOfPort line.now.port) }
 {
     let image = match image_of(alloc, files, name) {
@@ -70,6 +91,7 @@ fn start_process<'a, B: NodeBrand + QueueBrand, R: Wait + Log + AllocGlobal>(
     line: &Serve<'a>,
     start: &Start<'a>,
 ) -> Result<(), JobFault<'a>>
+    ensures started { OnOk result (Keeps desk.old (NodeEvent (Spawn start.now.module.now start.now.function.now [])) desk.new) }
     ensures fault { IfErr result (IsOfPort line.now.port) }
 {
     let event = match start_event(alloc, start) {
@@ -83,6 +105,25 @@ fn start_process<'a, B: NodeBrand + QueueBrand, R: Wait + Log + AllocGlobal>(
     }
 }
 
+/// Loads files in order, up to the first that isn't loaded.
+fn load_all<'a, F: Files, B: NodeBrand + QueueBrand, R: Wait + Log + AllocGlobal>(
+    alloc: Global,
+    files: &mut F,
+    desk: &mut SeatDesk<'_, B, R>,
+    line: &Serve<'a>,
+    names: &[&'a str],
+) -> Result<(), JobFault<'a>>
+    ensures loaded { OnOk result (LoadsFiles (F.contents files.old) (texts names.now) desk.old desk.new) }
+    ensures fault { IfErr result (IsOfPort line.now.port) }
+{
+    for name in names {
+        if let Err(fault) = load(alloc, files, desk, line, name) {
+            return Err(fault);
+        }
+    }
+    Ok(())
+}
+
 /// Loads the files of the line in order, and starts its process, as commands of the desk, up to the first that is refused.
 pub fn load_and_start<'a, F: Files, B: NodeBrand + QueueBrand, R: Wait + Log + AllocGlobal>(
     alloc: Global,
@@ -90,13 +131,10 @@ pub fn load_and_start<'a, F: Files, B: NodeBrand + QueueBrand, R: Wait + Log + A
     desk: &mut SeatDesk<'_, B, R>,
     line: &Serve<'a>,
 ) -> Result<(), JobFault<'a>>
+    ensures begun { OnOk result (Begins (F.contents files.old) (texts line.now.files.items) line.now.start desk.old desk.new) }
     ensures fault { IfErr result (IsOfPort line.now.port) }
 {
-    for name in &line.files {
-        if let Err(fault) = load(alloc, files, desk, line, name) {
-            return Err(fault);
-        }
-    }
+    load_all(alloc, files, desk, line, &line.files)?;
     match &line.start {
         Some(start) => start_process(alloc, desk, line, start),
         None => Ok(()),

@@ -25,7 +25,7 @@ pub struct QueuedLog<'a, R, C> {
 impl<R: Wait + Clock, C: Clock> Log for QueuedLog<'_, R, C> {
     ghost target_of = { λ _. Some [] };
 
-    // All records are enabled but those of the target `ENDS`: each time it is asked about them, an end of a process is counted, and the
+    // All records are enabled except records of the target `ENDS`: each time it is asked about them, an end of a process is counted, and the
     // answer is whether it may be logged.
     fn enabled(&self, metadata: &Metadata<'_>) -> bool {
         if metadata.target() == ENDS {

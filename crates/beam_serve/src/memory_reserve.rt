@@ -2,7 +2,7 @@
 
 use beam_debug::outcome::Outcome;
 use beam_machine::event::{Refused, Reply};
-use beam_shared::refusal::Refusal;
+use beam_receipts::refusal::Refusal;
 use log::{Log, warn};
 use std::alloc::Global;
 use std::sync::atomic::{AtomicBool, AtomicU32, Ordering};

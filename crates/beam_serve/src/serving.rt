@@ -5,6 +5,7 @@ ghost use Rattle.beam_journal.specs.Entering.{most_entries};
 ghost use Rattle.beam_tools.specs.Job.{IsOfPort};
 
 use crate::acceptor::{Acceptor, Ended};
+use crate::closed_node::{ClosedNode, NotEnded};
 use crate::connection_thread::{ConnectionThread, ServeOptions};
 use crate::endpoint::Endpoint;
 use crate::loading::load_and_start;
@@ -16,7 +17,7 @@ use crate::seat_desk::SeatDesk;
 use crate::serve_gate::ServeGate;
 use beam_journal::journal::MOST_ENTRIES;
 use beam_queue as queue;
-use beam_queue::{NotClosed, NotMade, QueueBrand, close};
+use beam_queue::{NotMade, QueueBrand};
 use beam_receipts::brand::NodeBrand;
 use beam_receipts::keeper::UnbrandedKeeper;
 use beam_sched::clock::SteadyClock;
@@ -267,23 +268,26 @@ fn run<
     }
 }
 
-/// Closes the queues of a node, and the node. False where the run queues or the seats aren't all of the node's.
-fn is_closed<B: NodeBrand + QueueBrand, R: Log>(
+/// The end of a node that served, or else why it isn't closed.
+fn closed<'l, B: NodeBrand + QueueBrand, R: Log>(
     rt: &R,
     alloc: Global,
     node: Node<B>,
     parts: SeatsAndQueues<B>,
-) -> bool {
+    line: &Serve<'l>,
+) -> Result<ClosedNode<B>, JobFault<'l>>
+    ensures fault { IfErr result (IsOfPort line.now.port) }
+{
     let (seats, run_queues) = parts.into_parts();
-    let are_back = match close(alloc, run_queues) {
-        Ok(left) => {
-            debug!(rt; "{} left in the queues", left.len());
-            true
+    match ClosedNode::close(alloc, node, seats, run_queues) {
+        Ok(closed) => {
+            debug!(rt; "{} left in the queues", closed.left());
+            Ok(closed)
         }
-        Err(NotClosed::NoMemory) => true,
-        Err(NotClosed::Lent) => false,
-    };
-    node.close(seats).is_ok() && are_back
+        Err(NotEnded::NoMemory) => Err(JobFault::NoMemory),
+        Err(NotEnded::Mismatch) => Err(JobFault::Mismatch),
+        Err(NotEnded::ProcessesOut) => Err(JobFault::ProcessesOut),
+    }
 }
 
 /// How many queues a node has: one for each scheduler, and one for each thread that serves connections.
@@ -292,7 +296,8 @@ fn queues_of(line: &Serve) -> usize {
 }
 
 /// Serves the connections to a listener with a new node, and closes the node. `Mismatch` where the thread contexts aren't all of the
-/// node's, `ProcessesOut` where a worker didn't commit a process that it had checked out.
+/// node's, `ProcessesOut` where a worker didn't commit a process that it had checked out, `NoMemory` where memory is refused for the pids
+/// that are left in the queues. The closed node, which is given back if all went well, shows that it was closed.
 fn serve_node<
     'l,
     F: Files,
@@ -308,9 +313,10 @@ fn serve_node<
     endpoint: Endpoint<'_>,
     files: &mut F,
     line: &Serve<'l>,
-) -> Result<(), JobFault<'l>>
+) -> Result<ClosedNode<B>, JobFault<'l>>
     requires node { unbranded ≡ B.table }
     requires queues { queues ≡ B.deques }
+    requires limit { B.limit ≡ min line.now.journal_limit most_entries }
     ensures fault { IfErr result (IsOfPort line.now.port) }
 {
     let mut node = Node::<B>::with_limit(alloc, unbranded, limit_of(line));
@@ -323,14 +329,10 @@ fn serve_node<
     let ended = run(
         rt, console, alloc, &shared, &acceptor, files, line, contexts, &mut parts,
     );
-    let node = shared.into_node();
-    let are_all_in = node.checked_out_count() == 0;
-    let is_closed = is_closed(rt, alloc, node, parts);
+    let closed = closed(rt, alloc, shared.into_node(), parts, line);
     match ended {
+        Ok(()) => closed,
         Err(fault) => Err(fault),
-        Ok(()) if !is_closed => Err(JobFault::Mismatch),
-        Ok(()) if !are_all_in => Err(JobFault::ProcessesOut),
-        Ok(()) => Ok(()),
     }
 }
 
@@ -393,7 +395,7 @@ pub fn serve<
         reserve: &reserve,
     };
     let log = logged(rt, console, lines, line.log);
-    serve_node::<FileSystem<'_, R>, Brand, _, _>(
+    match serve_node::<FileSystem<'_, R>, Brand, _, _>(
         &log,
         console,
         rt.alloc(),
@@ -402,5 +404,8 @@ pub fn serve<
         endpoint,
         &mut FileSystem(rt),
         line,
-    )
+    ) {
+        Ok(_closed) => Ok(()),
+        Err(fault) => Err(fault),
+    }
 }

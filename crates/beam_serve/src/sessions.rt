@@ -1,5 +1,6 @@
 //! Sessions over the desk of a seat, one after another.
 ghost use Rattle.std.specs.Prelude.{◌≡◌, ℕ, List, IfErr, IfOk, OnOk};
+ghost use Rattle.beam_remote.specs.Found.{failures_after};
 ghost use Rattle.beam_remote.specs.Serving.{AllAnswered, IsServed, IsStopped};
 ghost use Rattle.beam_remote.specs.DeviceHistory.{EachRead, appended};
 ghost use Rattle.beam_serve.specs.Answers.{SeatAnswers};
@@ -8,13 +9,14 @@ ghost use Rattle.beam_serve.specs.SessionReplies.{IsPartlyWrittenAndKept, IsWrit
 use crate::seat_desk::SeatDesk;
 use beam_queue::QueueBrand;
 use beam_receipts::brand::NodeBrand;
-use beam_remote::{Port, ServeError, Served, serve};
+use beam_remote::{Port, ServeError, Served, SessionFailure, serve};
 use log::Log;
 use std::alloc::Global;
 use std::sync::Wait;
 
 /// A session over the desk of a seat, as `beam_remote::serve` runs it. The replies that are written to accepted commands are exactly those
-/// that the seat keeps of them, each once and in their order; all other replies are refusals, and nothing was entered for these.
+/// that the seat keeps of them, and the refusals that are written are those that the seat notes, each once and in their order; all other
+/// replies are to loads whose files can't be loaded. Closing the node ties what its seats keep and note to one journal.
 pub fn session<P: Port, B: NodeBrand + QueueBrand, R: Wait + Log + AllocGlobal>(
     alloc: Global,
     port: &mut P,
@@ -24,9 +26,12 @@ pub fn session<P: Port, B: NodeBrand + QueueBrand, R: Wait + Log + AllocGlobal>(
         × (P.output port.new ≡ appended (P.output port.old) written) × IsServed SeatAnswers desk.old read written served desk.new
         × IsWrittenAndKept desk.old written desk.new) }
     ensures end { OnOk result (P.at_end port.new) }
+    ensures quiet { OnOk result (P.failed port.new ≡ P.failed port.old) }
     ensures stopped { IfErr result (λ e. (read written : List ℕ) × (P.input port.new ≡ appended (P.input port.old) read)
         × (P.output port.new ≡ appended (P.output port.old) written) × IsStopped SeatAnswers desk.old read written e desk.new
         × IsPartlyWrittenAndKept desk.old written desk.new) }
+    ensures cut { IfErr result (λ e. e.why ≡ SessionFailure.CutFrame → P.at_end port.new) }
+    ensures failures { IfErr result (λ e. P.failed port.new ≡ failures_after e.why (P.failed port.old)) }
     ensures prompt { EachRead (AllAnswered SeatAnswers desk.old (P.input port.old) (P.output port.old)) (P.moments port.old) (P.moments port.new) }
 {
     serve(alloc, port, desk)

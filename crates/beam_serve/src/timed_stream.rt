@@ -1,4 +1,5 @@
 //! Streams with a time limit.
+ghost use Rattle.std.specs.Prelude.{◌≡◌};
 
 use crate::frame_tracker::FrameTracker;
 use std::io;
@@ -10,7 +11,7 @@ use std::time::{Clock, Duration};
 const SHORTEST: u64 = 1;
 
 /// A stream of frames, one way of a connection. With a limit a call fails with `TimedOut` if no byte comes or goes for that long, or if a
-/// frame isn't whole that long after its first byte.
+/// frame isn't whole that long after its first byte. Bytes come and go as they are.
 #[derive(Drop)]
 pub struct TimedStream<'a, S: OpenStream + Drop, R> {
     rt: &'a R,
@@ -53,7 +54,9 @@ impl<'a, S: OpenStream + Drop, R: Clock> TimedStream<'a, S, R> {
     }
 
     /// Takes in bytes that came or went.
-    fn pass(&mut self, bytes: &[u8]) {
+    fn pass(&mut self, bytes: &[u8])
+        ensures { self.new.stream ≡ self.old.stream }
+    {
         if self.limit.is_some() {
             let now = self.now();
             self.frames.pass(bytes, now);
@@ -70,6 +73,8 @@ fn as_time_out(error: Error) -> Error {
 }
 
 impl<S: Read + OpenStream + Drop, R: Clock> Read for TimedStream<'_, S, R> {
+    ghost remaining = { λ t. S.remaining t.stream };
+
     fn read(&mut self, buffer: &mut [u8]) -> io::Result<usize> {
         if let Some(limit) = self.limit {
             let left = self.left(limit)?;
@@ -82,6 +87,8 @@ impl<S: Read + OpenStream + Drop, R: Clock> Read for TimedStream<'_, S, R> {
 }
 
 impl<S: Write + OpenStream + Drop, R: Clock> Write for TimedStream<'_, S, R> {
+    ghost contents = { λ t. S.contents t.stream };
+
     fn write(&mut self, bytes: &[u8]) -> io::Result<usize> {
         if let Some(limit) = self.limit {
             let left = self.left(limit)?;
