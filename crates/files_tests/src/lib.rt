@@ -5,6 +5,8 @@
 #[cfg(test)]
 mod assembly;
 #[cfg(test)]
+mod blocks;
+#[cfg(test)]
 mod cuts;
 #[cfg(test)]
 mod example;

@@ -1,5 +1,6 @@
 //! Sessions side by side, and sessions after one that failed, over devices in memory that come from one queue of clients.
 ghost use Rattle.std.specs.Prelude.{◌≡◌, Some, take, length};
+ghost use Rattle.beam_journal.specs.Entering.{most_entries};
 
 use crate::devices::ended;
 use crate::stage::{closed, staged};
@@ -364,6 +365,7 @@ fn found<
     clients: Vec<Client>,
 ) -> Result<String, Fail>
     requires node { unbranded ≡ B.table }
+    requires limit { B.limit ≡ most_entries }
     requires queues { queues ≡ B.deques }
 {
     let client_queue = ClientQueue {

@@ -87,7 +87,8 @@ fn refusals<B: NodeBrand>(
     unbranded: UnbrandedKeeper,
     commands: &mut Commands,
 ) -> Result<(u8, u8, u8), Fail>
-    requires { unbranded ≡ B.table }
+    requires node { unbranded ≡ B.table }
+    requires limit { B.limit ≡ 3 }
 {
     let mut node = Node::<B>::with_limit(alloc, unbranded, 3);
     let mut seat = node.seat()?;

@@ -25,7 +25,7 @@ pub enum Step {
     Connect,
     /// Sends these frames.
     Send(usize, &'static str),
-    /// The next bytes are those of these frames.
+    /// The next bytes are these frames.
     Receive(usize, &'static str),
     /// The command is sent again and again until its reply is this.
     Poll(usize, &'static str, &'static str),
@@ -50,7 +50,7 @@ pub struct NodeClient<'a, R> {
     came: Vec<u8>,
 }
 
-/// The next bytes of a connection: so many, or those up to its end, or up to the end of the time.
+/// The next `count` bytes of a connection, or the bytes up to its end, or up to the end of the time.
 fn next_bytes(alloc: Global, stream: &TcpStream, count: usize) -> Vec<u8> {
     let mut bytes = Vec::new(alloc);
     let mut part = stream.take(count as u64);

@@ -1,5 +1,6 @@
 //! A scenario that is played with a node, up to the node's journal.
-ghost use Rattle.std.specs.Prelude.{◌≡◌};
+ghost use Rattle.std.specs.Prelude.{◌≡◌, min};
+ghost use Rattle.beam_journal.specs.Entering.{most_entries};
 
 use crate::barrier_gate::{BarrierGate, GateReport, SliceClock};
 use crate::played::{ClosedNode, Played, text_of};
@@ -95,6 +96,7 @@ fn play<B: NodeBrand + QueueBrand + Send + Sync, R: Threads + Wait + Clock + Syn
     scenario: Scenario,
 ) -> Result<ClosedNode, Fail>
     requires node { unbranded ≡ B.table }
+    requires limit { B.limit ≡ min scenario.limit most_entries }
     requires queues { queues ≡ B.deques }
 {
     let ends = scenario.ends();

@@ -34,6 +34,7 @@ pub fn staged<B: NodeBrand + QueueBrand>(
     requires node { unbranded ≡ B.table }
     requires queues { queues ≡ B.deques }
     requires limit { limit ≤ most_entries }
+    requires brand { B.limit ≡ limit }
 {
     let mut node = Node::<B>::with_limit(alloc, unbranded, limit);
     let (workers, mut others) = contexts(alloc, &mut node, queues, workers as usize)?;

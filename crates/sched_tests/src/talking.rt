@@ -1,5 +1,6 @@
 //! Sessions with a node that threads share, up to its journal.
 ghost use Rattle.std.specs.Prelude.{◌≡◌};
+ghost use Rattle.beam_journal.specs.Entering.{most_entries};
 
 use crate::played::text_of;
 use crate::sessions::{Session, SessionRow, digits_of, rows};
@@ -228,6 +229,7 @@ fn found<
     row: SessionRow,
 ) -> Result<String, Fail>
     requires node { unbranded ≡ B.table }
+    requires limit { B.limit ≡ most_entries }
     requires queues { queues ≡ B.deques }
 {
     let (node, workers, context, _) = staged::<B>(alloc, unbranded, queues, MOST_ENTRIES, workers)?;

@@ -1,5 +1,6 @@
 //! Moments at which waits begin and end.
 ghost use Rattle.std.specs.Prelude.{◌≡◌};
+ghost use Rattle.beam_journal.specs.Entering.{most_entries};
 
 use crate::commands::Argument::Integer;
 use crate::commands::Commands;
@@ -248,6 +249,7 @@ fn wait_once<B: NodeBrand + QueueBrand + Send + Sync, R: Threads + Wait + time::
     begins: u64,
 ) -> Result<WaitResult, Fail>
     requires node { unbranded ≡ B.table }
+    requires limit { B.limit ≡ most_entries }
     requires queues { queues ≡ B.deques }
 {
     let clock = ManualClock {
