@@ -130,7 +130,7 @@ get_in p rest at lt = get_or_append_left p rest 0 at lt
 get_behind : (p rest : List ℕ) (n at : ℕ) → length p ≡ n → n ≤ at → get_or (p ++ rest) at 0 ≡ get_or rest (at - n) 0
 get_behind p rest n at wide le = get_or-append_right p rest n at 0 wide le
 
--- a field of four bytes at the front, and what follows; the byte lies in the field, or behind it
+-- a field of four bytes at the front, and what follows; the byte lies in the field, or after it
 data Where (p rest more : List ℕ) (at byte : ℕ) : Type 0 where
   inside : at < 4 → byte ≢ get_or p at 0 → set (p ++ rest) at byte ++ more ≡ set p at byte ++ (rest ++ more) → Where p rest more at byte
   behind : 4 ≤ at → byte ≢ get_or rest (at - 4) 0 → set (p ++ rest) at byte ++ more ≡ p ++ (set rest (at - 4) byte ++ more) → Where p rest more at byte

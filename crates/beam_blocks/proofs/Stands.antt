@@ -41,7 +41,7 @@ header_stands bytes fit long =
 
 -- ---- a block
 
--- the four numbers are those of the content's header, and the bytes begin with the content
+-- the four numbers stand in the header of the content, and the bytes begin with the content
 record IsHeaderOf (a b c d : ℕ) (bytes content rest : List ℕ) : Type 0 where
   count : a ≡ length content
   adds : a + b ≡ 2 ^ 32 - 1
