@@ -3,8 +3,8 @@ use Rattle.std.proofs.Common.{◌≡◌, ◌↔◌, ℕ, suc, ◌||◌, Bool, tr
 use Rattle.beam_model.specs.Prelude.{Listing}
 use Rattle.beam_machine.specs.declared.debug.DebugEvent.{DebugEvent}
 use Rattle.beam_machine.specs.declared.debug.DebugReply.{DebugReply}
-use Rattle.beam_machine.specs.Prelude.{empty, View, Debugged, DebugAnswer, debug_next, debug_run, undisturbed, debug_cut_event, is_quiet_debug_event, Entry, IsLawful, replay}
-use Rattle.beam_journal.specs.Entering.{SentEvent, Accepts, Accepted, entry_of, sent_event_of, reply_in, answered_from, entries_of, takes_memory}
+use Rattle.beam_machine.specs.Prelude.{empty, View, Debugged, DebugAnswer, debug_next, debug_run, undisturbed, debug_cut_event, is_quiet_debug_event, Entry, SentEvent, IsLawful, replay, sent_event_of}
+use Rattle.beam_journal.specs.Entering.{Accepts, Accepted, entry_of, reply_in, answered_from, entries_of, takes_memory}
 
 abbrev pub events_of : List Entry → List (DebugEvent Listing)
 events_of entries = map (λ e. e.event) entries

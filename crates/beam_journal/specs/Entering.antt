@@ -3,7 +3,7 @@ use Rattle.std.specs.Prelude.{◌≡◌, ℕ, List, [], ◌∷◌, Bool, true, f
 use Rattle.beam_machine.specs.declared.debug.DebugEvent.{DebugEvent}
 use Rattle.beam_machine.specs.declared.debug.DebugReply.{DebugReply}
 use Rattle.beam_machine.specs.declared.event.Reply.TheVariants.{Done}
-use Rattle.beam_machine.specs.Prelude.{Debugged, DebugAnswer, debug_next, undisturbed, debug_cut_event, is_quiet_debug_event, Entry, empty, View}
+use Rattle.beam_machine.specs.Prelude.{Debugged, DebugAnswer, debug_next, undisturbed, debug_cut_event, is_quiet_debug_event, Entry, SentEvent, empty, View}
 use Rattle.beam_machine.specs.declared.debug.DebugReply.TheVariants.{Node}
 use Rattle.beam_model.specs.Prelude.{Listing}
 
@@ -34,14 +34,7 @@ abbrev pub takes_memory : Debugged → List (DebugEvent Listing) → Bool
 takes_memory d [] = false
 takes_memory d (event ∷ rest) = not (is_quiet_debug_event d event) || takes_memory (debug_next d event).state rest
 
--- ---- the part of an entry that is stored: all but the reply, which the events determine
-
-pub record SentEvent : Type 0 where
-  pub event : DebugEvent Listing
-  pub seat : Option ℕ
-
-abbrev pub sent_event_of : Entry → SentEvent
-sent_event_of e = record { event = e.event; seat = e.seat }
+-- ---- the entries of which all but the replies is stored
 
 -- the reply in an answer; for a refusal, which has none, a reply that is never used
 abbrev pub reply_in : DebugAnswer → DebugReply View

@@ -28,7 +28,7 @@ const _: () = prove!(size_of::<Entry>() == 64);
 impl Model for Entry {
     ghost use Rattle.std.specs.Coded.{codes};
     ghost use Rattle.beam_term.specs.Coding.{term_code};
-    ghost use Rattle.beam_journal.specs.Entering.{SentEvent};
+    ghost use Rattle.beam_machine.specs.Journal.{SentEvent};
 
     ghost Value = { SentEvent };
 

@@ -2,10 +2,10 @@
 ghost use Rattle.std.specs.Prelude.{◌≡◌, ◌+◌, ◌<◌, ◌≤◌, ◌↔◌, [], ◌∷◌, ◌++◌, length, map, true, Ok, IsOk, IsTrue, OnOk, OnErr, IfOk, IfErr, IsErrOf};
 ghost use Rattle.beam_machine.specs.Debug.{undisturbed};
 ghost use Rattle.beam_machine.specs.DebugRun.{debug_after};
-ghost use Rattle.beam_machine.specs.Journal.{IsLawful, replay};
+ghost use Rattle.beam_machine.specs.Journal.{IsLawful, replay, sent_event_of};
 ghost use Rattle.beam_machine.specs.State.{empty};
 ghost use Rattle.beam_debug.specs.Answers.{reply_of};
-ghost use Rattle.beam_journal.specs.Entering.{Accepts, entry_of, most_entries, sent_event_of, takes_memory};
+ghost use Rattle.beam_journal.specs.Entering.{Accepts, entry_of, most_entries, takes_memory};
 
 use crate::cut::cut_event;
 use crate::entry::Entry;

@@ -13,6 +13,14 @@ pub record Entry : Type 0 where
   pub seat : Option ℕ
   pub reply : DebugReply View
 
+-- an entry without its reply, which the events before it determine
+pub record SentEvent : Type 0 where
+  pub event : DebugEvent Listing
+  pub seat : Option ℕ
+
+abbrev pub sent_event_of : Entry → SentEvent
+sent_event_of e = record { event = e.event; seat = e.seat }
+
 -- run from the empty node on, the events give these replies, and none is refused
 abbrev pub IsLawful : List Entry → Type 0
 IsLawful entries = (debug_run (undisturbed empty) (map (λ e. e.event) entries)).answers ≡ map (λ e. Ok e.reply) entries

@@ -10,7 +10,7 @@ pub use Rattle.beam_machine.specs.Debug.{DebugAnswer, DebugNext, DebugRun, Debug
 pub use Rattle.beam_machine.specs.DebugRun.{DebugAnswers, DebugLacksMemory, debug_after, debug_cut_event, effective_debug_answer, effective_debug_answers, effective_debug_event, effective_debug_events, is_quiet_debug_event}
 pub use Rattle.beam_machine.specs.Frames.{AreFiles, Command, FirstFrame, IsNumber, SpellsCommand, Stream, after_number, at_fault, atomic_load, atomic_load_in, bad_frame, between_frames, clear_break, command_in, command_of, command_or_fault, delete, deliver, empty_stream, event_of, fault_frame, fields_in, fields_of, file_before, frame_content, frame_of, inside_frame, inspect, load, load_strict, longest_frame, mode_number, mode_of, names_process, no_files, no_frame, number_of_fault, numbers_bytes, of_kind, one_file, one_frame, only_term, purge, reply_body, response_of, resume, send, send_of, set_break, soft_purge, spawn, spawn_of, spawned, spot_at, spot_of, spot_term, step_one, steps_in, stream_by, stream_end, stream_of, term_read, timeout, version_of, version_text, versions, with_command}
 unfoldable pub use Rattle.beam_machine.specs.Frames.{after_length, atom_in_body, files_in, frame_in, kind_of, number_in_body, stream_within, term_in}
-pub use Rattle.beam_machine.specs.Journal.{Entry, IsLawful, replay}
+pub use Rattle.beam_machine.specs.Journal.{Entry, IsLawful, SentEvent, replay, sent_event_of}
 pub use Rattle.beam_machine.specs.Next.{Answer, Next, Rows, are_apart, arrived, continues, deadline_at, delivered, done_by, down_term, end_old, end_olds, goes_on_with, has_instances_left, is_lingered_in, is_nothing, load_each, load_new, made_process, next, next_atomic, next_delete, next_deliver, next_load, next_load_strict, next_purge, next_send, next_soft_purge, next_spawn, next_steps, next_timeout, notified, numbers_of, one_more, purge_old, put_process, raised, ran, ran_to, received, refused, replied, row, row_and, running, sent_to, signalled, stands_in_way, timed_out, upgraded}
 pub use Rattle.beam_machine.specs.NodeNative.{Answered, answer, answer_of, fault, is_alive, is_free, makes_reference, monitored, monitors_by, most_processes, most_references, names, or_noproc, pid_or_undefined, posted_if_own, put_monitor, registers, sends_named, spawns, spawns_with, unnames, unregisters, with_new_monitor}
 pub use Rattle.beam_machine.specs.Private.{End, Private, Sent, after_row, at_limit, at_spot, before_node_row, private_by, private_rows, private_to_spot, stops, with_first_row, with_first_sending}

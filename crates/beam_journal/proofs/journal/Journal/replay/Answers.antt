@@ -1,6 +1,6 @@
 use Rattle.std.proofs.Common.{rules, ◌≡◌, true, List, sym, ap, ◌∙◌, map}
-use Rattle.beam_machine.specs.Prelude.{undisturbed, Entry, empty}
-use Rattle.beam_journal.specs.Entering.{SentEvent, entries_of, takes_memory}
+use Rattle.beam_machine.specs.Prelude.{undisturbed, Entry, SentEvent, empty}
+use Rattle.beam_journal.specs.Entering.{entries_of, takes_memory}
 use Rattle.beam_journal.proofs.Replayed.{TakesMemory, events_of, loud_among}
 use Rattle.beam_journal.proofs.journal.Journal.replay.Goals as goal
 
