@@ -138,6 +138,13 @@ impl CodeBytes {
         Ok((bytes, chunk))
     }
 
+    /// The bytes of the chunk. In O(1), without memory.
+    pub fn chunk(&self) -> &[u8]
+        ensures { result.now ≡ self.now.code }
+    {
+        &self.code
+    }
+
     /// The table of atoms, by index from 0. In O(1).
     #[inline(always)]
     pub fn atoms(&self) -> &[Atom]

@@ -20,7 +20,7 @@ ok_is x y e = cc
 
 -- ---- parts
 
-parts_told : (form : Form) (p : Parts) → parts_of_form form ≡ Ok p → AreTables form p.tables × (form.code ≡ Some p.code)
+pub parts_told : (form : Form) (p : Parts) → parts_of_form form ≡ Ok p → AreTables form p.tables × (form.code ≡ Some p.code)
 unfolding parts_of_form
 parts_told form p e =
     let t = bind_ok (in_layer table_fault (tables_at form)) (λ (tables : Tables). in_layer table_fault (required_chunk form.code) >>= λ code. done (record { tables = tables; code = code })) p e in

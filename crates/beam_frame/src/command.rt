@@ -14,9 +14,9 @@ use beam_term::{Atom, AtomError, Term, TermView};
 use byteorder::{BigEndian, ByteOrder};
 use std::alloc::Global;
 
-/// The kind of a number.
+/// The kind of a number from 1 to 18; `None` for any other.
 #[tactic(auto, unfolding(beam_machine::specs::Frames::kind_of))]
-pub(crate) fn kind_of(number: u8) -> Option<CommandKind>
+pub fn kind_of(number: u8) -> Option<CommandKind>
     ensures { result ≡ kind_of number }
 {
     match number {
@@ -323,12 +323,9 @@ fn atomic_load(alloc: Global, body: &[u8]) -> Result<Command, FrameError>
     }))
 }
 
-/// The command of a kind that the whole body spells.
-pub(crate) fn read_command(
-    alloc: Global,
-    kind: CommandKind,
-    body: &[u8],
-) -> Result<Command, FrameError>
+/// The command of a kind that the whole body spells, in time that is linear in the body's bytes. `BadCommand` where it spells none,
+/// `NoMemory` where memory is refused. A file is copied; nothing limits the body's length.
+pub fn read_command(alloc: Global, kind: CommandKind, body: &[u8]) -> Result<Command, FrameError>
     ensures { Gives (λ c. c) result (command_in kind body.now) }
 {
     match kind {

@@ -7,6 +7,7 @@ pub mod laws;
 mod reading;
 mod writing;
 
+pub use command::{kind_of, read_command};
 pub use error::FrameError;
 pub use reading::FrameReader;
 pub use writing::{encode_fault, encode_reply};

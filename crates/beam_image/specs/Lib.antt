@@ -2,6 +2,7 @@ pub mod EntryRows
 pub mod ListOperands
 pub mod Linked
 pub mod ModuleFile
+pub mod FileForm
 pub mod InstructionRecord
 pub mod Reading
 pub mod Shapes

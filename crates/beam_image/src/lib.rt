@@ -5,6 +5,7 @@ mod action;
 mod action_records;
 mod atoms;
 pub mod callee;
+mod chunk_copies;
 mod code;
 mod entry_points;
 mod image;

@@ -77,8 +77,11 @@ fn with_images(alloc: Global, event: Event<Bytes>) -> Result<Event<Image>, Respo
     })
 }
 
-/// The event of a command, or the answer where the files of a load can't be prepared.
-fn event_of(alloc: Global, command: Command) -> Result<DebugEvent<Image>, Response>
+/// The event that a command is: its files are prepared, in their order, and all else of it stays as it is.
+///
+/// Refusals are the answers that the command would have: `BadFile` with the layer and the number of the fault of the first file that no image
+/// can be made of, and `Refused(NoMemory)` where memory is refused. A command without a file has neither: it is always an event.
+pub fn event_of(alloc: Global, command: Command) -> Result<DebugEvent<Image>, Response>
     ensures ok { IfOk result (λ event. IsEvent command event) }
     ensures err { IfErr result (λ r. IsUnloaded command r) }
 {

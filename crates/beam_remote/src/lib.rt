@@ -14,6 +14,7 @@ mod source;
 mod tell;
 mod write;
 
+pub use answer::event_of;
 pub use desk::Desk;
 pub use error::{LoadError, ServeError, Served, SessionFailure};
 pub use load::load_path;

@@ -33,6 +33,7 @@ use Rattle.beam_debug.specs.contracts.debugger.Debugger as Debugger
 use Rattle.beam_debug.specs.contracts.debugger.Debugger.TheInside as Debugger_inside
 use Rattle.beam_image.proofs.entry_points.EntryPoints.TheSendSync as EntryPoints_crossing
 use Rattle.beam_shapes.proofs.label_rows.LabelRows.TheSendSync as LabelRows_crossing
+use Rattle.beam_image.proofs.chunk_copies.ChunkCopies.TheSendSync as ChunkCopies_crossing
 use Rattle.beam_image.proofs.record_table.RecordTable.TheSendSync as RecordTable_crossing
 use Rattle.beam_image.specs.contracts.code.LinkedCode as LinkedCode
 use Rattle.beam_image.specs.contracts.code.LinkedCode.TheInside as LinkedCode_inside
@@ -223,7 +224,7 @@ pub LinkedCode_send : IsSend LinkedCode.the_row
 LinkedCode_send = view_send _ _ _ _ _ (declared_send LinkedCode_inside.the_type (CodeBytes_send, ((Vec-send _ Callee_crossing.the_send), (OperandLists_send, (LabelRows_crossing.the_send, ((Vec-send _ (Option.the_send _ Native_crossing.the_send)), tt))))))
 
 pub ImageInner_send : IsSend ImageInner.the_row
-ImageInner_send = let b = declared_send ImageInner_inside.the_type (Atom_crossing.the_send, ((Vec-send _ Export_crossing.the_send), (u32_send, (u32_send, (LinkedCode_send, (RecordTable_crossing.the_send, (EntryPoints_crossing.the_send, tt))))))) in search (view_send) depth 9
+ImageInner_send = let b = declared_send ImageInner_inside.the_type (Atom_crossing.the_send, ((Vec-send _ Export_crossing.the_send), (u32_send, (u32_send, (ChunkCopies_crossing.the_send, (LinkedCode_send, (RecordTable_crossing.the_send, (EntryPoints_crossing.the_send, tt)))))))) in search (view_send) depth 9
 
 pub ConstantKept_sync : (l : NamedLft) → IsSync (ConstantKept.the_row l)
 ConstantKept_sync l = let s = Term_send in let y = Term_sync in variants_sync (ConstantKept.enum l) ((Term_sync, tt), (((search (sendable, crosses) depth 9), tt), tt))
@@ -265,7 +266,7 @@ pub LinkedCode_sync : IsSync LinkedCode.the_row
 LinkedCode_sync = view_sync _ _ _ _ _ (declared_sync LinkedCode_inside.the_type (CodeBytes_sync, ((Vec-sync _ Callee_crossing.the_sync), (OperandLists_sync, (LabelRows_crossing.the_sync, ((Vec-sync _ (Option.the_sync _ Native_crossing.the_sync)), tt))))))
 
 pub ImageInner_sync : IsSync ImageInner.the_row
-ImageInner_sync = let b = declared_sync ImageInner_inside.the_type (Atom_crossing.the_sync, ((Vec-sync _ Export_crossing.the_sync), (u32_sync, (u32_sync, (LinkedCode_sync, (RecordTable_crossing.the_sync, (EntryPoints_crossing.the_sync, tt))))))) in search (view_sync) depth 9
+ImageInner_sync = let b = declared_sync ImageInner_inside.the_type (Atom_crossing.the_sync, ((Vec-sync _ Export_crossing.the_sync), (u32_sync, (u32_sync, (ChunkCopies_crossing.the_sync, (LinkedCode_sync, (RecordTable_crossing.the_sync, (EntryPoints_crossing.the_sync, tt)))))))) in search (view_sync) depth 9
 
 pub Image_send : IsSend Image.the_row
 Image_send = view_send _ _ _ _ _ (declared_send Image_inside.the_type ((Arc-send _ ImageInner_send ImageInner_sync), tt))
