@@ -1,0 +1,4 @@
+pub mod BytesAdded
+pub mod KnownFiles
+pub mod KnownFronts
+pub mod KnownReads

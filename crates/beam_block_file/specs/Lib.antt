@@ -1,0 +1,4 @@
+pub mod Fronts
+pub mod ReadFaults
+pub mod Shelves
+pub mod StoredBlocks
