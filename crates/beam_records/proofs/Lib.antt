@@ -1,0 +1,11 @@
+pub mod Fronts
+pub mod Growing
+pub mod Heads
+pub mod Images
+pub mod NoRecord
+pub mod Numbers
+pub mod OneList
+pub mod OneRecord
+pub mod Records
+pub mod Spelled
+pub mod Written

@@ -1,0 +1,2 @@
+pub mod JournalFile
+pub mod Pieces
