@@ -1,0 +1,2 @@
+pub mod JournalRead
+pub mod WrittenJournal
