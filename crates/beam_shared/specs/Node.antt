@@ -103,3 +103,10 @@ accepted n event seat reply = record n {
   state = debug_after n.state event (Ok reply);
   journal = n.journal ++ entry_of event (Some seat) reply ∷ [];
 }
+
+-- the node after it accepted an event that no seat sent, with this reply
+abbrev pub accepted_without_seat : Node → DebugEvent Listing → DebugReply View → Node
+accepted_without_seat n event reply = record n {
+  state = debug_after n.state event (Ok reply);
+  journal = n.journal ++ entry_of event None reply ∷ [];
+}

@@ -52,7 +52,11 @@ fn may_change(event: &DebugEvent<Image>) -> bool
 }
 
 /// Counts a change of code or of break spots, and drops the copy of them that was shared.
-fn note_change(event: &DebugEvent<Image>, changes: &mut u64, context: &mut Option<CodeContext>)
+pub(crate) fn note_change(
+    event: &DebugEvent<Image>,
+    changes: &mut u64,
+    context: &mut Option<CodeContext>,
+)
     requires { changes.old < 2 ^ 64 - 1 }
     ensures changes { changes.new ≡ changes_after event.now changes.old }
     ensures context { context.new ≡ context_after event.now context.old }

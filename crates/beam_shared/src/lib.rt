@@ -12,4 +12,5 @@ pub mod drop_reason;
 mod entering;
 pub mod finished_slice;
 pub mod node;
+mod recovering;
 pub mod seat_mismatch;

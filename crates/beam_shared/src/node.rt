@@ -1,7 +1,7 @@
 //! A node that threads share.
 ghost use Rattle.std.specs.Prelude.{◌≡◌, ◌+◌, ◌<◌, ◌≤◌, ◌↔◌, ℕ, [], length, map, IsErrOf, OnErr, IfOk, IfErr};
-ghost use Rattle.beam_journal.specs.Entering.{most_entries, sent_event_of};
-ghost use Rattle.beam_machine.specs.Journal.{IsLawful, replay};
+ghost use Rattle.beam_journal.specs.Entering.{most_entries};
+ghost use Rattle.beam_machine.specs.Journal.{IsLawful, replay, sent_event_of};
 ghost use Rattle.beam_machine.specs.Ready.{ready_after, next_deadline};
 ghost use Rattle.beam_machine.specs.declared.event.Refused.TheVariants.{TooMany};
 ghost use Rattle.beam_shared.specs.Node.{most_seats, new_node};
