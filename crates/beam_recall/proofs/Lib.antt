@@ -1,0 +1,4 @@
+pub mod CutShort
+pub mod Giving
+pub mod Numbers
+pub mod Sent
