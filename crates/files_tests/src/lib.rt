@@ -5,6 +5,8 @@
 #[cfg(test)]
 mod assembly;
 #[cfg(test)]
+mod block_files;
+#[cfg(test)]
 mod blocks;
 #[cfg(test)]
 mod cuts;
