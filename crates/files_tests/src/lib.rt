@@ -19,6 +19,8 @@ mod lengths;
 #[cfg(test)]
 mod mailbox;
 #[cfg(test)]
+mod records;
+#[cfg(test)]
 mod shapes;
 #[cfg(test)]
 mod spellings;
