@@ -32,7 +32,7 @@ bad_on bytes is on = front_is bytes bad_block is ∙ rw on refl
 pub bad_off : (bytes : List ℕ) → block_in bytes ≡ bad_block → goes_on bytes ≡ false → front_in bytes ≡ Cut
 bad_off bytes is off = front_is bytes bad_block is ∙ rw off refl
 
--- the front is bad: there is a bad block, and the bytes go on behind it
+-- the front is bad: there is a bad block, and the bytes go on after it
 record IsBadFront (bytes : List ℕ) : Type 0 where
   bad : block_in bytes ≡ bad_block
   on : goes_on bytes ≡ true

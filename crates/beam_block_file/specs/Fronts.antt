@@ -12,7 +12,7 @@ bad_size bytes = if number_at 0 bytes + number_at 4 bytes == 2 ^ 32 - 1 then 16 
 abbrev pub goes_on : List ℕ → Bool
 goes_on bytes = nat_lt (bad_size bytes) (length bytes)
 
--- a bad block is the torn end of the file, unless the file goes on behind it
+-- a bad block is the torn end of the file, unless the file goes on after it
 abbrev pub front_by : List ℕ → FirstBlock → Front
 front_by bytes no_bytes = Nothing
 front_by bytes cut_block = Cut

@@ -35,7 +35,7 @@ all_bytes known = blocks_of known.contents ++ known.rest
 abbrev pub with_rest : List ℕ → KnownBlocks → KnownBlocks
 with_rest rest known = record known { rest = rest }
 
--- one block more, and nothing behind it
+-- one block more, and nothing after it
 abbrev pub with_block : List ℕ → KnownBlocks → KnownBlocks
 with_block content known = record { contents = known.contents ++ content ∷ []; rest = [] }
 

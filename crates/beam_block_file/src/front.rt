@@ -12,7 +12,7 @@ pub enum Front {
     Nothing,
     /// The torn end of a file.
     Cut,
-    /// No block, and the bytes go on behind it.
+    /// No block, and the bytes go on after it.
     Bad,
     /// A block, whose content has that many bytes.
     Block(usize),
@@ -26,7 +26,7 @@ fn number(bytes: &[u8], at: usize) -> u32
     u32::from_be_bytes([bytes[at], bytes[at + 1], bytes[at + 2], bytes[at + 3]])
 }
 
-/// Whether bytes that begin with a bad block go on behind it.
+/// Whether bytes that begin with a bad block go on after it.
 fn goes_on(bytes: &[u8]) -> bool
     requires { 16 ≤ length bytes.now }
     ensures { result ≡ goes_on bytes.now }

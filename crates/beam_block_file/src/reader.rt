@@ -21,7 +21,7 @@ pub enum ReadFault {
     /// or than a block counts, or a bad block that the file doesn't go on behind.
     #[error("CutFile")]
     CutFile { at: u64, bytes: u64 },
-    /// At byte `at` there is no block, and the file goes on behind it: behind as many bytes as it counts, if its count agrees with the
+    /// At byte `at` there is no block, and the file goes on after it: behind as many bytes as it counts, if its count agrees with the
     /// mirror, and else behind the next 4,096 bytes.
     #[error("BadFile")]
     BadFile { at: u64 },
@@ -146,7 +146,7 @@ fn find_front<S: Shelf>(
 }
 
 /// A reader of a file of blocks, from its front. Contracts see the blocks that were read, where the last of them ends, its content, and what
-/// stands behind it.
+/// stands after it.
 ///
 /// It takes memory for the bytes of one block and one read of at most 65,536 bytes, and only for bytes that the file has, whatever it counts.
 /// In all it takes time proportional to the bytes of the file.

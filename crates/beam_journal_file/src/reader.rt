@@ -11,7 +11,7 @@ use beam_records::{RecordError, SentEvent, head_in, page_in, record_in};
 use std::alloc::Global;
 use std::marker::Model;
 
-/// The torn end of a file: what stands behind its last whole block.
+/// The torn end of a file: what stands after its last whole block.
 #[derive(Clone, Copy, Debug, PartialEq, Eq)]
 pub struct TornEnd {
     /// The byte at which it begins.

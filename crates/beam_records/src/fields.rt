@@ -25,7 +25,7 @@ pub(crate) fn four_in(bytes: &[u8]) -> Option<(u32, &[u8])>
     Some((number, rest))
 }
 
-/// So many bytes, and the bytes after them.
+/// The first `count` bytes, and the bytes after them.
 pub(crate) fn bytes_in(bytes: &[u8], count: usize) -> Option<(&[u8], &[u8])>
     ensures { MatchOption result (length bytes.now < count) (λ p. (bytes.now ≡ p.0.now ++ p.1.now) × (length p.0.now ≡ count)) }
 {

@@ -65,7 +65,7 @@ fn framed_event(alloc: Global, kind: u8, body: &[u8]) -> Result<DebugEvent<Image
     prepared(alloc, command)
 }
 
-/// So many rows of a process, from numbers of two bytes.
+/// The event `Steps`, from numbers of two bytes.
 #[tactic(auto, using(crate::proofs::Spelled::steps_read, crate::proofs::Spelled::width_of_steps))]
 fn short_steps(body: &[u8]) -> DebugEvent<Image>
     requires { HasWidth 32 body.now }

@@ -57,7 +57,7 @@ fn narrow(number: u32) -> u16
     number as u16
 }
 
-/// Appends the record of so many rows of a process, in the shortest form.
+/// Appends the record of `rows` rows of a process, in the shortest form.
 pub(crate) fn put_steps(
     out: &mut Vec<u8>,
     pid: u32,

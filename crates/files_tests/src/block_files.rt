@@ -61,7 +61,7 @@ fn first_blocks(size: usize) -> (usize, Option<ReadFault>) {
     (count, Some(fault))
 }
 
-/// Whether the file of the first bytes, cut behind its last whole block and filled again with the blocks that it lacks, is the file.
+/// Whether the file of the first bytes, cut after its last whole block and filled again with the blocks that it lacks, is the file.
 fn is_filled_again(alloc: Global, size: usize, most: usize) -> Result<bool, Fail> {
     let mut reader = BlockReader::new(alloc, device(alloc, size, most)?);
     let (count, _fault) = read_blocks(&mut reader);
@@ -108,7 +108,7 @@ fn read_changed(alloc: Global, at: usize, more: usize) -> Result<(usize, Option<
     Ok(read_blocks(&mut reader))
 }
 
-/// A place of the file where a byte is changed, how many zeros stand behind it, how many blocks are read, and the fault.
+/// A place of the file where a byte is changed, how many zeros stand after it, how many blocks are read, and the fault.
 struct ChangedRow {
     at: usize,
     more: usize,

@@ -42,7 +42,7 @@ fn told(event: &DebugEvent<Image>) -> Told {
     }
 }
 
-/// What the record at the front of bytes says, and the record that is written of it; two more bytes stand behind it.
+/// What the record at the front of bytes says, and the record that is written of it; two more bytes stand after it.
 fn written_again(alloc: Global, bytes: &[u8]) -> Result<(Told, Option<u32>, Vec<u8>), Fail> {
     let mut more = bytes.to_vec(alloc)?;
     more.extend_from_slice(&[0, 255])?;
