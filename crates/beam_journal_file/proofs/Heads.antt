@@ -1,7 +1,7 @@
 -- A device whose file has one block.
-use Rattle.std.proofs.Common.{◌≡◌, ℕ, List, [], ◌∷◌, Option, Some, None, option_map, refl, sym, ap, ◌∙◌, append-nil}
+use Rattle.std.proofs.Common.{◌≡◌, ℕ, List, [], ◌∷◌, Option, Some, None, option_map, refl, ap, ◌∙◌, append-nil}
 use Rattle.beam_blocks.specs.Blocks.{block}
-use Rattle.beam_block_file.specs.StoredBlocks.{KnownBlocks, all_bytes, with_next}
+use Rattle.beam_block_file.specs.StoredBlocks.{all_bytes, with_next}
 
 pub one_block : (told : Option (List ℕ)) (content head : List ℕ) → content ≡ head
     → option_map all_bytes (option_map (λ bytes. record { contents = content ∷ []; rest = [] }) told) ≡ option_map (λ bytes. block head) told

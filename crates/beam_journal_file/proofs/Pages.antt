@@ -3,7 +3,7 @@ use Rattle.std.proofs.Common.{◌≡◌, ℕ, ◌+◌, ◌-◌, ◌<◌, List, [
 use Rattle.std.proofs.lemmas.List.{length-append, length-drop, take-append-drop}
 use Rattle.std.proofs.Math.Seq.{drop-append_seam, take-length}
 use Rattle.beam_blocks.specs.Blocks.{IsShort, block, blocks_of}
-use Rattle.beam_block_file.specs.StoredBlocks.{KnownBlocks, StoredBlocks, with_block}
+use Rattle.beam_block_file.specs.StoredBlocks.{KnownBlocks, with_block}
 use Rattle.beam_machine.specs.Prelude.{SentEvent}
 use Rattle.beam_records.proofs.Growing.{file_then, page_then}
 use Rattle.beam_records.specs.JournalFile.{IsPage, IsRecord, Keeps}

@@ -1,11 +1,11 @@
 -- A journal's file that is read. (This node's own.)
-use Rattle.std.specs.Prelude.{◌≡◌, ◌≢◌, ◌<◌, ◌≤◌, ◌+◌, ◌⊎◌, ℕ, List, [], ◌++◌, Option, Some, None, option_map, IfSome}
+use Rattle.std.specs.Prelude.{◌≡◌, ◌<◌, ◌≤◌, ◌+◌, ◌⊎◌, ℕ, List, [], ◌∷◌, ◌++◌, length, Option, Some, None, option_map, IfSome}
 use Rattle.byteorder.specs.Endian.{big_bytes}
 use Rattle.beam_block_file.specs.declared.front.Front.TheVariants.{Cut}
 use Rattle.beam_block_file.specs.Fronts.{front_in}
 use Rattle.beam_block_file.specs.StoredBlocks.{IsNext, KnownBlocks, with_next}
 use Rattle.beam_machine.specs.Prelude.{SentEvent}
-use Rattle.beam_records.specs.JournalFile.{IsRecord}
+use Rattle.beam_records.specs.JournalFile.{IsPage, IsRecord, head_of}
 
 -- the blocks that were read, as far as the device tells them, and the records of the last of them that are still to be given; the number of
 -- the next entry, and of the one before which the reader ends
@@ -45,3 +45,30 @@ IsAtEnd known = (known.rest ≡ []) ⊎ (front_in known.rest ≡ Cut)
 abbrev pub gives : JournalRead → Option SentEvent → JournalRead → Type 0
 gives old (Some s) new = (old.number < old.upto) × (GivesRecord old s new ⊎ ((middle : JournalRead) × ReadsPage old middle × GivesRecord middle s new))
 gives old None new = (new ≡ old) × ((old.upto ≤ old.number) ⊎ ((old.rest ≡ []) × IfSome old.known IsAtEnd))
+
+-- ---- what the reader gave since the beginning of its file
+
+-- of pages that follow one another, from the entry of that number on, these entries were given: all of them but those of that rest of the
+-- last page
+abbrev pub AreGiven : ℕ → List (List ℕ) → List ℕ → List SentEvent → Type 0
+AreGiven number [] rest ss = (rest ≡ []) × (ss ≡ [])
+AreGiven number (page ∷ []) rest ss = (given : List ℕ) × (page ≡ given ++ rest) × IsPage number given ss
+AreGiven number (page ∷ next ∷ pages) rest ss =
+    (here later : List SentEvent) × (ss ≡ here ++ later) × IsPage number page here × AreGiven (number + length here) (next ∷ pages) rest later
+
+-- the blocks are the head of a journal's file and pages, of which these entries were given
+pub record HasGiven (contents : List (List ℕ)) (rest : List ℕ) (ss : List SentEvent) : Type 0 where
+  pub id : List ℕ
+  pub pages : List (List ℕ)
+  pub is_id : length id ≡ 16
+  pub stand : contents ≡ head_of id ∷ pages
+  pub are_given : AreGiven 0 pages rest ss
+
+-- these are all entries that were given, as far as the device tells
+abbrev pub HasRead : JournalRead → List SentEvent → Type 0
+HasRead r ss = (length ss ≡ r.number) × IfSome r.known (λ known. HasGiven known.contents r.rest ss)
+
+-- these and the next entry, if there is one
+abbrev pub with_next_event : List SentEvent → Option SentEvent → List SentEvent
+with_next_event ss None = ss
+with_next_event ss (Some s) = ss ++ s ∷ []

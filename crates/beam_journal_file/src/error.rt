@@ -16,6 +16,9 @@ pub enum WriteFailed {
     /// An event has no record, or the file would have 2^64 bytes. Nothing can be written any more.
     #[error("Unspelled")]
     Unspelled,
+    /// Records of the last page weren't read, so the file can't go on behind them. Nothing was cut off.
+    #[error("Unread")]
+    Unread,
     /// Memory was refused. It can be tried again.
     #[error("NoMemory")]
     NoMemory,

@@ -1,8 +1,10 @@
 //! A journal's file that is read.
-ghost use Rattle.std.specs.Prelude.{◌≡◌, ◌<◌, ◌∷◌, [], ℕ, List, false, length, true, IfOk, IfSome, option_map};
+ghost use Rattle.std.specs.Prelude.{◌≡◌, ◌≢◌, ◌<◌, ◌↔◌, ◌++◌, ◌∷◌, [], ℕ, List, false, length, true, IfOk, IfSome, IsErrOf, OnOk, option_map};
 ghost use Rattle.beam_block_file.specs.StoredBlocks.{with_rest};
+ghost use Rattle.beam_machine.specs.Journal.{SentEvent as Sent};
 ghost use Rattle.beam_records.specs.JournalFile.{head_of};
-ghost use Rattle.beam_journal_file.specs.JournalRead.{GivesRecord, HasReadFirst, IsAtEnd, ReadsPage, gives};
+ghost use Rattle.beam_journal_file.specs.JournalRead.{GivesRecord, HasRead, HasReadFirst, IsAtEnd, ReadsPage, gives, with_next_event};
+ghost use Rattle.beam_journal_file.specs.WrittenJournal.{HasWritten};
 
 use crate::error::{ReadFailed, WriteFailed};
 use crate::writer::JournalWriter;
@@ -65,6 +67,7 @@ impl<S: Shelf + Drop> JournalReader<S> {
         ensures head { IfOk result (λ r. (id : List ℕ) × (length id ≡ 16) × IfSome r.known (λ k. k.contents ≡ head_of id ∷ [])) }
         ensures read { IfOk result (λ r. HasReadFirst (S.bytes shelf) r.known) }
         ensures begins { IfOk result (λ r. (r.rest ≡ []) × (r.number ≡ 0) × (r.upto ≡ upto)) }
+        ensures none { IfOk result (λ r. HasRead r []) }
     {
         let mut blocks = BlockReader::new(alloc, shelf);
         match blocks.next() {
@@ -158,8 +161,10 @@ impl<S: Shelf + Drop> JournalReader<S> {
     }
 
     /// The next entry; `None` before the one at which it ends, and at the end of the file. A torn end is none: it is told by `torn`.
+    /// After `Unread` it can be tried again. After another error nothing more is to be read, and the file isn't to be written.
     pub fn next(&mut self, alloc: Global) -> Result<Option<SentEvent>, ReadFailed>
-        ensures { IfOk result (λ next. gives self.old next self.new) }
+        ensures gives { IfOk result (λ next. gives self.old next self.new) }
+        ensures read { IfOk result (λ next. (ss : List Sent) → HasRead self.old ss → HasRead self.new (with_next_event ss next)) }
     {
         if self.entries >= self.upto {
             return Ok(None);
@@ -171,18 +176,28 @@ impl<S: Shelf + Drop> JournalReader<S> {
         Ok(Some(sent))
     }
 
-    /// The file, to be written behind the blocks that were read. What stands behind these is cut off, and the cut is on the device.
+    /// The file, to be written behind the blocks that were read: it keeps the entries that were given. What stands behind these blocks is
+    /// cut off, and the cut is on the device. `Unread` exactly where records of the last page weren't read; nothing is cut off then.
     pub fn into_writer(self, alloc: Global) -> Result<JournalWriter<S>, WriteFailed>
         ensures known { IfOk result (λ w. w.file.known ≡ option_map (with_rest []) self.known) }
         ensures counts { IfOk result (λ w. (w.written ≡ self.number) × (w.taken ≡ 0)) }
+        ensures kept { IfOk result (λ w. (ss : List Sent) → HasRead self ss → HasWritten w ss) }
+        ensures whole { OnOk result (self.rest ≡ []) }
+        ensures unread { IsErrOf result WriteFailed.Unread ↔ (self.rest ≢ []) }
     {
+        if self.used < self.page.len() {
+            return Err(WriteFailed::Unread);
+        }
         let JournalReader {
             blocks,
             entries,
             ..
         } = self;
         match blocks.into_file() {
-            Ok(file) => Ok(JournalWriter::new(alloc, file, entries)),
+            Ok(file) => {
+                let _short = file.shelf();
+                Ok(JournalWriter::new(alloc, file, entries))
+            }
             Err(failed) => Err(WriteFailed::Unwritten(failed)),
         }
     }

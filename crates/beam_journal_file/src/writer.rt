@@ -1,6 +1,7 @@
 //! The file of a journal that is written.
 ghost use Rattle.std.specs.Prelude.{◌≡◌, ◌<◌, ◌+◌, ◌-◌, ◌^◌, ◌++◌, ◌∷◌, [], false, true, min, List, IfOk, IfSome, OnErr, OnOk, option_map};
 ghost use Rattle.beam_blocks.specs.Blocks.{block};
+ghost use Rattle.beam_block_file.specs.StoredBlocks.{all_bytes};
 ghost use Rattle.beam_machine.specs.Journal.{SentEvent};
 ghost use Rattle.beam_records.specs.JournalFile.{IsPage, head_of};
 ghost use Rattle.beam_journal_file.specs.WrittenJournal.{HasTaken, HasWritten};
@@ -145,5 +146,13 @@ impl<S: Shelf + Drop> JournalWriter<S> {
             Ok(()) => Ok(()),
             Err(failed) => Err(WriteFailed::Unsynced(failed)),
         }
+    }
+
+    /// The device, which the writer gives back. Entries of a page that isn't written aren't on it.
+    pub fn into_shelf(self) -> S
+        ensures { S.bytes result ≡ option_map all_bytes self.file.known }
+    {
+        let JournalWriter { file, .. } = self;
+        file.into_shelf()
     }
 }

@@ -1,5 +1,5 @@
 -- An event that no allocation failure cut is entered as it was recorded.
-use Rattle.std.proofs.Common.{◌≡◌, ◌&&◌, nat_lt, false, cond, Ok, refl, ap}
+use Rattle.std.proofs.Common.{◌≡◌, false, cond, Ok, refl, ap}
 use Rattle.beam_debug.specs.declared.outcome.Outcome.{Outcome}
 use Rattle.beam_debug.specs.declared.outcome.Outcome.TheVariants as outcome
 use Rattle.beam_debug.specs.Prelude.{reply_of}

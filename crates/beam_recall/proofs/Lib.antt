@@ -1,4 +1,5 @@
 pub mod CutShort
+pub mod FileRead
 pub mod Giving
 pub mod Numbers
 pub mod Sent

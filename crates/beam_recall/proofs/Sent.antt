@@ -1,5 +1,5 @@
 -- Events that a source gives, one after another, and that a node enters.
-use Rattle.std.proofs.Common.{◌≡◌, ℕ, List, [], ◌∷◌, ◌++◌, length, map, Option, Some, None, refl, sym, ap, subst, ◌∙◌, append_assoc, MatchOption}
+use Rattle.std.proofs.Common.{◌≡◌, ℕ, List, [], ◌∷◌, ◌++◌, map, Option, Some, None, refl, sym, ap, subst, ◌∙◌, append_assoc, MatchOption}
 use Rattle.std.specs.Iterator.{Yields, YieldsThen}
 use Rattle.std.proofs.lemmas.List.{map-append}
 use Rattle.beam_journal.specs.Entering.{entry_of}
@@ -10,7 +10,7 @@ use Rattle.beam_model.specs.Prelude.{Listing}
 use Rattle.beam_shared.specs.Prelude.{Node}
 use Rattle.beam_recall.specs.declared.error.RecallError.{RecallError}
 use Rattle.beam_recall.specs.declared.error.RecallError.TheVariants.{Refused, TooManySeats, NoMemory, Unread}
-use Rattle.beam_recall.specs.Recalling.{Enters, EntersThose, EntersAll, Hinders, Stops, accepted_from}
+use Rattle.beam_recall.specs.Recalling.{Enters, EntersThose, Hinders, Stops}
 
 module _ {S A : Type 0} (gives : S → Option A → S → Type 0) where
   pub yields_more : (s : S) (given : List A) (t : S) (x : A) (u : S) → Yields gives s given t → gives t (Some x) u → Yields gives s (given ++ x ∷ []) u

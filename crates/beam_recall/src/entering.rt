@@ -1,13 +1,12 @@
 //! One recorded event.
 ghost use Rattle.std.specs.Prelude.{◌≡◌, ◌≢◌, ◌+◌, ◌<◌, ◌++◌, ◌∷◌, [], length, IfSome, IfErr, IfOk, OnOk, OnErr};
 ghost use Rattle.beam_debug.specs.Answers.{reply_of};
-ghost use Rattle.beam_machine.specs.Journal.{SentEvent};
+ghost use Rattle.beam_machine.specs.Journal.{SentEvent as Sent};
 ghost use Rattle.beam_recall.specs.Recalling.{AreNumbered, Enters, HasSameCheckouts, Hinders, accepted_from};
 ghost use Rattle.beam_shared.specs.Refusals.{RefusesCommand};
 
 use crate::cut::{is_cut, rows_asked};
 use crate::error::RecallError;
-use crate::recorded::RecordedEvent;
 use crate::seating::add_seats;
 use beam_debug::outcome::Outcome;
 use beam_image::Image;
@@ -16,6 +15,7 @@ use beam_machine::event::Refused;
 use beam_receipts::brand::NodeBrand;
 use beam_receipts::refusal::Refusal;
 use beam_receipts::seat::SeatReceipt;
+use beam_records::SentEvent;
 use beam_shared::node::Node;
 
 /// Gives the node an event: as a command of the seat of that number, which is there, or as one that no seat sent.
@@ -49,7 +49,7 @@ fn ready_seat<B: NodeBrand, F>(
     ensures numbered { AreNumbered node.new.seats seats.new.items }
     ensures there { OnOk result (IfSome seat (λ number. number < length seats.new.items)) }
     ensures node { node.new ≡ record node.old { seats = node.new.seats } }
-    ensures err { IfErr result (λ e. (sent : SentEvent) → sent.seat ≡ seat → Hinders node.new sent e) }
+    ensures err { IfErr result (λ e. (sent : Sent) → sent.seat ≡ seat → Hinders node.new sent e) }
 {
     match seat {
         None => Ok(()),
@@ -59,7 +59,7 @@ fn ready_seat<B: NodeBrand, F>(
 
 /// Why an event that the node refuses isn't entered.
 fn refused<B: NodeBrand, F>(node: &Node<B>, refusal: Refusal) -> RecallError<F>
-    ensures { (sent : SentEvent) → RefusesCommand node.now sent.event refusal → Hinders node.now sent result }
+    ensures { (sent : Sent) → RefusesCommand node.now sent.event refusal → Hinders node.now sent result }
 {
     if refusal == Refusal::Node(Refused::NoMemory) {
         return RecallError::NoMemory;
@@ -75,7 +75,7 @@ fn refused<B: NodeBrand, F>(node: &Node<B>, refusal: Refusal) -> RecallError<F>
 pub(crate) fn enter<B: NodeBrand, F>(
     node: &mut Node<B>,
     seats: &mut Vec<SeatReceipt<B>>,
-    recorded: RecordedEvent,
+    recorded: SentEvent,
 ) -> Result<(), RecallError<F>>
     requires { AreNumbered node.old.seats seats.old.items }
     ensures entered { OnOk result (Enters node.old (recorded ∷ []) node.new) }
@@ -86,12 +86,12 @@ pub(crate) fn enter<B: NodeBrand, F>(
     ensures err { IfErr result (λ e. Hinders node.new recorded e) }
     ensures none { IfErr result (λ e. e ≢ RecallError.NoMemory → node.new.journal ≡ node.old.journal) }
 {
-    let seat = recorded.seat();
+    let seat = recorded.seat;
     if let Err(why) = ready_seat(node, seats, seat) {
         return Err(why);
     }
     let _entered = node.entered();
-    let event = recorded.into_event();
+    let (event, _seat) = recorded.into_parts();
     let rows = rows_asked(&event);
     let outcome = match give(node, seats, event, seat) {
         Ok(outcome) => outcome,

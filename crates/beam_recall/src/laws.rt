@@ -1,11 +1,20 @@
 //! Laws of recorded events and of seats.
-ghost use Rattle.std.specs.Prelude.{List};
+ghost use Rattle.std.specs.Prelude.{List, map};
+ghost use Rattle.beam_journal_file.specs.JournalRead.{HasRead, JournalRead, gives};
+ghost use Rattle.beam_machine.specs.Journal.{sent_event_of};
 ghost use Rattle.beam_receipts.specs.Receipts.{SeatHistory};
-ghost use Rattle.beam_recall.specs.Recalling.{AreNumbered};
+ghost use Rattle.beam_recall.specs.Recalling.{AreNumbered, EntersAll};
 ghost use Rattle.beam_shared.specs.Node.{Node};
 ghost use Rattle.beam_shared.specs.Seats.{AreAll};
 
 /// Seats in the order of their numbers, as many as a node gave, are all of the node's, each once.
 pub fn numbered_are_all()
     ensures { (n : Node) (seats : List SeatHistory) → AreNumbered n.seats seats → AreAll n seats }
+{}
+
+/// A node that entered all events that the reader of a journal's file had left, after those that this reader gave before, has in its
+/// journal what the reader gave since the beginning of the file.
+pub fn recalled_is_read()
+    ensures { (reader end : JournalRead) (old new : Node) → EntersAll gives reader old end new → HasRead reader (map sent_event_of old.journal)
+        → HasRead end (map sent_event_of new.journal) }
 {}

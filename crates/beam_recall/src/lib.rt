@@ -4,6 +4,7 @@
 mod cut;
 mod entering;
 mod error;
+mod file_events;
 pub mod laws;
 mod recalling;
 mod recorded;
@@ -11,4 +12,4 @@ mod seating;
 
 pub use error::RecallError;
 pub use recalling::recall;
-pub use recorded::{RecordedEvent, RecordedEvents};
+pub use recorded::RecordedEvents;

@@ -15,6 +15,8 @@ mod example;
 #[cfg(test)]
 mod image;
 #[cfg(test)]
+mod journal_files;
+#[cfg(test)]
 mod lengths;
 #[cfg(test)]
 mod mailbox;

@@ -11,7 +11,7 @@ use std::alloc::Global;
 use std::test::Fail;
 
 /// The name of an event's kind and its numbers, or zeros.
-type Told = (&'static str, u64, u64);
+pub(crate) type Told = (&'static str, u64, u64);
 
 /// What an event of a node is.
 fn told_of_node(event: &Event<Image>) -> Told {
@@ -57,7 +57,7 @@ fn written_again(alloc: Global, bytes: &[u8]) -> Result<(Told, Option<u32>, Vec<
 }
 
 /// Records, what their events are, and the seats that sent them.
-const RECORDS: [(&[u8], Told, Option<u32>); 21] = [
+pub(crate) const RECORDS: [(&[u8], Told, Option<u32>); 21] = [
     (b"\x20\0\x01\x0f\xa0", ("Steps", 1, 4000), None),
     (b"\xa0\0\x07\0\x01\x0f\xa0", ("Steps", 1, 4000), Some(7)),
     (b"\x20\xff\xff\xff\xff", ("Steps", 65535, 65535), None),

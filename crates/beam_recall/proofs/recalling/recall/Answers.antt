@@ -1,4 +1,4 @@
-use Rattle.std.proofs.Common.{◌≡◌, Some, subst, ◌∙◌}
+use Rattle.std.proofs.Common.{Some, subst, ◌∙◌}
 use Rattle.beam_recall.specs.Recalling.{HasSameCheckouts}
 use Rattle.beam_recall.proofs.Sent.{enters_those, stops}
 use Rattle.beam_recall.proofs.recalling.recall.Goals as goal

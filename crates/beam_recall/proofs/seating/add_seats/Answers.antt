@@ -1,4 +1,4 @@
-use Rattle.std.proofs.Common.{◌≡◌, ◌+◌, ◌≤◌, [], ◌∷◌, ◌++◌, length, sym, ap, subst, ◌∙◌, arith}
+use Rattle.std.proofs.Common.{◌≡◌, ◌+◌, [], ◌∷◌, ◌++◌, length, sym, ap, subst, ◌∙◌, arith}
 use Rattle.beam_receipts.specs.Receipts.{SeatHistory}
 use Rattle.beam_shared.specs.Prelude.{Node}
 use Rattle.beam_recall.specs.Recalling.{AreNumbered}
