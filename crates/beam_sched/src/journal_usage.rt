@@ -1,33 +1,44 @@
-//! Which thresholds the journal has reached, and which of them were reported.
+//! How many entries the journal has, which thresholds it has reached, and which of them were reported.
 
 use crate::journal_threshold::{JournalThreshold, threshold_at, threshold_of};
 use beam_receipts::brand::NodeBrand;
 use beam_shared::node::Node;
 use std::sync::atomic::{AtomicU32, Ordering};
 
-/// The ranks of the greatest threshold that a node's journal has reached, and of the greatest one that was reported. Both only grow.
+/// How many entries a node's journal has, and the ranks of the greatest threshold that it has reached and of the greatest one that was
+/// reported. All three only grow.
 #[derive(Drop)]
 pub struct JournalUsage {
+    entered: AtomicU32,
     reached: AtomicU32,
     reported: AtomicU32,
 }
 
 impl JournalUsage {
-    /// No threshold is reached.
+    /// No entries are known, and no threshold is reached.
     pub fn new() -> JournalUsage {
         JournalUsage {
+            entered: AtomicU32::new(0),
             reached: AtomicU32::new(0),
             reported: AtomicU32::new(0),
         }
     }
 
-    /// Notes the threshold that the journal of a node has reached. Tells whether it is greater than the one noted before.
+    /// Notes how many entries the journal of a node has, and the threshold that it has reached. Tells whether that is greater than the one
+    /// noted before. It is called under the node's lock.
     pub fn note<B: NodeBrand>(&self, node: &Node<B>) -> bool {
-        let Some(threshold) = threshold_of(node.entered(), node.limit()) else {
+        let entered = node.entered();
+        self.entered.store(entered, Ordering::Release);
+        let Some(threshold) = threshold_of(entered, node.limit()) else {
             return false;
         };
         let rank = threshold.rank();
         self.reached.fetch_max(rank, Ordering::SeqCst) < rank
+    }
+
+    /// How many entries the journal had when it was noted last.
+    pub fn entered(&self) -> u32 {
+        self.entered.load(Ordering::Acquire)
     }
 
     /// The greatest threshold that was reached, if neither it nor a greater one was reported. It counts as reported from then on.

@@ -94,6 +94,12 @@ impl<B: NodeBrand> Shared<B> {
         self.usage.take_reached()
     }
 
+    /// How many entries the journal has, as it was noted last: after each command, refused ones too, each commit and each scan. So to a
+    /// thread whose command was answered it counts at least the entries that the journal had then. It takes no lock.
+    pub fn entered(&self) -> u32 {
+        self.usage.entered()
+    }
+
     /// Closes the queues: workers end once they find no work.
     pub fn close<R: Wait>(&self, rt: &R) {
         self.idle.close(rt);

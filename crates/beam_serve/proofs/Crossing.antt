@@ -4,9 +4,10 @@ use denote.Ref.{NamedLft, ShrRef}
 use denote.Hole.{as_row}
 use denote.Struct.Field.{row_field, shr_ref_field}
 use denote.Param.Send.{IsSend, IsSync, sendable, shr_send, view_send}
-use denote.Param.SendFields.{as_row_send, declared_send}
+use denote.Param.SendFields.{as_row_send, declared_send, variants_send}
 use Rattle.std.proofs.alloc.Global.TheSendSync as Global
 use Rattle.std.proofs.option.Option.TheSendSync as Option
+use Rattle.beam_block_file.proofs.file_shelf.FileShelf.TheSendSync as FileShelf_crossing
 use Rattle.beam_queue.specs.declared.brand.QueueBrand as QueueBrand
 use Rattle.beam_receipts.specs.declared.brand.NodeBrand as NodeBrand
 use Rattle.beam_sched.proofs.Crossing.{Shared_sync}
@@ -14,11 +15,14 @@ use Rattle.beam_sched.proofs.thread_context.ThreadContext.TheSendSync as ThreadC
 use Rattle.beam_sched.specs.contracts.shared.Shared as Shared
 use Rattle.beam_serve.proofs.connection_thread.ServeOptions.TheSendSync as ServeOptions_crossing
 use Rattle.beam_serve.proofs.acceptor.Acceptor.TheSendSync as Acceptor_crossing
+use Rattle.beam_serve.proofs.journal_link.JournalLink.TheSendSync as JournalLink_crossing
 use Rattle.beam_serve.proofs.memory_reserve.MemoryReserve.TheSendSync as MemoryReserve_crossing
 use Rattle.beam_serve.specs.contracts.connection_thread.ConnectionThread as ConnectionThread
 use Rattle.beam_serve.specs.contracts.acceptor.Acceptor as Acceptor
+use Rattle.beam_serve.specs.contracts.journal_thread.JournalThread as JournalThread
 use Rattle.beam_serve.specs.contracts.seat_desk.SeatDesk as SeatDesk
 use Rattle.beam_serve.specs.contracts.seat_desk.SeatDesk.TheInside as SeatDesk_inside
+use Rattle.beam_serve.specs.contracts.serve_helper.ServeHelper as ServeHelper
 
 -- a `&` to what may be shared
 runtime_send : (l : NamedLft) (R : RattleType) → IsSync R → IsSend (as_row (row_field (ShrRef l.mir l.lft R)))
@@ -31,8 +35,15 @@ Acceptor_send : (l : NamedLft) → IsSend (as_row (shr_ref_field l (Acceptor.the
 Acceptor_send l = as_row_send (shr_ref_field l (Acceptor.the_row l) tt) (shr_send l.mir l.lft _ (Acceptor_crossing.the_sync l))
 
 pub SeatDesk_send : (l : NamedLft) (B R : RattleType) (g : NodeBrand.Ghosts B.Denot) (q : QueueBrand.Ghosts B.Denot) → IsSync R → IsSend (SeatDesk.the_row l B R g q)
-SeatDesk_send l B R g q r = view_send _ _ _ _ _ (declared_send (SeatDesk_inside.the_type l B R g q) (runtime_send l R r, (Shared_send l B g, (ThreadContext_crossing.the_send B g q, (Option.the_send _ (shr_send l.mir l.lft _ MemoryReserve_crossing.the_sync), tt)))))
+SeatDesk_send l B R g q r = view_send _ _ _ _ _ (declared_send (SeatDesk_inside.the_type l B R g q) (runtime_send l R r, (Shared_send l B g, (ThreadContext_crossing.the_send B g q, (Option.the_send _ (shr_send l.mir l.lft _ MemoryReserve_crossing.the_sync), (Option.the_send _ (JournalLink_crossing.the_send l), tt))))))
 
 pub ConnectionThread_send : (l : NamedLft) (B R : RattleType) (g : NodeBrand.Ghosts B.Denot) (q : QueueBrand.Ghosts B.Denot) → IsSync R → IsSend (ConnectionThread.the_row l B R g q)
 ConnectionThread_send l B R g q r = declared_send (ConnectionThread.the_type l B R g q)
     (runtime_send l R r, (Global.the_send, (Shared_send l B g, (Acceptor_send l, ((search sendable), (SeatDesk_send l B R g q r, (ServeOptions_crossing.the_send, tt)))))))
+
+JournalThread_send : (l : NamedLft) (B R : RattleType) (g : NodeBrand.Ghosts B.Denot) → IsSync R → IsSend (JournalThread.the_row l B R g)
+JournalThread_send l B R g r = declared_send (JournalThread.the_type l B R g)
+    (runtime_send l R r, (Shared_send l B g, (JournalLink_crossing.the_send l, (FileShelf_crossing.the_send, ((search sendable), ((search sendable), ((search sendable), tt)))))))
+
+pub ServeHelper_send : (l : NamedLft) (B R : RattleType) (g : NodeBrand.Ghosts B.Denot) (q : QueueBrand.Ghosts B.Denot) → IsSync R → IsSend (ServeHelper.the_row l B R g q)
+ServeHelper_send l B R g q r = variants_send (ServeHelper.enum l B R g q) ((ConnectionThread_send l B R g q r, tt), ((JournalThread_send l B R g r, tt), tt))

@@ -2,3 +2,4 @@ pub mod NodeStart
 pub mod Keeping
 pub mod Ports
 pub mod Crossing
+pub mod WrittenEntries

@@ -11,6 +11,7 @@ starting_is port m n (fault.Pipe why os_error) h = absurd h
 starting_is port m n (fault.Net p os_error) h = absurd h
 starting_is port m n (fault.File f) h = absurd h
 starting_is port m n (fault.Start refused) h = absurd h
+starting_is port m n (fault.Journal f) h = absurd h
 starting_is port m n fault.JournalFull h = absurd h
 starting_is port m n fault.Mismatch h = absurd h
 starting_is port m n fault.ProcessesOut h = absurd h

@@ -68,6 +68,17 @@ impl<'a, B: NodeBrand + QueueBrand, R> ConnectionThread<'a, B, R> {
 }
 
 impl<B: NodeBrand + QueueBrand, R: Wait + Clock + Log + AllocGlobal> ConnectionThread<'_, B, R> {
+    /// How many threads serve connections beside so many helpers. Where the node has a journal's file the first helper is its thread, which
+    /// ends after those that serve connections.
+    fn count_threads(&self, helpers: usize) -> usize {
+        let Some(link) = self.desk.journal() else {
+            return helpers.saturating_add(1);
+        };
+        let count = helpers.max(1);
+        link.journal.expect_senders(self.rt, count);
+        count
+    }
+
     /// Serves connections until no more are accepted. Unless that is because enough were accepted, the workers end after their slices, and
     /// the connections of other threads are shut: what was read from them is answered.
     fn serve(&mut self) {
@@ -80,6 +91,9 @@ impl<B: NodeBrand + QueueBrand, R: Wait + Clock + Log + AllocGlobal> ConnectionT
             self.options.idle,
         );
         serve_sessions(rt, self.alloc, &mut connections, &mut self.desk);
+        if let Some(link) = self.desk.journal() {
+            link.journal.leave(rt);
+        }
         if !matches!(self.acceptor.ended(rt), Some(Ended::Served)) {
             self.shared.stop(rt);
             self.acceptor.endpoint().sockets.shut(rt);
@@ -99,7 +113,7 @@ impl<B: NodeBrand + QueueBrand, R: Wait + Clock + Log + AllocGlobal> ForegroundT
         if started.workers < self.options.workers {
             warn!(rt; "{} of {} schedulers", started.workers, self.options.workers);
         }
-        let clients = started.helpers.saturating_add(1);
+        let clients = self.count_threads(started.helpers);
         if clients < self.options.clients {
             warn!(rt; "{} of {} clients", clients, self.options.clients);
         }

@@ -1,5 +1,5 @@
-//! What `beamnode pipe` and `beamnode serve` do: sessions over the standard streams, and over the connections to a port, with a desk that has
-//! a seat of a node that threads share.
+//! What `beamnode pipe`, `beamnode serve` and `beamnode replay` do: sessions over the standard streams, and over the connections to a port,
+//! with a desk that has a seat of a node that threads share; and the file of a node's journal, written and read again.
 #![tactic(auto)]
 
 mod accepting;
@@ -8,11 +8,18 @@ mod begun;
 mod closed_node;
 mod command_log;
 mod connection_thread;
+mod disk_journal;
 mod end_limit;
 mod endpoint;
 mod exit_log;
 mod frame_tracker;
 mod incoming_connections;
+mod journal_fault;
+mod journal_link;
+mod journal_opening;
+mod journal_page;
+mod journal_recovery;
+mod journal_thread;
 mod loading;
 mod log_lines;
 mod log_writer;
@@ -20,8 +27,11 @@ mod logging;
 mod memory_reserve;
 mod open_sockets;
 mod piping;
+mod replay_report;
+mod replaying;
 mod seat_desk;
 mod serve_gate;
+mod serve_helper;
 mod served_stream;
 mod serving;
 mod sessions;
@@ -32,6 +42,7 @@ mod timed_stream;
 pub use log_lines::LogLines;
 pub use log_writer::{start_log, write_lines};
 pub use piping::pipe;
+pub use replaying::replay;
 pub use seat_desk::SeatDesk;
 pub use serving::serve;
 pub use sessions::{Incoming, serve_sessions, session};

@@ -116,4 +116,12 @@ impl OpenSockets {
             .0;
         served.shut(Shutdown::Both);
     }
+
+    /// Shuts the sockets for good, and cuts off the connections that are served: nothing is read or written any more.
+    pub fn cut_off<R: Wait>(&self, rt: &R) {
+        let served = self.served.lock(rt);
+        self.is_shut.store(true, Ordering::SeqCst);
+        let _ = self.listener.shutdown(Shutdown::Both);
+        served.shut(Shutdown::Both);
+    }
 }

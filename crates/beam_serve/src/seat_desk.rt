@@ -4,10 +4,12 @@ ghost use Rattle.beam_sched.specs.CommandAnswers.{answer_of};
 ghost use Rattle.beam_serve.specs.Answers.{response_by, response_to};
 
 use crate::command_log::CommandLog;
+use crate::journal_link::JournalLink;
 use crate::memory_reserve::MemoryReserve;
 use beam_debug::outcome::Outcome;
 use beam_desk::reply;
 use beam_image::Image;
+use beam_journal_file::WriteFailed;
 use beam_machine::command::Response;
 use beam_machine::debug::DebugEvent;
 use beam_queue::QueueBrand;
@@ -21,12 +23,14 @@ use std::marker::Model;
 use std::sync::Wait;
 
 /// A desk with a thread context of a node that threads share, and with a reference to the node. Each event is a command of the thread
-/// context's seat; the lock is held only for that command. Contracts see the seat.
+/// context's seat; the lock is held only for that command. Where the node keeps its journal in a file, an answer is given once the file has
+/// it. Contracts see the seat.
 pub struct SeatDesk<'a, B: NodeBrand + QueueBrand, R> {
     rt: &'a R,
     shared: &'a Shared<B>,
     context: ThreadContext<B>,
     reserve: Option<&'a MemoryReserve>,
+    journal: Option<JournalLink<'a>>,
 }
 
 impl<'a, B: NodeBrand + QueueBrand, R> Drop for SeatDesk<'a, B, R> {
@@ -36,6 +40,7 @@ impl<'a, B: NodeBrand + QueueBrand, R> Drop for SeatDesk<'a, B, R> {
             shared: _shared,
             context: _context,
             reserve: _reserve,
+            journal: _journal,
         } = self;
     }
 }
@@ -62,6 +67,7 @@ impl<'a, B: NodeBrand + QueueBrand, R> SeatDesk<'a, B, R> {
             shared,
             context,
             reserve: None,
+            journal: None,
         }
     }
 
@@ -74,13 +80,40 @@ impl<'a, B: NodeBrand + QueueBrand, R> SeatDesk<'a, B, R> {
             shared,
             context,
             reserve: _reserve,
+            journal,
         } = self;
         SeatDesk {
             rt,
             shared,
             context,
             reserve: Some(reserve),
+            journal,
         }
+    }
+
+    /// The desk, which keeps its answers back until the journal's file has them, where the node has such a file.
+    pub(crate) fn with_journal(self, journal: Option<JournalLink<'a>>) -> SeatDesk<'a, B, R>
+        ensures { result ≡ self.entry }
+    {
+        let SeatDesk {
+            rt,
+            shared,
+            context,
+            reserve,
+            journal: _journal,
+        } = self;
+        SeatDesk {
+            rt,
+            shared,
+            context,
+            reserve,
+            journal,
+        }
+    }
+
+    /// The journal's file, where the node has one.
+    pub(crate) fn journal(&self) -> Option<JournalLink<'a>> {
+        self.journal
     }
 
     /// The thread context, whose seat knows the commands that were accepted of it, with their replies.
@@ -92,8 +125,19 @@ impl<'a, B: NodeBrand + QueueBrand, R> SeatDesk<'a, B, R> {
             shared: _shared,
             context,
             reserve: _reserve,
+            journal: _journal,
         } = self;
         context
+    }
+}
+
+impl<B: NodeBrand + QueueBrand, R: Wait> SeatDesk<'_, B, R> {
+    /// Why the journal's file isn't written any more, where the node has one and that is so.
+    pub(crate) fn journal_failure(&self) -> Option<WriteFailed> {
+        match self.journal {
+            Some(link) => link.journal.failure(self.rt),
+            None => None,
+        }
     }
 }
 
@@ -135,6 +179,9 @@ impl<B: NodeBrand + QueueBrand, R: Wait + Log + AllocGlobal> Desk for SeatDesk<'
         let answer = self.shared.command(self.rt, &mut self.context, event);
         note_answer(self.reserve, &answer);
         command_log.write(self.rt, self.shared, &answer);
+        if let Some(journal) = self.journal {
+            journal.wait_until_kept(self.rt, self.shared);
+        }
         response_by(answer)
     }
 }

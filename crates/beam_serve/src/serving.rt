@@ -1,13 +1,20 @@
 //! A node that serves a port: its scheduler threads, and the connections beside them.
-ghost use Rattle.std.specs.Prelude.{◌≡◌, ◌≢◌, ◌≤◌, ◌*◌, min, MatchOption, IfErr, OnOk};
+ghost use Rattle.std.specs.Prelude.{◌≡◌, ◌≢◌, ◌≤◌, ◌*◌, [], min, MatchOption, IfErr, IfOk, IfSome, OnOk};
 ghost use Rattle.std.specs.Duration.{as_nanos};
 ghost use Rattle.beam_journal.specs.Entering.{most_entries};
+ghost use Rattle.beam_journal_file.specs.JournalRead.{HasRead};
 ghost use Rattle.beam_tools.specs.Job.{IsOfPort};
 
 use crate::acceptor::{Acceptor, Ended};
 use crate::closed_node::{ClosedNode, NotEnded};
 use crate::connection_thread::{ConnectionThread, ServeOptions};
+use crate::disk_journal::DiskJournal;
 use crate::endpoint::Endpoint;
+use crate::journal_fault::write_fault;
+use crate::journal_link::JournalLink;
+use crate::journal_opening::{OpenJournal, open_journal};
+use crate::journal_recovery::{Recovered, recover};
+use crate::journal_thread::JournalThread;
 use crate::loading::load_and_start;
 use crate::log_lines::LogLines;
 use crate::logging::logged;
@@ -15,16 +22,19 @@ use crate::memory_reserve::MemoryReserve;
 use crate::open_sockets::{OpenSockets, ServedConnections};
 use crate::seat_desk::SeatDesk;
 use crate::serve_gate::ServeGate;
+use crate::serve_helper::ServeHelper;
+use beam_block_file::FileShelf;
 use beam_journal::journal::MOST_ENTRIES;
 use beam_queue as queue;
 use beam_queue::{NotMade, QueueBrand};
 use beam_receipts::brand::NodeBrand;
 use beam_receipts::keeper::UnbrandedKeeper;
+use beam_receipts::seat::SeatReceipt;
 use beam_sched::clock::SteadyClock;
 use beam_sched::schedulers::run_with_helpers;
 use beam_sched::shared::Shared;
 use beam_sched::thread_context::ThreadContext;
-use beam_sched::thread_contexts::{SeatsAndQueues, contexts};
+use beam_sched::thread_contexts::{NewContexts, SeatsAndQueues, contexts};
 use beam_shared::node::Node;
 use beam_tools::files::{FileSystem, Files};
 use beam_tools::job::JobFault;
@@ -32,6 +42,7 @@ use beam_tools::line::Serve;
 use beam_tools::os_error::OsError;
 use log::{Log, debug};
 use std::alloc::Global;
+use std::fs::File;
 use std::io::Error;
 use std::marker::Brand;
 use std::net::{Net, SocketAddr, TcpListener, TcpStream};
@@ -48,37 +59,95 @@ struct ThreadContexts<B: NodeBrand + QueueBrand> {
     clients: Vec<ThreadContext<B>>,
 }
 
+/// The thread contexts of a node, and room for their parts beside the seats that none of them has.
 fn contexts_of<'l, B: NodeBrand + QueueBrand>(
     alloc: Global,
     node: &mut Node<B>,
     queues: queue::UnbrandedQueues,
+    seats: Vec<SeatReceipt<B>>,
     line: &Serve<'l>,
-) -> Result<ThreadContexts<B>, JobFault<'l>>
+) -> Result<(ThreadContexts<B>, SeatsAndQueues<B>), JobFault<'l>>
     requires { queues ≡ B.deques }
     ensures fault { IfErr result (IsOfPort line.now.port) }
 {
-    match contexts(alloc, node, queues, usize::from(line.schedulers)) {
-        Ok((schedulers, clients)) => Ok(ThreadContexts {
-            schedulers,
-            clients,
-        }),
-        Err(NotMade::NoMemory) => Err(JobFault::NoMemory),
-        Err(NotMade::TooMany) => Err(JobFault::Mismatch),
-    }
+    let new = match contexts(alloc, node, queues, usize::from(line.schedulers), seats) {
+        Ok(new) => new,
+        Err(NotMade::NoMemory) => return Err(JobFault::NoMemory),
+        Err(NotMade::TooMany) => return Err(JobFault::Mismatch),
+    };
+    let NewContexts {
+        workers,
+        senders,
+        seats_left,
+    } = new;
+    let Ok(parts) = SeatsAndQueues::with_seats(alloc, seats_left, queues_of(line)) else {
+        return Err(JobFault::NoMemory);
+    };
+    let contexts = ThreadContexts {
+        schedulers: workers,
+        clients: senders,
+    };
+    Ok((contexts, parts))
 }
 
-/// Loads the files and starts the process of the line, and prints the address on the console.
+/// What a node begins with: the seats of its lives before and, if it keeps its journal in a file, the file, and a handle by which it is put
+/// on the device.
+#[derive(Drop)]
+struct Beginning<B: NodeBrand> {
+    seats: Vec<SeatReceipt<B>>,
+    journal: Option<DiskJournal<FileShelf>>,
+    handle: Option<FileShelf>,
+}
+
+/// Brings a new node back from its journal's file, if it has one.
+fn begin<'l, B: NodeBrand, R: Log>(
+    rt: &R,
+    alloc: Global,
+    node: &mut Node<B>,
+    opened: Option<OpenJournal>,
+    line: &Serve<'l>,
+) -> Result<Beginning<B>, JobFault<'l>>
+    requires no_seats { node.old.seats ≡ 0 }
+    requires no_entries { node.old.journal ≡ [] }
+    requires at_first { IfSome opened (λ o. HasRead o.reader []) }
+    ensures fault { IfErr result (IsOfPort line.now.port) }
+{
+    let (Some(OpenJournal { reader, handle }), Some(name)) = (opened, line.journal) else {
+        return Ok(Beginning {
+            seats: Vec::new(alloc),
+            journal: None,
+            handle: None,
+        });
+    };
+    let Recovered { seats, writer } = match recover(rt, alloc, node, reader, name) {
+        Ok(recovered) => recovered,
+        Err(fault) => return Err(fault),
+    };
+    Ok(Beginning {
+        seats,
+        journal: Some(DiskJournal::new(writer, line.sync)),
+        handle: Some(handle),
+    })
+}
+
+/// Loads the files and starts the process of the line, unless the node came back with entries, and prints the address on the console.
 fn start_up<'l, F: Files, B: NodeBrand + QueueBrand, R: Wait + Log + AllocGlobal, C: Print>(
     console: &C,
     alloc: Global,
     files: &mut F,
     desk: &mut SeatDesk<'_, B, R>,
     address: SocketAddr,
+    is_new: bool,
     line: &Serve<'l>,
 ) -> Result<(), JobFault<'l>>
     ensures fault { IfErr result (IsOfPort line.now.port) }
 {
-    load_and_start(alloc, files, desk, line)?;
+    if is_new {
+        load_and_start(alloc, files, desk, line)?;
+    }
+    if let (Some(why), Some(name)) = (desk.journal_failure(), line.journal) {
+        return Err(write_fault(name, why));
+    }
     if println!(console; "listening on {address}").is_err() {
         return Err(JobFault::Unwritten);
     }
@@ -144,10 +213,11 @@ fn helpers_of<'a, B: NodeBrand + QueueBrand, R>(
     alloc: Global,
     shared: &'a Shared<B>,
     acceptor: &'a Acceptor<'a>,
+    link: Option<JournalLink<'a>>,
     options: ServeOptions,
     contexts: &mut Vec<ThreadContext<B>>,
-) -> Vec<ConnectionThread<'a, B, R>> {
-    let mut helpers = Vec::new(alloc);
+) -> Vec<ServeHelper<'a, B, R>> {
+    let mut helpers: Vec<ServeHelper<'a, B, R>> = Vec::new(alloc);
     for number in 1..options.clients {
         if helpers.reserve(1).is_err() {
             return helpers;
@@ -155,12 +225,47 @@ fn helpers_of<'a, B: NodeBrand + QueueBrand, R>(
         let Some(context) = contexts.pop() else {
             return helpers;
         };
-        let desk = SeatDesk::new(rt, shared, context).with_reserve(acceptor.endpoint().reserve);
-        let _ = helpers.push(ConnectionThread::new(
+        let desk = SeatDesk::new(rt, shared, context)
+            .with_reserve(acceptor.endpoint().reserve)
+            .with_journal(link);
+        let helper = ServeHelper::Connections(ConnectionThread::new(
             rt, alloc, shared, acceptor, number, desk, options,
         ));
+        let _ = helpers.push(helper);
     }
     helpers
+}
+
+/// Adds the thread of the journal's file behind the other helpers, so that it is started first.
+fn with_journal_thread<'a, B: NodeBrand + QueueBrand, R>(
+    rt: &'a R,
+    shared: &'a Shared<B>,
+    link: Option<JournalLink<'a>>,
+    handle: Option<FileShelf>,
+    helpers: Vec<ServeHelper<'a, B, R>>,
+) -> Vec<ServeHelper<'a, B, R>> {
+    let mut helpers = helpers;
+    let (Some(link), Some(handle)) = (link, handle) else {
+        return helpers;
+    };
+    let helper: ServeHelper<'a, B, R> = ServeHelper::Journal(JournalThread::new(
+        rt, shared, link, handle,
+    ));
+    let _ = helpers.push(helper);
+    helpers
+}
+
+/// Takes the thread contexts of helpers apart, for whose parts there is room.
+fn put_helpers<B: NodeBrand + QueueBrand, R>(
+    helpers: Vec<ServeHelper<'_, B, R>>,
+    parts: &mut SeatsAndQueues<B>,
+) {
+    for helper in helpers {
+        match helper {
+            ServeHelper::Connections(thread) => parts.put(thread.into_context()),
+            ServeHelper::Journal(_thread) => {}
+        }
+    }
 }
 
 /// Serves the connections while the schedulers run. All thread contexts come back.
@@ -175,6 +280,7 @@ fn serve_connections<
     acceptor: &'a Acceptor<'a>,
     line: &Serve,
     desk: SeatDesk<'a, B, R>,
+    handle: Option<FileShelf>,
     contexts: ThreadContexts<B>,
     parts: &mut SeatsAndQueues<B>,
 ) {
@@ -196,16 +302,16 @@ fn serve_connections<
         line.journal_limit,
         line.stop_when_full,
     );
+    let link = desk.journal();
     let mut first = ConnectionThread::new(rt, alloc, shared, acceptor, 0, desk, options);
-    let helpers = helpers_of(rt, alloc, shared, acceptor, options, &mut clients);
+    let helpers = helpers_of(rt, alloc, shared, acceptor, link, options, &mut clients);
+    let helpers = with_journal_thread(rt, shared, link, handle, helpers);
     let (schedulers, helpers) = run_with_helpers(
         rt, shared, &gate, &clock, schedulers, helpers, &mut first,
     );
     parts.put_all(schedulers);
     parts.put_all(clients);
-    for helper in helpers {
-        parts.put(helper.into_context());
-    }
+    put_helpers(helpers, parts);
     parts.put(first.into_context());
 }
 
@@ -219,7 +325,8 @@ fn ended_of<R: Wait>(rt: &R, acceptor: &Acceptor<'_>) -> Ended {
     }
 }
 
-/// Serves the connections once the files are loaded and the process is started. All thread contexts come back.
+/// Serves the connections once the files are loaded and the process is started, which a node that came back has done. All thread contexts
+/// come back.
 fn run<
     'a,
     'l,
@@ -234,7 +341,10 @@ fn run<
     shared: &'a Shared<B>,
     acceptor: &'a Acceptor<'a>,
     files: &mut F,
+    is_new: bool,
     line: &Serve<'l>,
+    link: Option<JournalLink<'a>>,
+    handle: Option<FileShelf>,
     contexts: ThreadContexts<B>,
     parts: &mut SeatsAndQueues<B>,
 ) -> Result<(), JobFault<'l>>
@@ -249,10 +359,14 @@ fn run<
         reserve,
         ..
     } = acceptor.endpoint();
-    let mut desk = SeatDesk::new(rt, shared, context).with_reserve(reserve);
-    match start_up(console, alloc, files, &mut desk, address, line) {
+    let mut desk = SeatDesk::new(rt, shared, context)
+        .with_reserve(reserve)
+        .with_journal(link);
+    match start_up(console, alloc, files, &mut desk, address, is_new, line) {
         Ok(()) => {
-            serve_connections(rt, alloc, shared, acceptor, line, desk, contexts, parts);
+            serve_connections(
+                rt, alloc, shared, acceptor, line, desk, handle, contexts, parts,
+            );
             outcome(line, address, ended_of(rt, acceptor))
         }
         Err(fault) => {
@@ -265,6 +379,38 @@ fn run<
             parts.put(desk.into_context());
             Err(fault)
         }
+    }
+}
+
+/// The link of desks to a journal's file, if the node has one.
+fn link_of<'a>(
+    journal: &'a Option<DiskJournal<FileShelf>>,
+    acceptor: &'a Acceptor<'a>,
+) -> Option<JournalLink<'a>> {
+    match journal {
+        Some(journal) => Some(JournalLink {
+            journal,
+            sockets: acceptor.endpoint().sockets,
+        }),
+        None => None,
+    }
+}
+
+/// Writes what is left of the journal to its file, if the node has one, and puts it on the device.
+fn finish<'l, B: NodeBrand, R: Wait>(
+    rt: &R,
+    shared: &Shared<B>,
+    journal: &Option<DiskJournal<FileShelf>>,
+    line: &Serve<'l>,
+) -> Result<(), JobFault<'l>>
+    ensures fault { IfErr result (IsOfPort line.now.port) }
+{
+    let (Some(journal), Some(name)) = (journal, line.journal) else {
+        return Ok(());
+    };
+    match journal.finish(rt, shared) {
+        Ok(()) => Ok(()),
+        Err(why) => Err(write_fault(name, why)),
     }
 }
 
@@ -295,7 +441,7 @@ fn queues_of(line: &Serve) -> usize {
     usize::from(line.schedulers) + usize::from(line.clients)
 }
 
-/// Serves the connections to a listener with a new node, and closes the node. `Mismatch` where the thread contexts aren't all of the
+/// Serves the connections to a listener with a node, which is new or comes back from its journal's file, and closes the node. `Mismatch` where the thread contexts aren't all of the
 /// node's, `ProcessesOut` where a worker didn't commit a process that it had checked out, `NoMemory` where memory is refused for the pids
 /// that are left in the queues. The closed node, which is given back if all went well, shows that it was closed.
 fn serve_node<
@@ -311,27 +457,56 @@ fn serve_node<
     unbranded: UnbrandedKeeper,
     queues: queue::UnbrandedQueues,
     endpoint: Endpoint<'_>,
+    opened: Option<OpenJournal>,
     files: &mut F,
     line: &Serve<'l>,
 ) -> Result<ClosedNode<B>, JobFault<'l>>
     requires node { unbranded ≡ B.table }
     requires queues { queues ≡ B.deques }
     requires limit { B.limit ≡ min line.now.journal_limit most_entries }
+    requires at_first { IfSome opened (λ o. HasRead o.reader []) }
     ensures fault { IfErr result (IsOfPort line.now.port) }
 {
     let mut node = Node::<B>::with_limit(alloc, unbranded, limit_of(line));
-    let Ok(mut parts) = SeatsAndQueues::with_room(alloc, queues_of(line)) else {
-        return Err(JobFault::NoMemory);
-    };
-    let contexts = contexts_of(alloc, &mut node, queues, line)?;
+    let Beginning {
+        seats,
+        journal,
+        handle,
+    } = begin(rt, alloc, &mut node, opened, line)?;
+    let (contexts, mut parts) = contexts_of(alloc, &mut node, queues, seats, line)?;
+    let is_new = node.entered() == 0;
     let shared = Shared::new(alloc, node);
     let acceptor = Acceptor::new(endpoint, line.connections);
+    let link = link_of(&journal, &acceptor);
     let ended = run(
-        rt, console, alloc, &shared, &acceptor, files, line, contexts, &mut parts,
+        rt, console, alloc, &shared, &acceptor, files, is_new, line, link, handle, contexts,
+        &mut parts,
     );
+    let written = finish(rt, &shared, &journal, line);
     let closed = closed(rt, alloc, shared.into_node(), parts, line);
-    match ended {
-        Ok(()) => closed,
+    match written {
+        Ok(()) => match ended {
+            Ok(()) => closed,
+            Err(fault) => Err(fault),
+        },
+        Err(fault) => Err(fault),
+    }
+}
+
+/// Opens the file of the node's journal, if the line names one.
+fn opened<'l, R: rt::Files<File = File> + Clock>(
+    rt: &R,
+    alloc: Global,
+    line: &Serve<'l>,
+) -> Result<Option<OpenJournal>, JobFault<'l>>
+    ensures at_first { IfOk result (λ opened. IfSome opened (λ o. HasRead o.reader [])) }
+    ensures fault { IfErr result (IsOfPort line.now.port) }
+{
+    let Some(name) = line.journal else {
+        return Ok(None);
+    };
+    match open_journal(rt, alloc, name) {
+        Ok(opened) => Ok(Some(opened)),
         Err(fault) => Err(fault),
     }
 }
@@ -349,6 +524,11 @@ fn net_failed<'l>(line: &Serve<'l>, error: &Error) -> JobFault<'l>
 /// that are served are shut once the commands that were read from them are answered, the workers end after the slice that they have, and
 /// the node is closed with all its thread contexts. A thread that can't be made is logged as a warning, and the others serve.
 ///
+/// A line that names a file for the journal has a node that comes back: the file is opened before all else, and locked; its entries are
+/// entered before the address is printed, and the files and the process of the line are left out where there were any. An answer is told
+/// once the file has what it tells of, on the device or not, as the line says; where it can't be written the connections are cut off first.
+///
+/// - `Journal` where the journal's file isn't opened, read or written;
 /// - `File` where a file isn't loaded, `Start` and `LongName` where the process isn't started: no connection is accepted then;
 /// - `Net` where listening or accepting fails;
 /// - `JournalFull` where the journal is full and the line asks to end then, or has no room for what the node begins with;
@@ -359,13 +539,14 @@ pub fn serve<
         + Threads
         + Wait
         + Clock
-        + rt::Files
+        + rt::Files<File = File>
         + AllocGlobal
         + Sync,
     C: Print + Clock + Sync,
 >(rt: &R, console: &C, lines: &LogLines, line: &Serve<'l>) -> Result<(), JobFault<'l>>
     ensures fault { IfErr result (IsOfPort line.now.port) }
 {
+    let opened = opened(rt, rt.alloc(), line)?;
     let Ok(unbranded) = UnbrandedKeeper::new(rt.alloc()) else {
         return Err(JobFault::NoMemory);
     };
@@ -402,6 +583,7 @@ pub fn serve<
         unbranded,
         queues,
         endpoint,
+        opened,
         &mut FileSystem(rt),
         line,
     ) {

@@ -4,19 +4,21 @@ use Rattle.clap.specs.Words.{Text}
 use Rattle.beam_tools.specs.Prelude.{IfDone, IfLeft, IsService, CallLine, Line, call, line_of}
 use Rattle.beam_tools.specs.declared.fault.RunFault.{RunFault}
 use Rattle.beam_tools.specs.declared.job.Job.{Job}
-use Rattle.beam_tools.specs.declared.job.Job.TheVariants.{Done, Pipe, Serve}
+use Rattle.beam_tools.specs.declared.job.Job.TheVariants.{Done, Pipe, Replay, Serve}
 
 -- a statement of the status implies a weaker one
 pub each_done : (job : Job) (P Q : ℕ → Type 0) → ((status : ℕ) → P status → Q status) → IfDone job P → IfDone job Q
 each_done (Done status) P Q more h = more status h
 each_done Pipe P Q more h = tt
 each_done (Serve line) P Q more h = tt
+each_done (Replay line) P Q more h = tt
 
 -- what holds anyway holds where a job is left
 pub always_left : (job : Job) (P : Type 0) → P → IfLeft job (λ line. P)
 always_left (Done status) P p = tt
 always_left Pipe P p = p
 always_left (Serve line) P p = p
+always_left (Replay line) P p = p
 
 -- ---- where all that is asked for is printed
 

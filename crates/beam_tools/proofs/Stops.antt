@@ -3,7 +3,7 @@ use Rattle.std.proofs.Common.{◌≡◌, ◌∙◌, ◌⊎◌, ap, codes, inl, i
 use Rattle.clap.specs.Words.{App, IsAmong, Row, Text, fault_of, matches_of, subcommand_of}
 use Rattle.clap.specs.declared.error.kind.ErrorKind.{ErrorKind}
 use Rattle.clap.specs.declared.error.kind.ErrorKind.TheVariants as kind
-use Rattle.beam_tools.specs.Prelude.{IsNoLine, NamesStop, OptionsStop, ServeStops, StopSays, StopsBy, call_in, line_in, node_app}
+use Rattle.beam_tools.specs.Prelude.{IsNoLine, NamesStop, OptionsStop, ServeStops, StopSays, StopsBy, call_in, line_in, node_app, replay_in}
 use Rattle.beam_tools.specs.declared.early_exit.EarlyExit.{EarlyExit}
 use Rattle.beam_tools.specs.declared.early_exit.EarlyExit.TheVariants as stop
 use Rattle.beam_tools.specs.declared.early_exit.Wrong.TheVariants as wrong
@@ -34,6 +34,8 @@ stop_said app words k (stop.Wrong (wrong.LongFunction name)) h is = absurd is
 stop_said app words k (stop.Wrong (wrong.NoList text)) h is = absurd is
 stop_said app words k (stop.Wrong (wrong.NoLevel text)) h is = absurd is
 stop_said app words k (stop.Wrong (wrong.NoStart text)) h is = absurd is
+stop_said app words k (stop.Wrong (wrong.NoSync text)) h is = absurd is
+stop_said app words k (stop.Wrong wrong.StopsWithJournal) h is = absurd is
 stop_said app words k stop.NoMemory h is = tt
 
 -- `call` was entered with matches that make no line
@@ -45,6 +47,8 @@ call_stops entered rows stop.NoMemory is h = tt
 call_stops entered rows (stop.Wrong wrong.NoCommand) is h = ap (option_and_then line_in) is ∙ h
 call_stops entered rows (stop.Wrong (wrong.NoLevel text)) is h = absurd h
 call_stops entered rows (stop.Wrong (wrong.NoStart text)) is h = absurd h
+call_stops entered rows (stop.Wrong (wrong.NoSync text)) is h = absurd h
+call_stops entered rows (stop.Wrong wrong.StopsWithJournal) is h = absurd h
 call_stops entered rows (stop.Wrong (wrong.Words text)) is h = absurd h
 call_stops entered rows (stop.Wrong wrong.NoText) is h = absurd h
 call_stops entered rows (stop.Wrong wrong.NoFile) is h = absurd h
@@ -62,6 +66,8 @@ serve_stops entered rows stop.NoMemory is h = tt
 serve_stops entered rows (stop.Wrong wrong.NoCommand) is h = ap (option_and_then line_in) is ∙ h
 serve_stops entered rows (stop.Wrong (wrong.NoLevel text)) is h = (rows, is, h)
 serve_stops entered rows (stop.Wrong (wrong.NoStart text)) is h = (rows, is, h)
+serve_stops entered rows (stop.Wrong (wrong.NoSync text)) is h = (rows, is, h)
+serve_stops entered rows (stop.Wrong wrong.StopsWithJournal) is h = (rows, is, h)
 serve_stops entered rows (stop.Wrong (wrong.Words text)) is h = absurd h
 serve_stops entered rows (stop.Wrong wrong.NoText) is h = absurd h
 serve_stops entered rows (stop.Wrong wrong.NoFile) is h = absurd h
@@ -69,6 +75,25 @@ serve_stops entered rows (stop.Wrong (wrong.Same name)) is h = absurd h
 serve_stops entered rows (stop.Wrong (wrong.LongModule name)) is h = absurd h
 serve_stops entered rows (stop.Wrong (wrong.LongFunction name)) is h = absurd h
 serve_stops entered rows (stop.Wrong (wrong.NoList text)) is h = absurd h
+
+-- `replay` was entered with matches that make no line
+pub replay_stops : (entered : Option (Text × List Row)) (rows : List Row) (s : EarlyExit) → entered ≡ Some (codes "replay", rows) → IsNoLine (replay_in rows) s
+    → OptionsStop entered s
+replay_stops entered rows stop.Help is h = absurd h
+replay_stops entered rows stop.Version is h = absurd h
+replay_stops entered rows stop.NoMemory is h = tt
+replay_stops entered rows (stop.Wrong wrong.NoCommand) is h = ap (option_and_then line_in) is ∙ h
+replay_stops entered rows (stop.Wrong (wrong.NoLevel text)) is h = absurd h
+replay_stops entered rows (stop.Wrong (wrong.NoStart text)) is h = absurd h
+replay_stops entered rows (stop.Wrong (wrong.NoSync text)) is h = absurd h
+replay_stops entered rows (stop.Wrong wrong.StopsWithJournal) is h = absurd h
+replay_stops entered rows (stop.Wrong (wrong.Words text)) is h = absurd h
+replay_stops entered rows (stop.Wrong wrong.NoText) is h = absurd h
+replay_stops entered rows (stop.Wrong wrong.NoFile) is h = absurd h
+replay_stops entered rows (stop.Wrong (wrong.Same name)) is h = absurd h
+replay_stops entered rows (stop.Wrong (wrong.LongModule name)) is h = absurd h
+replay_stops entered rows (stop.Wrong (wrong.LongFunction name)) is h = absurd h
+replay_stops entered rows (stop.Wrong (wrong.NoList text)) is h = absurd h
 
 -- the subcommand that the matches have is the one that the words enter
 pub options_say : (words : List Text) (entered : Option (Text × List Row)) (s : EarlyExit) → entered ≡ subcommand_of node_app words → OptionsStop entered s
@@ -79,6 +104,8 @@ options_say words entered stop.NoMemory is h = tt
 options_say words entered (stop.Wrong wrong.NoCommand) is h = ap (option_and_then line_in) (sym is) ∙ h
 options_say words entered (stop.Wrong (wrong.NoLevel text)) is h = (h.0, sym is ∙ h.1, h.2)
 options_say words entered (stop.Wrong (wrong.NoStart text)) is h = (h.0, sym is ∙ h.1, h.2)
+options_say words entered (stop.Wrong (wrong.NoSync text)) is h = (h.0, sym is ∙ h.1, h.2)
+options_say words entered (stop.Wrong wrong.StopsWithJournal) is h = (h.0, sym is ∙ h.1, h.2)
 options_say words entered (stop.Wrong (wrong.Words text)) is h = absurd h
 options_say words entered (stop.Wrong wrong.NoText) is h = absurd h
 options_say words entered (stop.Wrong wrong.NoFile) is h = absurd h
@@ -97,6 +124,8 @@ names_say app words rows (stop.Wrong wrong.NoFile) is h = subst (λ (rs : List R
 names_say app words rows (stop.Wrong wrong.NoCommand) is h = absurd h
 names_say app words rows (stop.Wrong (wrong.NoLevel text)) is h = absurd h
 names_say app words rows (stop.Wrong (wrong.NoStart text)) is h = absurd h
+names_say app words rows (stop.Wrong (wrong.NoSync text)) is h = absurd h
+names_say app words rows (stop.Wrong wrong.StopsWithJournal) is h = absurd h
 names_say app words rows (stop.Wrong (wrong.Words text)) is h = absurd h
 names_say app words rows (stop.Wrong wrong.NoText) is h = absurd h
 names_say app words rows (stop.Wrong (wrong.LongModule name)) is h = absurd h

@@ -33,6 +33,8 @@ before_word (wrong.LongFunction name) = codes "--function "
 before_word (wrong.NoList text) = codes "--args "
 before_word (wrong.NoLevel text) = codes "--log "
 before_word (wrong.NoStart text) = codes "--start "
+before_word (wrong.NoSync text) = codes "--sync "
+before_word wrong.StopsWithJournal = codes "--stop-when-full and --journal exclude each other"
 
 abbrev pub word_of : WrongLine → List ℕ
 word_of (wrong.Words text) = text.items
@@ -45,6 +47,8 @@ word_of (wrong.LongFunction name) = name.now
 word_of (wrong.NoList text) = text.now
 word_of (wrong.NoLevel text) = text.now
 word_of (wrong.NoStart text) = text.now
+word_of (wrong.NoSync text) = text.now
+word_of wrong.StopsWithJournal = []
 
 abbrev pub after_word : WrongLine → List ℕ
 after_word (wrong.LongModule name) = codes " has more than 255 characters"
@@ -52,6 +56,7 @@ after_word (wrong.LongFunction name) = codes " has more than 255 characters"
 after_word (wrong.NoList text) = codes " is no list of at most 255 terms"
 after_word (wrong.NoLevel text) = codes " is none of error, warn and info"
 after_word (wrong.NoStart text) = codes " is no M:F"
+after_word (wrong.NoSync text) = codes " is none of always, second and no"
 after_word _ = []
 
 -- the message of a fault: `PROGRAM: WHAT`, and the usage after a wrong command line; or how process 1 ended

@@ -6,20 +6,22 @@ use Rattle.clap.specs.Words.{Text}
 use Rattle.beam_machine.specs.declared.event.Refused.{Refused}
 use Rattle.beam_remote.specs.declared.error.SessionFailure.{SessionFailure as SessionWhy}
 use Rattle.beam_tools.specs.Fault.{is_verbose, message_of}
-use Rattle.beam_tools.specs.Names.{newline, refusal_name, session_name}
-use Rattle.beam_tools.specs.Options.{Line, pipe, serve, serve_line}
-use Rattle.beam_tools.specs.Place.{file_place, os_error_line}
+use Rattle.beam_tools.specs.Names.{journal_fault_name, newline, refusal_name, session_name}
+use Rattle.beam_tools.specs.Options.{Line, pipe, replay, replay_line, serve, serve_line}
+use Rattle.beam_tools.specs.Place.{file_place, journal_place, os_error_line}
 use Rattle.beam_tools.specs.declared.fault.RunFault.TheVariants.{File}
 use Rattle.beam_tools.specs.declared.job.Job.{Job}
-use Rattle.beam_tools.specs.declared.job.Job.TheVariants.{Done, Pipe, Serve}
+use Rattle.beam_tools.specs.declared.job.Job.TheVariants.{Done, Pipe, Replay, Serve}
 use Rattle.beam_tools.specs.declared.job.JobFault.{JobFault}
 use Rattle.beam_tools.specs.declared.job.JobFault.TheVariants as fault
+use Rattle.beam_tools.specs.declared.journal_fault.JournalFault.{JournalFault}
 use Rattle.beam_tools.specs.declared.program.Program.TheVariants.{Node}
 
--- a line that asks for a session over the standard streams, or to serve a port
+-- a line that asks for a session over the standard streams, to serve a port, or for a replay
 abbrev pub IsService : Option Line → Type 0
 IsService (Some pipe) = ⊤
 IsService (Some (serve line)) = ⊤
+IsService (Some (replay line)) = ⊤
 IsService _ = ⊥
 
 -- a statement of the status, where nothing is left to be done
@@ -32,6 +34,7 @@ abbrev pub IfLeft : Job → (Line → Type 0) → Type 0
 IfLeft (Done status) P = ⊤
 IfLeft Pipe P = P pipe
 IfLeft (Serve line) P = P (serve (serve_line line))
+IfLeft (Replay line) P = P (replay (replay_line line))
 
 -- the message about a session that stops
 abbrev pub session_message : SessionWhy → List ℕ
@@ -45,6 +48,10 @@ port_message port = codes "beamnode: 127.0.0.1:" ++ decimal port ++ codes ": Net
 abbrev pub start_message : Refused → List ℕ
 start_message refused = codes "beamnode: serve: " ++ refusal_name refused ++ newline
 
+-- the message about a journal's file
+abbrev pub journal_message : JournalFault → List ℕ
+journal_message f = codes "beamnode: " ++ f.name.now ++ codes ": " ++ journal_fault_name f.why ++ newline
+
 -- the message about a job that isn't done to its end
 abbrev pub job_message : JobFault → List ℕ
 job_message (fault.Pipe why os_error) = session_message why
@@ -57,12 +64,14 @@ job_message fault.Mismatch = codes "beamnode: serve: Mismatch\n"
 job_message fault.ProcessesOut = codes "beamnode: serve: ProcessesOut\n"
 job_message fault.Unwritten = codes "beamnode: output: WriteFailed\n"
 job_message fault.NoMemory = codes "beamnode: NoMemory\n"
+job_message (fault.Journal f) = journal_message f
 
--- more about the fault: the operating system's error, or where the fault of a file lies
+-- more about the fault: the operating system's error, or where the fault of a file or of a journal's file lies
 abbrev pub job_place : JobFault → List ℕ
 job_place (fault.Pipe why (Some os_error)) = os_error_line os_error
 job_place (fault.Net port os_error) = os_error_line os_error
 job_place (fault.File f) = file_place [] f.why
+job_place (fault.Journal f) = journal_place f.why
 job_place _ = []
 
 -- the message about a job's fault, and more where the words ask for it

@@ -1,5 +1,5 @@
 -- What command lines ask for, and why a program refuses them.
-use Rattle.std.specs.Prelude.{◌≡◌, ◌≢◌, ◌<◌, ◌⊎◌, ⊤, ℕ, List, Option, Some, None, codes, length, option_and_then}
+use Rattle.std.specs.Prelude.{◌≡◌, ◌≢◌, ◌<◌, ◌⊎◌, ⊤, ℕ, List, Option, Some, None, codes, length, option_and_then, true}
 use Rattle.std.specs.Str.{chars}
 use Rattle.std.specs.Io.KnownBytes.{Appends}
 use Rattle.clap.specs.Words.{App, IsAmong, Row, Text, fault_of, first_of, matches_of, subcommand_of}
@@ -7,7 +7,7 @@ use Rattle.clap.specs.declared.error.kind.ErrorKind.{ErrorKind}
 use Rattle.clap.specs.declared.error.kind.ErrorKind.TheVariants as kind
 use Rattle.beam_term.specs.Prelude.{TermValue}
 use Rattle.beam_tools.specs.Call.{AreArguments}
-use Rattle.beam_tools.specs.Options.{CallLine, Line, call, level_of, line_in, line_of, node_app, serve_in, start_of}
+use Rattle.beam_tools.specs.Options.{CallLine, Line, call, is_stop_set, level_of, line_in, line_of, node_app, serve_in, start_of, sync_of}
 use Rattle.beam_tools.specs.Program.{help_of, version_of}
 use Rattle.beam_tools.specs.declared.fault.RunFault.{RunFault}
 use Rattle.beam_tools.specs.declared.fault.RunFault.TheVariants as fault
@@ -51,6 +51,8 @@ AskWrongly words w = (line : CallLine) × (line_of words ≡ Some (call line)) �
 abbrev pub ServeIsWrong : List Row → Wrong → Type 0
 ServeIsWrong rows (wrong.NoLevel text) = (first_of (codes "log") rows ≡ Some text.now) × (level_of text.now ≡ None)
 ServeIsWrong rows (wrong.NoStart text) = (first_of (codes "start") rows ≡ Some text.now) × (start_of text.now ≡ None)
+ServeIsWrong rows (wrong.NoSync text) = (first_of (codes "sync") rows ≡ Some text.now) × (sync_of text.now ≡ None)
+ServeIsWrong rows wrong.StopsWithJournal = (is_stop_set rows ≡ true) × ((name : Text) × (first_of (codes "journal") rows ≡ Some name))
 ServeIsWrong rows wrong.NoCommand = serve_in rows ≡ None
 ServeIsWrong rows _ = ⊥
 
@@ -74,6 +76,8 @@ WrongSays app words (wrong.LongFunction name) = AskWrongly words (wrong.LongFunc
 WrongSays app words (wrong.NoList text) = AskWrongly words (wrong.NoList text)
 WrongSays app words (wrong.NoLevel text) = AskToServeWrongly words (wrong.NoLevel text)
 WrongSays app words (wrong.NoStart text) = AskToServeWrongly words (wrong.NoStart text)
+WrongSays app words (wrong.NoSync text) = AskToServeWrongly words (wrong.NoSync text)
+WrongSays app words wrong.StopsWithJournal = AskToServeWrongly words wrong.StopsWithJournal
 
 -- what an early exit implies for the words; an allocation failure implies nothing
 abbrev pub StopSays : App → List Text → EarlyExit → Type 0
@@ -107,6 +111,8 @@ abbrev pub OptionsStop : Option (Text × List Row) → EarlyExit → Type 0
 OptionsStop entered (stop.Wrong wrong.NoCommand) = option_and_then line_in entered ≡ None
 OptionsStop entered (stop.Wrong (wrong.NoLevel text)) = EntersWrongly entered (wrong.NoLevel text)
 OptionsStop entered (stop.Wrong (wrong.NoStart text)) = EntersWrongly entered (wrong.NoStart text)
+OptionsStop entered (stop.Wrong (wrong.NoSync text)) = EntersWrongly entered (wrong.NoSync text)
+OptionsStop entered (stop.Wrong wrong.StopsWithJournal) = EntersWrongly entered wrong.StopsWithJournal
 OptionsStop entered stop.NoMemory = ⊤
 OptionsStop entered _ = ⊥
 

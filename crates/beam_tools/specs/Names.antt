@@ -14,6 +14,8 @@ use Rattle.beam_tools.specs.declared.fault.FileFaultKind.{FileFaultKind}
 use Rattle.beam_tools.specs.declared.fault.FileFaultKind.TheVariants as why
 use Rattle.beam_tools.specs.declared.files.ReadError.{ReadError}
 use Rattle.beam_tools.specs.declared.files.ReadError.TheVariants as read
+use Rattle.beam_tools.specs.declared.journal_fault.JournalFaultKind.{JournalFaultKind}
+use Rattle.beam_tools.specs.declared.journal_fault.JournalFaultKind.TheVariants as journal
 
 abbrev pub read_name : ReadError → List ℕ
 read_name (read.ReadFailed os_error) = codes "ReadFailed"
@@ -57,6 +59,18 @@ why_name (why.Syntax line) = codes "Syntax"
 why_name (why.UnknownForm line) = codes "UnknownForm"
 why_name (why.Unassembled e) = assembly_name e
 why_name why.NoMemory = codes "NoMemory"
+
+-- why a journal's file isn't read or written
+abbrev pub journal_fault_name : JournalFaultKind → List ℕ
+journal_fault_name (journal.Unread os_error) = codes "ReadFailed"
+journal_fault_name journal.InUse = codes "JournalInUse"
+journal_fault_name journal.NoJournal = codes "NoJournal"
+journal_fault_name journal.OtherVersion = codes "OtherVersion"
+journal_fault_name (journal.Bad at entry) = codes "BadJournal"
+journal_fault_name journal.Full = codes "JournalFull"
+journal_fault_name (journal.Unwritten os_error) = codes "WriteFailed"
+journal_fault_name (journal.Unsynced os_error) = codes "SyncFailed"
+journal_fault_name journal.Unspelled = codes "Unspelled"
 
 abbrev pub newline : List ℕ
 newline = 10 ∷ []

@@ -8,13 +8,16 @@ use Rattle.clap.specs.ValueTests.{is_unsigned_in}
 use Rattle.clap.specs.Words.{App, Row, Rule, Text, all_of, first_of, new_app, new_rule, one_of, subcommand_of, with_rule, with_subcommand}
 use Rattle.clap.specs.declared.builder.ArgAction.TheVariants.{Append, Set, SetTrue}
 use Rattle.clap.specs.declared.builder.value_parser.ValueParser.TheVariants as vp
-use Rattle.beam_tools.specs.Rules.{verbose_rule, with_version}
+use Rattle.beam_tools.specs.Rules.{positional_rule, verbose_rule, with_version}
 use Rattle.beam_tools.specs.declared.line.Call.{Call as CallOptions}
 use Rattle.beam_tools.specs.declared.line.LogLevel.{LogLevel}
 use Rattle.beam_tools.specs.declared.line.LogLevel.TheVariants.{Error, Info, Warn}
 use Rattle.beam_tools.specs.declared.line.Options.{Options}
+use Rattle.beam_tools.specs.declared.line.Replay.{Replay as ReplayOptions}
 use Rattle.beam_tools.specs.declared.line.Serve.{Serve as ServeOptions}
 use Rattle.beam_tools.specs.declared.line.Start.{Start}
+use Rattle.beam_tools.specs.declared.line.SyncMode.{SyncMode}
+use Rattle.beam_tools.specs.declared.line.SyncMode.TheVariants.{Always, No, Second}
 use Rattle.beam_tools.specs.declared.line.Options.TheVariants as options
 use Rattle.beam_tools.specs.declared.serve_options.ServeNumbers.{ServeNumbers}
 
@@ -90,6 +93,14 @@ journal_rule = record (option_rule (codes "journal-limit")) {
   parser = Some (vp.Signed (pos 1) (pos 16777216));
 }
 
+-- `--journal FILE`
+abbrev pub journal_file_rule : Rule
+journal_file_rule = option_rule (codes "journal")
+
+-- `--sync WHEN`, `second` where it is left out
+abbrev pub sync_rule : Rule
+sync_rule = record (option_rule (codes "sync")) { defaults = codes "second" ∷ [] }
+
 -- `--start M:F`
 abbrev pub start_rule : Rule
 start_rule = option_rule (codes "start")
@@ -116,9 +127,23 @@ port_app =
     with_rule (with_rule (with_rule (with_rule (with_rule (new_app (codes "serve")) verbose_rule) port_rule) connections_rule) clients_rule)
     schedulers_rule
 
+-- then come those about its log and its journal
+abbrev pub journal_app : App
+journal_app =
+    with_rule (with_rule (with_rule (with_rule (with_rule (with_rule port_app log_rule) idle_rule) stop_rule) journal_rule) journal_file_rule) sync_rule
+
 abbrev pub serve_app : App
-serve_app =
-    with_rule (with_rule (with_rule (with_rule (with_rule (with_rule port_app log_rule) idle_rule) stop_rule) journal_rule) start_rule) more_files_rule
+serve_app = with_rule (with_rule journal_app start_rule) more_files_rule
+
+-- `--upto N`, a number of 32 bits, the greatest where it is left out
+abbrev pub upto_rule : Rule
+upto_rule = record (option_rule (codes "upto")) {
+  defaults = codes "4294967295" ∷ [];
+  parser = Some (vp.Signed (pos 0) (pos 4294967295));
+}
+
+abbrev pub replay_app : App
+replay_app = with_rule (with_rule (with_rule (new_app (codes "replay")) verbose_rule) upto_rule) (positional_rule (codes "file"))
 
 -- the command `beamnode` without its subcommands
 abbrev pub top_app : App
@@ -126,7 +151,7 @@ top_app = with_rule (with_version (new_app (codes "beamnode"))) verbose_rule
 
 -- the command `beamnode`
 abbrev pub node_app : App
-node_app = with_subcommand (with_subcommand (with_subcommand top_app call_app.top) pipe_app.top) serve_app.top
+node_app = with_subcommand (with_subcommand (with_subcommand (with_subcommand top_app call_app.top) pipe_app.top) serve_app.top) replay_app.top
 
 -- ---- what a line asks for
 
@@ -145,7 +170,8 @@ pub record StartLine : Type 0 where
 
 -- the arguments of `serve`: the port; how many connections are served, 0 for no end, and how many at once; how many scheduler threads run;
 -- how much is logged; the seconds after which a silent session ends, 0 for never; whether the node ends when its journal is full; how many
--- entries the journal may have; the files to load; and the function with which a process starts then
+-- entries the journal may have; the files to load; the function with which a process starts then; the file that keeps the journal, and
+-- when it is put on the device
 pub record ServeLine : Type 0 where
   pub port : ℕ
   pub connections : ℕ
@@ -157,11 +183,19 @@ pub record ServeLine : Type 0 where
   pub journal_limit : ℕ
   pub files : List Text
   pub start : Option StartLine
+  pub journal : Option Text
+  pub sync : SyncMode
+
+-- the arguments of `replay`: the journal's file, and the number of the entry before which the replay ends
+pub record ReplayLine : Type 0 where
+  pub file : Text
+  pub upto : ℕ
 
 pub data Line : Type 0 where
   call : CallLine → Line
   pipe : Line
   serve : ServeLine → Line
+  replay : ReplayLine → Line
 
 -- the number that a decimal text writes, if it is at most the greatest
 abbrev pub number_up_to : ℕ → Text → Option ℕ
@@ -244,12 +278,30 @@ start_given (Some text) = option_map Some (start_of text)
 abbrev pub start_in : List Row → Option (Option StartLine)
 start_in rows = start_given (first_of (codes "start") rows)
 
+-- the file that keeps the journal, where one is given; no service has one that ends when its journal is full
+abbrev pub journal_given : Bool → Option Text → Option (Option Text)
+journal_given stops None = Some None
+journal_given false (Some name) = Some (Some name)
+journal_given true (Some name) = None
+
+abbrev pub journal_in : List Row → Option (Option Text)
+journal_in rows = journal_given (is_stop_set rows) (first_of (codes "journal") rows)
+
+-- when answers are told and the journal's file is put on the device, by its word
+abbrev pub sync_of : Text → Option SyncMode
+sync_of text = if bytes_eq text (codes "always") then Some Always
+    else (if bytes_eq text (codes "second") then Some Second else (if bytes_eq text (codes "no") then Some No else None))
+
+abbrev pub sync_in : List Row → Option SyncMode
+sync_in rows = option_and_then sync_of (first_of (codes "sync") rows)
+
 abbrev pub files_in : List Row → List Text
 files_in rows = unwrap_or (all_of (codes "file") rows) []
 
 -- a service with these parts, if each of them is there
-abbrev pub serve_with : Option ServeNumbers → Option LogLevel → Option (Option StartLine) → Bool → List Text → Option Line
-serve_with (Some n) (Some log) (Some start) stops files = Some (serve (record {
+abbrev pub serve_with :
+    Option ServeNumbers → Option LogLevel → Option (Option StartLine) → Option (Option Text) → Option SyncMode → Bool → List Text → Option Line
+serve_with (Some n) (Some log) (Some start) (Some journal) (Some sync) stops files = Some (serve (record {
   port = n.port;
   connections = n.connections;
   clients = n.clients;
@@ -260,17 +312,29 @@ serve_with (Some n) (Some log) (Some start) stops files = Some (serve (record {
   journal_limit = n.journal_limit;
   files = files;
   start = start;
+  journal = journal;
+  sync = sync;
 }))
-serve_with _ _ _ _ _ = None
+serve_with _ _ _ _ _ _ _ = None
 
 -- the service in the matches of `serve`
 abbrev pub serve_in : List Row → Option Line
-serve_in rows = serve_with (numbers_in rows) (log_in rows) (start_in rows) (is_stop_set rows) (files_in rows)
+serve_in rows = serve_with (numbers_in rows) (log_in rows) (start_in rows) (journal_in rows) (sync_in rows) (is_stop_set rows) (files_in rows)
+
+-- a replay with these parts, if each of them is there
+abbrev pub replay_with : Option Text → Option ℕ → Option Line
+replay_with (Some file) (Some upto) = Some (replay (record { file = file; upto = upto }))
+replay_with _ _ = None
+
+-- the replay in the matches of `replay`
+abbrev pub replay_in : List Row → Option Line
+replay_in rows = replay_with (first_of (codes "file") rows) (option_and_then number_of (one_of (codes "upto") rows))
 
 -- the line in the matches of a subcommand
 abbrev pub line_in : Text × List Row → Option Line
 line_in (name, rows) = if bytes_eq name (codes "call") then call_in rows
-    else (if bytes_eq name (codes "pipe") then Some pipe else (if bytes_eq name (codes "serve") then serve_in rows else None))
+    else (if bytes_eq name (codes "pipe") then Some pipe
+    else (if bytes_eq name (codes "serve") then serve_in rows else (if bytes_eq name (codes "replay") then replay_in rows else None)))
 
 -- the line for which the words ask, if the command takes them
 abbrev pub line_of : List Text → Option Line
@@ -302,9 +366,15 @@ serve_line s = record {
   journal_limit = s.journal_limit;
   files = map (λ s. s.now) s.files.items;
   start = option_map start_line s.start;
+  journal = option_map (λ s. s.now) s.journal;
+  sync = s.sync;
 }
+
+abbrev pub replay_line : ReplayOptions → ReplayLine
+replay_line r = record { file = r.file.now; upto = r.upto }
 
 abbrev pub as_line : Options → Line
 as_line (options.Call c) = call (call_line c)
 as_line options.Pipe = pipe
 as_line (options.Serve s) = serve (serve_line s)
+as_line (options.Replay r) = replay (replay_line r)

@@ -10,6 +10,8 @@ use Rattle.beam_tools.specs.declared.fault.RunFault.TheVariants.{Exit, File, Wro
 use Rattle.beam_tools.specs.declared.fault.FileFaultKind.{FileFaultKind}
 use Rattle.beam_tools.specs.declared.fault.FileFaultKind.TheVariants.{BadFile, Syntax, UnknownForm, Unread, Unwritten}
 use Rattle.beam_tools.specs.declared.files.ReadError.TheVariants.{ReadFailed}
+use Rattle.beam_tools.specs.declared.journal_fault.JournalFaultKind.{JournalFaultKind}
+use Rattle.beam_tools.specs.declared.journal_fault.JournalFaultKind.TheVariants as journal
 use Rattle.beam_tools.specs.declared.os_error.OsError.{OsError}
 use Rattle.beam_tools.specs.declared.early_exit.Wrong.{Wrong as WrongLine}
 use Rattle.beam_tools.specs.declared.early_exit.Wrong.TheVariants.{Words}
@@ -84,6 +86,18 @@ file_place text (UnknownForm n) = text_line n text
 file_place text (BadFile (Code (UnsupportedOpcode opcode at))) = opcode_line opcode at
 file_place text (BadFile (Code (BadOperand at))) = operand_line at
 file_place text _ = []
+
+-- the byte of a journal's file at which a bad block begins, and the number of a bad entry
+abbrev pub bad_line : ℕ → ℕ → List ℕ
+bad_line at entry = (codes "  byte " ++ decimal at) ++ (codes ", entry " ++ decimal entry) ++ newline
+
+-- more about the fault of a journal's file: the operating system's error, or where the fault lies
+abbrev pub journal_place : JournalFaultKind → List ℕ
+journal_place (journal.Unread os_error) = os_error_line os_error
+journal_place (journal.Unwritten os_error) = os_error_line os_error
+journal_place (journal.Unsynced os_error) = os_error_line os_error
+journal_place (journal.Bad at entry) = bad_line at entry
+journal_place _ = []
 
 -- where a fault lies, or nothing where that isn't known; of an exit, the lines about the end of process 1
 abbrev pub place_text : List ℕ → RunFault → List ℕ

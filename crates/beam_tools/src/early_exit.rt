@@ -22,6 +22,10 @@ pub enum Wrong<'a> {
     NoLevel(&'a str),
     /// Text that isn't a module's and a function's name with a colon between.
     NoStart(&'a str),
+    /// Text that names no time at which a journal's file is put on the device.
+    NoSync(&'a str),
+    /// A node that ends when its journal is full is to keep the journal in a file.
+    StopsWithJournal,
 }
 
 impl Drop for Wrong<'_> {
@@ -36,7 +40,9 @@ impl Drop for Wrong<'_> {
             | Wrong::LongFunction(_)
             | Wrong::NoList(_)
             | Wrong::NoLevel(_)
-            | Wrong::NoStart(_) => {}
+            | Wrong::NoStart(_)
+            | Wrong::NoSync(_)
+            | Wrong::StopsWithJournal => {}
         }
     }
 }

@@ -4,14 +4,15 @@ ghost use Rattle.std.specs.Io.KnownBytes.{append_known};
 ghost use Rattle.clap.specs.Walk.{texts};
 ghost use Rattle.beam_machine.specs.declared.event.Event.TheVariants.{Spawn};
 ghost use Rattle.beam_tools.specs.Job.{NamingSays, StartingSays, job_message, job_place, job_text};
-ghost use Rattle.beam_tools.specs.Job.{port_message, session_message, start_message};
+ghost use Rattle.beam_tools.specs.Job.{journal_message, port_message, session_message, start_message};
 ghost use Rattle.beam_tools.specs.Names.{session_name};
 
-use crate::errors::{Errors, tell_three};
+use crate::errors::{Errors, tell_three, tell_two};
 use crate::fault::{FileFault, refusal_name};
-use crate::line::{Serve, Start};
+use crate::journal_fault::JournalFault;
+use crate::line::{Replay, Serve, Start};
 use crate::os_error::OsError;
-use crate::place::{tell_file_place, tell_os_error};
+use crate::place::{tell_file_place, tell_journal_place, tell_os_error};
 use crate::program::Program;
 use crate::report::{is_verbose, tell_file};
 use beam_image::Image;
@@ -30,6 +31,8 @@ pub enum Job<'a> {
     Pipe,
     /// The commands of connections to a port are answered.
     Serve(Serve<'a>),
+    /// The entries of a journal's file are run again.
+    Replay(Replay<'a>),
 }
 
 /// Why a job that was left isn't done to its end.
@@ -55,6 +58,8 @@ pub enum JobFault<'a> {
     Unwritten,
     /// Memory was refused.
     NoMemory,
+    /// The journal's file can't be read or written.
+    Journal(JournalFault<'a>),
 }
 
 fn session_name(why: SessionFailure) -> &'static str
@@ -99,6 +104,13 @@ fn tell_start<E: Errors>(refused: Refused, errors: &mut E)
     );
 }
 
+fn tell_journal<E: Errors>(fault: &JournalFault<'_>, errors: &mut E)
+    ensures { E.told errors.new ≡ append_known (E.told errors.old) (journal_message fault.now) }
+{
+    tell_three(b"beamnode: ", fault.name.as_bytes(), b": ", errors);
+    tell_two(fault.why.name().as_bytes(), b"\n", errors);
+}
+
 fn tell_fault<E: Errors>(fault: &JobFault<'_>, errors: &mut E)
     ensures { E.told errors.new ≡ append_known (E.told errors.old) (job_message fault.now) }
 {
@@ -113,6 +125,7 @@ fn tell_fault<E: Errors>(fault: &JobFault<'_>, errors: &mut E)
         JobFault::ProcessesOut => errors.tell(b"beamnode: serve: ProcessesOut\n"),
         JobFault::Unwritten => errors.tell(b"beamnode: output: WriteFailed\n"),
         JobFault::NoMemory => errors.tell(b"beamnode: NoMemory\n"),
+        JobFault::Journal(journal) => tell_journal(journal, errors),
     }
 }
 
@@ -124,6 +137,7 @@ fn tell_cause<E: Errors>(fault: &JobFault<'_>, errors: &mut E)
         JobFault::Pipe(_, Some(os_error)) => tell_os_error(*os_error, errors),
         JobFault::Net(_, os_error) => tell_os_error(*os_error, errors),
         JobFault::File(file) => tell_file_place(file.why, &[], errors),
+        JobFault::Journal(journal) => tell_journal_place(journal.why, errors),
         _ => {}
     }
 }

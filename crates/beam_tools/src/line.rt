@@ -9,6 +9,8 @@ pub enum Options<'a> {
     Pipe,
     /// Answer the commands of connections to a port.
     Serve(Serve<'a>),
+    /// Run the entries of a journal's file again.
+    Replay(Replay<'a>),
 }
 
 /// The options of `beamnode call`.
@@ -48,6 +50,17 @@ pub enum LogLevel {
     Info,
 }
 
+/// When the answer to a command is told, where the node keeps its journal in a file, and when the file is put on the device.
+#[derive(Clone, Copy, Debug, PartialEq, Eq)]
+pub enum SyncMode {
+    /// At once. The system puts the file on the device when it does.
+    No,
+    /// Once the command's entries stand in the file, which is put on the device once a second.
+    Second,
+    /// Once the command's entries are on the device.
+    Always,
+}
+
 /// A function without arguments that a process starts with.
 #[derive(Clone, Copy)]
 pub struct Start<'a> {
@@ -79,6 +92,10 @@ pub struct Serve<'a> {
     pub files: Vec<&'a str>,
     /// The function with which a process starts, once the files are loaded.
     pub start: Option<Start<'a>>,
+    /// The name of the file that keeps the journal, if any.
+    pub journal: Option<&'a str>,
+    /// When answers are told, and when the journal's file is put on the device. Without such a file it says nothing.
+    pub sync: SyncMode,
 }
 
 impl Drop for Serve<'_> {
@@ -94,6 +111,17 @@ impl Drop for Serve<'_> {
             journal_limit: _journal_limit,
             files: _files,
             start: _start,
+            journal: _journal,
+            sync: _sync,
         } = self;
     }
+}
+
+/// The options of `beamnode replay`.
+#[derive(Clone, Copy)]
+pub struct Replay<'a> {
+    /// The name of the journal's file.
+    pub file: &'a str,
+    /// The number of the entry before which the replay ends.
+    pub upto: u32,
 }

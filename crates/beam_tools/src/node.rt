@@ -1,4 +1,4 @@
-//! The program `beamnode`, over files and two writers. Jobs that need streams or sockets are left to the caller.
+//! The program `beamnode`, over files and two writers. Jobs that need streams, sockets or a journal's file are left to the caller.
 ghost use Rattle.std.specs.Prelude.{◌≡◌, ◌≢◌, ◌<◌, ◌↔◌, ◌⊎◌, [], Err, IfErr, IfOk, IsTrue, OnOk, Ok, Some};
 ghost use Rattle.beam_term.specs.TermValue.{TermValue};
 ghost use Rattle.std.specs.Io.KnownBytes.{Appends};
@@ -186,13 +186,14 @@ fn give<'a, F: Files, O: Write>(
         Ok(Options::Call(call)) => done(print_call(alloc, &call, is_verbose(words), files, output)),
         Ok(Options::Pipe) => Ok(Job::Pipe),
         Ok(Options::Serve(line)) => Ok(Job::Serve(line)),
+        Ok(Options::Replay(line)) => Ok(Job::Replay(line)),
         Err(stop) => done(answer(Program::Node, stop, output)),
     }
 }
 
 /// Runs the program by its words, of which the first is its name. It answers what is left to be done: of `call`, of a wrong line and of one
-/// that asks for the help or the version, nothing but the program's status; of `pipe` and `serve` all, as the words ask for it. For these
-/// two no file is touched, and nothing is written. (`job_status` reports how a job ended that was left.)
+/// that asks for the help or the version, nothing but the program's status; of `pipe`, `serve` and `replay` all, as the words ask for it.
+/// For these three no file is touched, and nothing is written. (`job_status` reports how a job ended that was left.)
 ///
 /// - 0: process 1 ended with the reason `normal`; its value was printed, with a newline. Or the help or the version
 ///   was, where the words ask for it.

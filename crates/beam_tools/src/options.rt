@@ -8,6 +8,7 @@ ghost use Rattle.beam_tools.specs.Options.{as_line, call_in, line_in, line_of, n
 use crate::command::{parse, text_of};
 use crate::early_exit::{EarlyExit, Wrong};
 use crate::line::{Call, Options};
+use crate::replay_options::{REPLAY, replay_in};
 use crate::serve_options::{SERVE, serve_in};
 use crate::table::{
     ArgumentForm, ArgumentRow, CommandTable, OPTION, POSITIONAL, SubcommandRow, VERBOSE,
@@ -67,14 +68,18 @@ const TABLE: CommandTable = CommandTable {
             name: "serve",
             arguments: &SERVE,
         },
+        SubcommandRow {
+            name: "replay",
+            arguments: &REPLAY,
+        },
     ],
 };
 
 /// What the words ask for. The first of them is the program's name.
 ///
 /// `Wrong` where the command doesn't take the words: an unknown or a repeated name, a missing one, a number of steps that doesn't fit 32
-/// bits, no file for `call`, an impossible value for `serve`; or where they name no subcommand. `Help` and `Version` where they ask for
-/// them, and `NoMemory`.
+/// bits, no file for `call` or `replay`, an impossible value for `serve` or `replay`; or where they name no subcommand. `Help` and
+/// `Version` where they ask for them, and `NoMemory`.
 pub fn options<'a>(alloc: Global, words: &'a [&'a str]) -> Result<Options<'a>, EarlyExit<'a>>
     ensures told { IfOk result (λ o. line_of (texts words.entry.now) ≡ Some (as_line o)) }
     ensures taken { IfOk result (λ _. fault_of node_app (texts words.entry.now) ≡ []) }
@@ -95,6 +100,7 @@ fn options_in<'a>(alloc: Global, matches: &ArgMatches<'a>) -> Result<Options<'a>
         Some(("call", inner)) => call_in(alloc, inner),
         Some(("pipe", _)) => Ok(Options::Pipe),
         Some(("serve", inner)) => serve_in(alloc, inner),
+        Some(("replay", inner)) => replay_in(inner),
         _ => Err(EarlyExit::Wrong(Wrong::NoCommand)),
     }
 }

@@ -1,13 +1,15 @@
 //! Where faults lie.
-ghost use Rattle.std.specs.Prelude.{◌≡◌};
+ghost use Rattle.std.specs.Prelude.{◌≡◌, ◌++◌};
+ghost use Rattle.std.specs.Fmt.{decimal};
 ghost use Rattle.std.specs.Io.KnownBytes.{append_known};
-ghost use Rattle.beam_tools.specs.Place.{after_mark, byte_text, culprit, file_place, line_in, opcode_line, operand_line};
-ghost use Rattle.beam_tools.specs.Place.{place_text, os_error_line, text_line, up_to, word_line};
+ghost use Rattle.beam_tools.specs.Place.{after_mark, bad_line, byte_text, culprit, file_place, journal_place, line_in, opcode_line};
+ghost use Rattle.beam_tools.specs.Place.{operand_line, place_text, os_error_line, text_line, up_to, word_line};
 
 use crate::early_exit::Wrong;
 use crate::errors::{Errors, tell_three, tell_two};
 use crate::fault::{FileFaultKind, RunFault};
 use crate::files::ReadError;
+use crate::journal_fault::JournalFaultKind;
 use crate::os_error::OsError;
 use beam_code::CodeError;
 use beam_disasm::FileError;
@@ -136,6 +138,37 @@ pub fn tell_file_place<E: Errors>(why: FileFaultKind, text: &[u8], errors: &mut 
         FileFaultKind::BadFile(FileError::Code(CodeError::BadOperand(at))) => tell_operand(
             at, errors,
         ),
+        _ => {}
+    }
+}
+
+// Writes a text, and a number after it.
+fn tell_number<E: Errors>(before: &[u8], number: u64, errors: &mut E)
+    ensures { E.told errors.new ≡ append_known (E.told errors.old) (before.now ++ decimal number) }
+{
+    let mut digits = Buffer::new();
+    let number_text = digits.format(number).as_bytes();
+    tell_two(before, number_text, errors);
+}
+
+fn tell_bad<E: Errors>(at: u64, entry: u64, errors: &mut E)
+    ensures { E.told errors.new ≡ append_known (E.told errors.old) (bad_line at entry) }
+{
+    tell_number(b"  byte ", at, errors);
+    tell_number(b", entry ", entry, errors);
+    errors.tell(b"\n");
+}
+
+/// Writes more about the fault of a journal's file, as a line: the operating system's error, or the byte at which the bad block begins,
+/// and the number of the bad entry. Writes nothing where there is no more.
+pub fn tell_journal_place<E: Errors>(why: JournalFaultKind, errors: &mut E)
+    ensures { E.told errors.new ≡ append_known (E.told errors.old) (journal_place why) }
+{
+    match why {
+        JournalFaultKind::Unread(os_error)
+        | JournalFaultKind::Unwritten(os_error)
+        | JournalFaultKind::Unsynced(os_error) => tell_os_error(os_error, errors),
+        JournalFaultKind::Bad { at, entry } => tell_bad(at, entry, errors),
         _ => {}
     }
 }

@@ -43,12 +43,15 @@ usage: beamnode [-v] call --module M --function F [--args LIST] [--steps N] FILE
        beamnode [-v] pipe
        beamnode [-v] serve --port P [--connections K] [--clients C]
                 [--schedulers N] [--log LEVEL] [--idle SECONDS]
-                [--stop-when-full] [--journal-limit N] [--start M:F] [FILE..]
+                [--stop-when-full] [--journal-limit N] [--journal FILE]
+                [--sync WHEN] [--start M:F] [FILE..]
+       beamnode [-v] replay [--upto N] FILE
 
 call loads the files in order and prints the value of a function.
 pipe answers the commands on standard input.
 serve loads the files in order, starts a process with M:F, and answers the
   commands of connections to 127.0.0.1.
+replay runs the entries of a journal's file again, and says what they are.
 
   --module M         the module's name
   --function F       the function's name
@@ -62,7 +65,11 @@ serve loads the files in order, starts a process with M:F, and answers the
   --idle SECONDS     a session ends that is silent so long (default: 0, never)
   --stop-when-full   the node ends when its journal is full
   --journal-limit N  its most entries, 1 to 16777216 (default: 16777216)
+  --journal FILE     keeps the journal in FILE; a node that has one comes back
+  --sync WHEN        when FILE is on the device: always before an answer,
+                     each second, or no (default: second)
   --start M:F        a function without arguments that a process starts with
+  --upto N           ends before entry N
   -v, --verbose      after a fault, a second line tells where
   -h, --help         prints this text
   -V, --version      prints name and version
@@ -77,7 +84,9 @@ const NODE_USAGE: &str =
        beamnode [-v] pipe
        beamnode [-v] serve --port P [--connections K] [--clients C]
                 [--schedulers N] [--log LEVEL] [--idle SECONDS]
-                [--stop-when-full] [--journal-limit N] [--start M:F] [FILE..]
+                [--stop-when-full] [--journal-limit N] [--journal FILE]
+                [--sync WHEN] [--start M:F] [FILE..]
+       beamnode [-v] replay [--upto N] FILE
 ";
 
 /// A program.

@@ -27,6 +27,8 @@ impl Wrong<'_> {
             Wrong::NoList(_) => "--args ",
             Wrong::NoLevel(_) => "--log ",
             Wrong::NoStart(_) => "--start ",
+            Wrong::NoSync(_) => "--sync ",
+            Wrong::StopsWithJournal => "--stop-when-full and --journal exclude each other",
         }
     }
 
@@ -36,13 +38,14 @@ impl Wrong<'_> {
     {
         match self {
             Wrong::Words(text) => text,
-            Wrong::NoText | Wrong::NoCommand | Wrong::NoFile => &[],
+            Wrong::NoText | Wrong::NoCommand | Wrong::NoFile | Wrong::StopsWithJournal => &[],
             Wrong::Same(word)
             | Wrong::LongModule(word)
             | Wrong::LongFunction(word)
             | Wrong::NoList(word)
             | Wrong::NoLevel(word)
-            | Wrong::NoStart(word) => word.as_bytes(),
+            | Wrong::NoStart(word)
+            | Wrong::NoSync(word) => word.as_bytes(),
         }
     }
 
@@ -55,6 +58,7 @@ impl Wrong<'_> {
             Wrong::NoList(_) => " is no list of at most 255 terms",
             Wrong::NoLevel(_) => " is none of error, warn and info",
             Wrong::NoStart(_) => " is no M:F",
+            Wrong::NoSync(_) => " is none of always, second and no",
             _ => "",
         }
     }

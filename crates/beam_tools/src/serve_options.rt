@@ -2,18 +2,19 @@
 ghost use Rattle.std.specs.Prelude.{◌≡◌, IfErr, IfOk, Some, map, option_map};
 ghost use Rattle.clap.specs.Words.{found_of, rows_of};
 ghost use Rattle.beam_tools.specs.Lines.{ServeStops};
-ghost use Rattle.beam_tools.specs.Options.{as_line, files_in, is_stop_set, level_of, log_in, numbers_in, serve_in, start_in, start_line, start_of};
+ghost use Rattle.beam_tools.specs.Options.{as_line, files_in, is_stop_set, journal_in, level_of, log_in, numbers_in, serve_in};
+ghost use Rattle.beam_tools.specs.Options.{start_in, start_line, start_of, sync_in, sync_of};
 
 use crate::command::text_of;
 use crate::early_exit::{EarlyExit, Wrong};
-use crate::line::{LogLevel, Options, Serve, Start};
+use crate::line::{LogLevel, Options, Serve, Start, SyncMode};
 use crate::table::{ArgumentForm, ArgumentRow, FLAG, OPTION, POSITIONAL, VERBOSE};
 use crate::values::{count_of, number_of, port_of, texts_of};
 use clap::{ArgAction, ArgMatches};
 use std::alloc::Global;
 
 /// The arguments of `serve`.
-pub const SERVE: [ArgumentRow; 11] = [
+pub const SERVE: [ArgumentRow; 13] = [
     VERBOSE,
     ArgumentRow {
         id: "port",
@@ -68,6 +69,17 @@ pub const SERVE: [ArgumentRow; 11] = [
         ..OPTION
     },
     ArgumentRow {
+        id: "journal",
+        value_names: &["FILE"],
+        ..OPTION
+    },
+    ArgumentRow {
+        id: "sync",
+        value_names: &["WHEN"],
+        defaults: &["second"],
+        ..OPTION
+    },
+    ArgumentRow {
         id: "start",
         value_names: &["M:F"],
         ..OPTION
@@ -88,6 +100,17 @@ fn level_of(text: &str) -> Option<LogLevel>
         "error" => Some(LogLevel::Error),
         "warn" => Some(LogLevel::Warn),
         "info" => Some(LogLevel::Info),
+        _ => None,
+    }
+}
+
+fn sync_of(text: &str) -> Option<SyncMode>
+    ensures { result ≡ sync_of text.now }
+{
+    match text {
+        "always" => Some(SyncMode::Always),
+        "second" => Some(SyncMode::Second),
+        "no" => Some(SyncMode::No),
         _ => None,
     }
 }
@@ -164,6 +187,34 @@ fn start_in<'a>(matches: &ArgMatches<'a>) -> Result<Option<Start<'a>>, EarlyExit
     }
 }
 
+// The journal's file, which no node has that ends when its journal is full.
+fn journal_in<'a>(matches: &ArgMatches<'a>) -> Result<Option<&'a str>, EarlyExit<'a>>
+    ensures journal { IfOk result (λ name. journal_in (rows_of (found_of matches.now)) ≡ Some (option_map (λ s. s.now) name)) }
+    ensures stop { IfErr result (ServeStops (rows_of (found_of matches.now))) }
+{
+    let Some(name) = text_of(matches, "journal") else {
+        return Ok(None);
+    };
+    if is_stop_set(matches) {
+        return Err(EarlyExit::Wrong(Wrong::StopsWithJournal));
+    }
+    Ok(Some(name))
+}
+
+#[tactic(auto, using(crate::proofs::Services::no_time))]
+fn sync_in<'a>(matches: &ArgMatches<'a>) -> Result<SyncMode, EarlyExit<'a>>
+    ensures sync { IfOk result (λ sync. sync_in (rows_of (found_of matches.now)) ≡ Some sync) }
+    ensures stop { IfErr result (ServeStops (rows_of (found_of matches.now))) }
+{
+    let Some(text) = text_of(matches, "sync") else {
+        return Err(EarlyExit::Wrong(Wrong::NoCommand));
+    };
+    match sync_of(text) {
+        Some(sync) => Ok(sync),
+        None => Err(EarlyExit::Wrong(Wrong::NoSync(text))),
+    }
+}
+
 fn files_in<'a>(alloc: Global, matches: &ArgMatches<'a>) -> Result<Vec<&'a str>, EarlyExit<'a>>
     ensures files { IfOk result (λ v. files_in (rows_of (found_of matches.now)) ≡ map (λ s. s.now) v.items) }
     ensures stop { IfErr result (ServeStops (rows_of (found_of matches.now))) }
@@ -179,7 +230,8 @@ fn files_in<'a>(alloc: Global, matches: &ArgMatches<'a>) -> Result<Vec<&'a str>,
 
 /// The service in the matches of `serve`.
 ///
-/// `Wrong` where the level of the log is unknown, or the function to start has no name or no module; `NoMemory`.
+/// `Wrong` where the level of the log is unknown, where the function to start has no name or no module, where a journal's file is named
+/// and the node is to end when its journal is full, and where the time is unknown at which that file is put on the device; `NoMemory`.
 pub fn serve_in<'a>(alloc: Global, matches: &ArgMatches<'a>) -> Result<Options<'a>, EarlyExit<'a>>
     ensures told { IfOk result (λ o. serve_in (rows_of (found_of matches.now)) ≡ Some (as_line o)) }
     ensures stop { IfErr result (ServeStops (rows_of (found_of matches.now))) }
@@ -189,6 +241,8 @@ pub fn serve_in<'a>(alloc: Global, matches: &ArgMatches<'a>) -> Result<Options<'
     };
     let log = log_in(matches)?;
     let start = start_in(matches)?;
+    let journal = journal_in(matches)?;
+    let sync = sync_in(matches)?;
     let files = files_in(alloc, matches)?;
     Ok(Options::Serve(Serve {
         port: numbers.port,
@@ -201,5 +255,7 @@ pub fn serve_in<'a>(alloc: Global, matches: &ArgMatches<'a>) -> Result<Options<'
         journal_limit: numbers.journal_limit,
         files,
         start,
+        journal,
+        sync,
     }))
 }

@@ -1,7 +1,7 @@
 //! The program `beamnode`: the words of its command line, the file system, the standard streams and the net.
 #![tactic(auto)]
 
-use beam_serve::{pipe, serve, start_log};
+use beam_serve::{pipe, replay, serve, start_log};
 use beam_tools::fault::RunFault;
 use beam_tools::files::FileSystem;
 use beam_tools::job::{Job, JobFault, job_status};
@@ -52,6 +52,7 @@ fn main(rt: HostRuntime) -> ExitCode {
         match job(&rt, &words) {
             Job::Done(status) => status,
             Job::Pipe => job_status(&words, pipe(&rt), &mut rt.stderr()),
+            Job::Replay(line) => job_status(&words, replay(&rt, &rt, &line), &mut rt.stderr()),
             Job::Serve(line) => {
                 // What the node says at its end is written after the lines of the log, and by the same thread.
                 let mut last = Vec::new(rt.alloc());

@@ -16,6 +16,10 @@ mod deep;
 #[cfg(test)]
 mod devices;
 #[cfg(test)]
+mod journal_rows;
+#[cfg(test)]
+mod journal_tests;
+#[cfg(test)]
 mod limits;
 #[cfg(test)]
 mod listings;

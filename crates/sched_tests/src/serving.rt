@@ -3,7 +3,7 @@
 use crate::console::TestConsole;
 use crate::node_client::{NodeClient, Step};
 use crate::serving_rows::NodeRow;
-use beam_serve::{LogLines, serve, write_lines};
+use beam_serve::{LogLines, replay, serve, write_lines};
 use beam_tools::files::FileSystem;
 use beam_tools::job::{Job, job_status};
 use beam_tools::node::node_run;
@@ -24,7 +24,7 @@ const PROCESS_STATUS: &str = "/proc/self/status";
 
 /// A word of a command line, which is put into the folder if it is the name of a file.
 fn word_in(alloc: Global, folder: &str, word: &str) -> Result<String, AllocError> {
-    if word.ends_with(".beam") {
+    if word.ends_with(".beam") || word.ends_with(".journal") {
         format!(in alloc; "{folder}/{word}")
     } else {
         format!(in alloc; "{word}")
@@ -69,6 +69,7 @@ fn run_node<
     );
     let status = match job {
         Job::Serve(line) => job_status(words, serve(rt, console, lines, &line), &mut errors),
+        Job::Replay(line) => job_status(words, replay(rt, console, &line), &mut errors),
         Job::Done(status) => status,
         Job::Pipe => 0,
     };
@@ -115,17 +116,36 @@ fn printed_text(alloc: Global, port: Option<u16>, printed: &str) -> Result<Strin
 fn start_client<
     's,
     E,
-    R: Net<Listener = TcpListener, Stream = TcpStream> + Wait + Clock + AllocGlobal + Sync + 's,
+    R: Net<Listener = TcpListener, Stream = TcpStream>
+        + Wait
+        + Clock
+        + rt::Files<File = File>
+        + AllocGlobal
+        + Sync
+        + 's,
 >(
     scope: &Scope<'s, E>,
     rt: &'s R,
     steps: &'static [Step],
     console: &'s TestConsole<'s, R>,
     process_status: File,
+    journal: String,
 ) -> Option<JoinHandle<String>> {
     scope
-        .spawn(move || NodeClient::new(rt, console, process_status).run(steps))
+        .spawn(move || NodeClient::new(rt, console, process_status, journal).run(steps))
         .ok()
+}
+
+/// The name of the journal's file on a command line; nothing where it has none.
+fn journal_in(alloc: Global, words: &[&str]) -> Result<String, AllocError> {
+    for (number, word) in words.iter().enumerate() {
+        if *word == "--journal"
+            && let Some(name) = words.get(number.saturating_add(1))
+        {
+            return format!(in alloc; "{name}");
+        }
+    }
+    Ok(String::new(alloc))
 }
 
 /// Runs the thread that writes the lines of a log. Tells whether it could be made.
@@ -156,11 +176,12 @@ fn run<
     lines: &LogLines,
     process_status: File,
 ) -> Result<(String, (u8, Vec<u8>)), AllocError> {
+    let journal = journal_in(rt.alloc(), words)?;
     thread::scope(thread::scope_env(), rt, |scope| {
         if !start_writer(scope, rt, console, lines) {
             return Err(AllocError);
         }
-        let client = start_client(scope, rt, steps, console, process_status);
+        let client = start_client(scope, rt, steps, console, process_status, journal);
         let ended = run_node(rt, words, console, lines);
         let miss = match client {
             Some(client) => client.join(rt),

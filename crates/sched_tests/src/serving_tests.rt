@@ -40,7 +40,7 @@ fn connections_are_served(rt: HostRuntime) -> Result<(), Fail> {
 }
 
 /// Makes a folder, which the moment names.
-fn new_folder<R: Env + Clock + rt::Files + AllocGlobal>(rt: &R) -> Result<String, Fail> {
+pub fn new_folder<R: Env + Clock + rt::Files + AllocGlobal>(rt: &R) -> Result<String, Fail> {
     let parent = env::temp_dir(rt)?;
     let now = rt.since_1970()?;
     let folder = format!(in rt.alloc();
@@ -54,7 +54,7 @@ fn new_folder<R: Env + Clock + rt::Files + AllocGlobal>(rt: &R) -> Result<String
 }
 
 /// Writes a file into a folder.
-fn write<R: rt::Files + AllocGlobal>(
+pub fn write<R: rt::Files + AllocGlobal>(
     rt: &R,
     folder: &str,
     name: &str,

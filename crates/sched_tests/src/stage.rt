@@ -9,7 +9,7 @@ use beam_receipts::brand::NodeBrand;
 use beam_receipts::keeper::UnbrandedKeeper;
 use beam_receipts::seat::SeatReceipt;
 use beam_sched::thread_context::ThreadContext;
-use beam_sched::thread_contexts::{SeatsAndQueues, contexts};
+use beam_sched::thread_contexts::{NewContexts, SeatsAndQueues, contexts};
 use beam_shared::node::Node;
 use std::alloc::Global;
 use std::test::Fail;
@@ -37,7 +37,12 @@ pub fn staged<B: NodeBrand + QueueBrand>(
     requires brand { B.limit ≡ limit }
 {
     let mut node = Node::<B>::with_limit(alloc, unbranded, limit);
-    let (workers, mut others) = contexts(alloc, &mut node, queues, workers as usize)?;
+    let NewContexts {
+        workers,
+        senders,
+        ..
+    } = contexts(alloc, &mut node, queues, workers as usize, Vec::new(alloc))?;
+    let mut others = senders;
     match others.pop() {
         Some(context) => Ok((node, workers, context, others)),
         None => Err(Fail::new("no thread context")),

@@ -9,7 +9,8 @@ use beam_tools::assembler::as_run;
 use beam_tools::dis::dis_run;
 use beam_tools::files::Files;
 use beam_tools::job::{Job, JobFault, job_status, start_event};
-use beam_tools::line::Serve;
+use beam_tools::journal_fault::{JournalFault, JournalFaultKind};
+use beam_tools::line::{Replay, Serve};
 use beam_tools::load::load_files;
 use beam_tools::node::node_run;
 use beam_tools::os_error::OsError;
@@ -62,12 +63,21 @@ fn piped<'a>(alloc: Global, device: &mut Memory) -> Result<(), JobFault<'a>> {
     }
 }
 
-// Begins a service with its files and its process, where each port is in use.
+// Begins a service with its journal, its files and its process, where no journal's file can be written, and each port is in use.
 fn unserved<'a, F: Files>(
     alloc: Global,
     line: &Serve<'a>,
     desk: &mut OverlayFiles<'_, F>,
 ) -> Result<(), JobFault<'a>> {
+    if let Some(name) = line.journal {
+        return Err(JobFault::Journal(JournalFault {
+            name,
+            why: JournalFaultKind::Unwritten(OsError {
+                kind: ErrorKind::PermissionDenied,
+                code: 13,
+            }),
+        }));
+    }
     let mut node = Core::new(alloc);
     if let Err(fault) = load_files(alloc, &mut node, desk, &line.files) {
         return Err(JobFault::File(fault));
@@ -87,7 +97,18 @@ fn unserved<'a, F: Files>(
     ))
 }
 
-// Runs `beamnode`, which has no network.
+// Replays a journal's file in which the entry is bad before which the replay ends.
+fn replayed<'a>(line: &Replay<'a>) -> Result<(), JobFault<'a>> {
+    Err(JobFault::Journal(JournalFault {
+        name: line.file,
+        why: JournalFaultKind::Bad {
+            at: 16,
+            entry: u64::from(line.upto),
+        },
+    }))
+}
+
+// Runs `beamnode`, which has no network, and no file that keeps a journal.
 fn run_node<F: Files>(
     alloc: Global,
     words: &[&str],
@@ -100,6 +121,7 @@ fn run_node<F: Files>(
         Job::Done(status) => status,
         Job::Pipe => job_status(words, piped(alloc, device), errors),
         Job::Serve(line) => job_status(words, unserved(alloc, &line, desk), errors),
+        Job::Replay(line) => job_status(words, replayed(&line), errors),
     }
 }
 

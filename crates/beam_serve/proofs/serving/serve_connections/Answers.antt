@@ -1,6 +1,6 @@
 use denote.Param.Send.{sendable}
-use Rattle.beam_serve.proofs.Crossing.{ConnectionThread_send}
+use Rattle.beam_serve.proofs.Crossing.{ServeHelper_send}
 use Rattle.beam_serve.proofs.serving.serve_connections.Goals as goal
 
 pub run_with_helpers-schedulers-requires-send-H : goal.run_with_helpers-schedulers-requires-send-H
-run_with_helpers-schedulers-requires-send-H g c κs w = let t = c.type_bounds in search (sendable, ConnectionThread_send) depth 20
+run_with_helpers-schedulers-requires-send-H g c κs w = let t = c.type_bounds in search (sendable, ServeHelper_send) depth 20
