@@ -73,5 +73,26 @@ run "beamctl atomic shop.beam counter.beam"
 run "beamctl lingers shop"
 run "beamctl kill 1"
 run "beamctl wait 1"
+
+echo
+echo "# A node that keeps its journal in a file, is killed, and comes back with what it had answered"
+# Starts a node with the file, and waits until it listens.
+begin() {
+    : >listening
+    beamnode serve --port 0 --journal shop.journal "$@" >listening &
+    server=$!
+    until port=$(sed -n 's/^listening on 127\.0\.0\.1://p' listening) && [[ -n $port ]]; do sleep 0.05; done
+    echo "\$ beamnode serve --port 0 --journal shop.journal $* &"
+    cat listening
+}
+kill "$server"
+wait "$server" 2>/dev/null || true
+begin --start shop:start shop.beam
+run "beamctl ask shop '{buy,2}'"
+echo "\$ kill -9 %1"
+kill -9 "$server"
+wait "$server" 2>/dev/null || true
+begin
+run "beamctl ask shop '{buy,1}'"
 echo
 echo "The programs are in out/programs. README.md goes on."
