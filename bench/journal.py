@@ -51,7 +51,7 @@ WORK = (("a message of a client", 1280, send),
 
 
 def replies(connection: socket.socket, count: int) -> None:
-    """Takes so many replies."""
+    """Takes this number of replies."""
     data = b""
     while count:
         data += connection.recv(65536)

@@ -68,8 +68,8 @@ impl<'a, B: NodeBrand + QueueBrand, R> ConnectionThread<'a, B, R> {
 }
 
 impl<B: NodeBrand + QueueBrand, R: Wait + Clock + Log + AllocGlobal> ConnectionThread<'_, B, R> {
-    /// How many threads serve connections beside so many helpers. Where the node has a journal's file the first helper is its thread, which
-    /// ends after those that serve connections.
+    /// How many threads serve connections, where this number of helpers was started. Where the node has a journal's file the first helper is
+    /// its thread, which ends after those that serve connections.
     fn count_threads(&self, helpers: usize) -> usize {
         let Some(link) = self.desk.journal() else {
             return helpers.saturating_add(1);

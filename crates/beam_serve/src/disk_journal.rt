@@ -250,7 +250,7 @@ impl<S: Shelf + Drop> DiskJournal<S> {
         self.progress.lock(rt).has_thread = true;
     }
 
-    /// So many threads give commands, with those that have left already.
+    /// Notes how many threads give commands, those that have left already among them.
     pub(crate) fn expect_senders<R: Wait>(&self, rt: &R, count: usize) {
         self.progress.lock(rt).senders = Some(count);
         self.has_left.notify_all();

@@ -86,7 +86,7 @@ fn processes_of<B: NodeBrand>(node: &Node<B>) -> (u32, u32) {
 }
 
 impl ReplayReport {
-    /// The report of a node that entered the entries of a file, with so many seats, and of the file's torn end, if it has one.
+    /// The report of a node that entered the entries of a file, with its count of seats, and of the file's torn end, if it has one.
     pub(crate) fn of<B: NodeBrand>(
         node: &Node<B>,
         seats: usize,

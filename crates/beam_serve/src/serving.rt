@@ -236,7 +236,7 @@ fn helpers_of<'a, B: NodeBrand + QueueBrand, R>(
     helpers
 }
 
-/// Adds the thread of the journal's file behind the other helpers, so that it is started first.
+/// Adds the thread of the journal's file as the last of the helpers, so that it is started first.
 fn with_journal_thread<'a, B: NodeBrand + QueueBrand, R>(
     rt: &'a R,
     shared: &'a Shared<B>,

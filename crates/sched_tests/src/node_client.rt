@@ -36,7 +36,7 @@ pub enum Step {
     End(usize),
     /// So many threads run, the client's among them.
     Threads(u32),
-    /// The journal's file has so many bytes or more.
+    /// The journal's file has this number of bytes or more.
     Holds(u64),
 }
 
