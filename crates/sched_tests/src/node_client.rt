@@ -10,7 +10,6 @@ use std::io::{ErrorKind, Read, Write};
 use std::net::{Net, Shutdown, TcpStream};
 use std::sync::Wait;
 use std::time::{Clock, Duration};
-use std::{fs, rt};
 
 /// For how many seconds a call of a connection waits: a little less than the 60 seconds after which `rt` ends a test.
 const SECONDS: u64 = 50;
@@ -36,8 +35,6 @@ pub enum Step {
     End(usize),
     /// So many threads run, the client's among them.
     Threads(u32),
-    /// The journal's file has this number of bytes or more.
-    Holds(u64),
 }
 
 /// A client of the node on a console.
@@ -48,8 +45,6 @@ pub struct NodeClient<'a, R> {
     deadline: TestDeadline,
     /// The file in which the operating system tells how many threads run.
     process_status: File,
-    /// The name of the journal's file.
-    journal: String,
     streams: Vec<TcpStream>,
     /// The bytes that came last.
     came: Vec<u8>,
@@ -83,23 +78,18 @@ fn is_at_end(stream: &TcpStream) -> bool {
     }
 }
 
-impl<
-    'a,
-    R: Net<Stream = TcpStream> + Wait + Clock + rt::Files<File = File> + AllocGlobal,
-> NodeClient<'a, R> {
-    /// A client without a connection. The file tells how many threads run; the name is that of the journal's file.
+impl<'a, R: Net<Stream = TcpStream> + Wait + Clock + AllocGlobal> NodeClient<'a, R> {
+    /// A client without a connection. The file tells how many threads run.
     pub fn new(
         rt: &'a R,
         console: &'a TestConsole<'a, R>,
         process_status: File,
-        journal: String,
     ) -> NodeClient<'a, R> {
         NodeClient {
             rt,
             console,
             deadline: TestDeadline::new(rt),
             process_status,
-            journal,
             streams: Vec::new(rt.alloc()),
             came: Vec::new(rt.alloc()),
         }
@@ -230,14 +220,6 @@ impl<
         }
     }
 
-    fn holds(&self, count: u64) -> Result<(), &'static str> {
-        match fs::metadata(self.rt, self.journal.as_str()) {
-            Ok(metadata) if metadata.len() >= count => Ok(()),
-            Ok(_) => Err("the file has fewer bytes"),
-            Err(_) => Err("no file"),
-        }
-    }
-
     fn step(&mut self, step: Step) -> Result<(), &'static str> {
         match step {
             Step::Connect => self.connect(),
@@ -247,7 +229,6 @@ impl<
             Step::Finish(number) => self.finish(number),
             Step::End(number) => self.end(number),
             Step::Threads(count) => self.has_threads(count),
-            Step::Holds(count) => self.holds(count),
         }
     }
 

@@ -116,36 +116,17 @@ fn printed_text(alloc: Global, port: Option<u16>, printed: &str) -> Result<Strin
 fn start_client<
     's,
     E,
-    R: Net<Listener = TcpListener, Stream = TcpStream>
-        + Wait
-        + Clock
-        + rt::Files<File = File>
-        + AllocGlobal
-        + Sync
-        + 's,
+    R: Net<Listener = TcpListener, Stream = TcpStream> + Wait + Clock + AllocGlobal + Sync + 's,
 >(
     scope: &Scope<'s, E>,
     rt: &'s R,
     steps: &'static [Step],
     console: &'s TestConsole<'s, R>,
     process_status: File,
-    journal: String,
 ) -> Option<JoinHandle<String>> {
     scope
-        .spawn(move || NodeClient::new(rt, console, process_status, journal).run(steps))
+        .spawn(move || NodeClient::new(rt, console, process_status).run(steps))
         .ok()
-}
-
-/// The name of the journal's file on a command line; nothing where it has none.
-fn journal_in(alloc: Global, words: &[&str]) -> Result<String, AllocError> {
-    for (number, word) in words.iter().enumerate() {
-        if *word == "--journal"
-            && let Some(name) = words.get(number.saturating_add(1))
-        {
-            return format!(in alloc; "{name}");
-        }
-    }
-    Ok(String::new(alloc))
 }
 
 /// Runs the thread that writes the lines of a log. Tells whether it could be made.
@@ -176,12 +157,11 @@ fn run<
     lines: &LogLines,
     process_status: File,
 ) -> Result<(String, (u8, Vec<u8>)), AllocError> {
-    let journal = journal_in(rt.alloc(), words)?;
     thread::scope(thread::scope_env(), rt, |scope| {
         if !start_writer(scope, rt, console, lines) {
             return Err(AllocError);
         }
-        let client = start_client(scope, rt, steps, console, process_status, journal);
+        let client = start_client(scope, rt, steps, console, process_status);
         let ended = run_node(rt, words, console, lines);
         let miss = match client {
             Some(client) => client.join(rt),
