@@ -70,7 +70,7 @@ pub(crate) struct ReplayReport {
     torn: Option<TornEnd>,
 }
 
-/// The processes that were started, and those of them that have ended.
+/// How many processes were started, and how many have ended.
 fn processes_of<B: NodeBrand>(node: &Node<B>) -> (u32, u32) {
     let (mut started, mut ended) = (0u32, 0u32);
     for pid in 1..=u32::MAX {

@@ -63,7 +63,7 @@ fn next_record(
     }
 }
 
-/// How many entries a reader gives that are those of the file, in their order, and why it gives no more.
+/// How many entries a reader gives in the file's order, and why it gives no more.
 fn read_entries(
     alloc: Global,
     reader: &mut JournalReader<MemoryShelf>,
@@ -235,7 +235,7 @@ struct ChangedRow {
 }
 
 const CHANGED: [ChangedRow; 4] = [
-    // The count of the first page, which disagrees with its mirror; the file doesn't go on 4,096 bytes behind it.
+    // The count of the first page, which disagrees with its mirror; the file ends within the next 4,096 bytes.
     ChangedRow {
         at: 54,
         count: 0,
@@ -249,7 +249,7 @@ const CHANGED: [ChangedRow; 4] = [
         failed: Some(ReadFailed::Bad { at: 51 }),
         torn: None,
     },
-    // The number of the second page, and its last record: behind it the file doesn't go on.
+    // The number of the second page, and its last record, where the file ends.
     ChangedRow {
         at: 111,
         count: 3,

@@ -15,7 +15,7 @@ pub struct JournalFile {
 const HEAD: &str =
     "00000023FFFFFFDC000002AF000053044B414E4755524957450001000000000000000000000000000000000000000000000000";
 
-/// The same of version 2.
+/// The block of a head of version 2 whose identifier is zeros: 51 bytes.
 const OTHER_HEAD: &str =
     "00000023FFFFFFDC000002B00000531D4B414E4755524957450002000000000000000000000000000000000000000000000000";
 
@@ -91,7 +91,7 @@ const LIVES: [NodeRow; 11] = [
         ],
         wanted: "listens\nstatus 0\n",
     },
-    // Seats 0 and 1 are those of the schedulers, and seat 2 is the client's.
+    // The two schedulers have seats 0 and 1, and the client has seat 2.
     NodeRow {
         title: "what its file has",
         words: "beamnode replay n.journal",
