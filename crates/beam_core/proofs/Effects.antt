@@ -13,7 +13,7 @@ use Rattle.beam_proc.specs.Prelude.{end_of}
 use Rattle.beam_proc.specs.declared.private.End.{End as TheEnd}
 use Rattle.beam_proc.specs.declared.private.End.TheVariants.{AtLimit, AfterRow, BeforeNodeRow, AtSpot}
 use Rattle.beam_state.specs.Prelude.{Parts, node, then_at, with_processes, CanReplace}
-use Rattle.beam_codesrv.specs.Posting.{all_taken}
+use Rattle.beam_state.specs.Posting.{all_taken}
 use Rattle.beam_core.specs.Installing.{AreRowsOf, Installed, installed, node_rows, notices_at}
 use Rattle.beam_core.proofs.Apart.{having_follows, now_lives, process_follows, process_runs, rows_alone_keep, rows_keep}
 use Rattle.beam_core.proofs.Installing.{more, sender_there, can_replace, took_effect, made_there, stands, goes_on, can_go_back, all_undone}

@@ -14,8 +14,8 @@ use Rattle.beam_laws.proofs.Posting.{posted_at, all_posted_at}
 use Rattle.beam_laws.proofs.Private.{having_status}
 use Rattle.beam_laws.proofs.Commits.{elsewhere}
 use Rattle.beam_state.specs.Prelude.{Parts, node, then_at, with_processes, CanReplace}
-use Rattle.beam_codesrv.specs.Posting.{all_taken}
-use Rattle.beam_codesrv.proofs.Untaken.{all_untaken}
+use Rattle.beam_state.specs.Posting.{all_taken}
+use Rattle.beam_state.proofs.Untaken.{all_untaken}
 use Rattle.beam_core.specs.Installing.{notices_at}
 use Rattle.beam_core.proofs.Apart.{having_follows}
 use Rattle.beam_core.proofs.Telling.{HavePids, all_told}

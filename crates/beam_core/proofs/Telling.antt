@@ -11,10 +11,10 @@ use Rattle.beam_laws.proofs.Hearing.{gets_none, hears, hearing_at, hearing_here,
 use Rattle.beam_laws.proofs.Numbered.{positive, put_here, put_elsewhere}
 use Rattle.beam_laws.proofs.Posting.{said, all_posted_at, each_sent_to}
 use Rattle.beam_state.specs.Prelude.{Parts, with_processes, notices_of}
-use Rattle.beam_codesrv.specs.Posting.{all_taken}
+use Rattle.beam_state.specs.Posting.{all_taken}
 use Rattle.beam_state.proofs.Posted.{all_posted_more}
-use Rattle.beam_codesrv.proofs.Untaken.{all_untaken}
-use Rattle.beam_codesrv.proofs.Heard.{same_lists}
+use Rattle.beam_state.proofs.Untaken.{all_untaken}
+use Rattle.beam_state.proofs.Located.{same_lists}
 use Rattle.beam_core.specs.Installing.{notices_at}
 
 -- ---- lists of processes that are the same at each number

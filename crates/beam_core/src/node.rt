@@ -167,6 +167,13 @@ impl Core {
         self.state.next_deadline()
     }
 
+    /// The clock, in milliseconds.
+    pub fn clock(&self) -> u64
+        ensures { result ≡ self.now.clock }
+    {
+        self.state.clock()
+    }
+
     /// Applies one event, as the definition of `next` says. Where memory is refused in the middle of `Steps`, the reply says how many rows
     /// were executed; otherwise the answer is `NoMemory`. A refusal changes nothing. Memory stops no `Steps` before a quiet row. It is
     /// refused only to events that may take some and aren't refused otherwise: not to deletions, questions and time, nor to purges that end

@@ -1,25 +1,22 @@
 -- The signals sent to a process are those that arrived, and then those in transit to it.
-use Rattle.std.proofs.Common.{◌≡◌, ℕ, zero, suc, true≢false, ◌+◌, nat_lt, Bool, true, false, cond, List, [], ◌∷◌, ◌++◌, append_assoc, append-nil, refl, sym, ap, subst, ◌∙◌, Option, Some, None, Result, Ok, unwrap_or, codes}
+use Rattle.std.proofs.Common.{◌≡◌, ℕ, zero, suc, true≢false, ◌+◌, Bool, true, false, cond, List, length, [], ◌∷◌, ◌++◌, append_assoc, append-nil, refl, sym, ap, subst, ◌∙◌, Option, Some, None, Result, unwrap_or}
 use Rattle.beam_machine.specs.declared.callee.After.{After}
 use Rattle.beam_machine.specs.declared.process.Monitor.{Monitor as MonitorValue}
 use Rattle.beam_machine.specs.declared.process.Signal.{Signal}
 use Rattle.beam_machine.specs.declared.process.Status.TheVariants.{Running}
-use Rattle.beam_machine.specs.Prelude.{Process, is_running, is_ended, own_reference, Outcome, makes, sends, asks, sleeps, arguments_of, answers, outcome, State, process_of, with_process, alive, posted, with_made, Answered, fault, most_references, or_noproc, put_monitor, with_new_monitor, monitored, monitors_by, answer_of, Rows, raised, continues, goes_on_with, done_by, row, running, row_and, next, Sent}
+use Rattle.beam_machine.specs.Prelude.{Process, is_running, is_ended, Outcome, makes, sends, asks, sleeps, arguments_of, answers, outcome, State, process_of, with_process, alive, posted, with_made, Answered, or_noproc, put_monitor, with_new_monitor, monitored, answer_of, Rows, raised, continues, goes_on_with, done_by, row, running, row_and, next, Sent}
 use Rattle.beam_model.specs.declared.native.NodeNative.{NodeNative}
-use Rattle.beam_model.specs.declared.native.NodeNative.TheVariants.{Monitor}
 use Rattle.beam_model.specs.declared.exception.Exception.{Exception}
-use Rattle.beam_model.specs.declared.exception.Fault.TheVariants.{Badarg, SystemLimit}
-use Rattle.beam_model.specs.Prelude.{same_text}
-use Rattle.beam_term.specs.Prelude.{TermValue, int_term, atom_term, reference_term, pid_term, nil_term, pair_term, tuple_term}
+use Rattle.beam_term.specs.Prelude.{TermValue}
 use Rattle.beam_machine.specs.Next.{steps}
 use Rattle.beam_laws.specs.Prelude.{with_name_and_transit, downs_of_end, signal_to, end_sends, noproc_sends, native_sends, asker_sends, row_sends, row_and_send, steps_send, signals_to, on_its_way}
 use Rattle.beam_laws.proofs.Ending.{running_is}
 use Rattle.beam_laws.proofs.Hearing.{hearing_here, none_heard}
 use Rattle.beam_laws.proofs.Numbered.{put_here, alive_of}
-use Rattle.beam_laws.proofs.Unread.{with}
-use Rattle.beam_laws.proofs.UnreadCalls.{answers_same}
+use Rattle.beam_laws.proofs.Unread.{with, answers_same}
 use Rattle.beam_laws.proofs.Private.{having_status, Keeps, row_keeps}
-use Rattle.beam_laws.proofs.Posting.{Grown, Grows, said, each_sent_to, posted_grows, noproc_grows, Elsewhere, answer_grows, signals_append, no_signals}
+use Rattle.beam_laws.proofs.Posting.{Grown, Grows, said, each_sent_to, posted_grows, noproc_grows, started_grows, named_grows, signals_append, no_signals}
+use Rattle.beam_laws.proofs.NodeAnswers.{Answers, keeps_all, starts_one, names_one, unnames_one, posts_one, makes_one, monitors_one, answer_is}
 
 -- ---- the account of one process
 
@@ -163,60 +160,22 @@ module _ (pid : ℕ) where
   still_asked : (ps : List Process) (q : Process) → process_of ps pid ≡ Some q → Asked [] q (process_of ps pid)
   still_asked ps q e = (q.name, (with_name_and_transit q.name (q.transit ++ []) q).monitors, e ∙ ap Some (sym (no_signals q)))
 
-  monitors_asked : (references : ℕ) (ps : List Process) (kind : List ℕ) (watched : TermValue) (q : Process) → process_of ps pid ≡ Some q → is_ended q.status ≡ false
-      → Asked (signals_to pid (noproc_sends ps pid watched (monitors_by references ps pid kind watched).made)) q (process_of (monitors_by references ps pid kind watched).processes pid)
-  monitors_asked references ps kind watched q e lives = go (same_text kind (codes "process")) (nat_lt references most_references)
-    where
-      made : Answered
-      made = record { processes = monitored ps pid watched (references + 1); made = Some (references + 1); value = Ok (own_reference (references + 1)) }
+  grows_asked : (xs : List Sent) (ps qs : List Process) (q : Process) → process_of ps pid ≡ Some q → Grows pid xs ps qs → Asked (signals_to pid xs) q (process_of qs pid)
+  grows_asked xs ps qs q e g = grown_asked (signals_to pid xs) q (process_of qs pid) (subst (λ o. Grown (signals_to pid xs) o (process_of qs pid)) e g)
 
-      go : (b c : Bool)
-          → Asked (signals_to pid (noproc_sends ps pid watched (cond {A = Answered} b (cond c (record { processes = monitored ps pid watched (references + 1); made = Some (references + 1); value = Ok (own_reference (references + 1)) }) (fault ps SystemLimit)) (fault ps Badarg)).made)) q
-          (process_of (cond {A = Answered} b (cond c (record { processes = monitored ps pid watched (references + 1); made = Some (references + 1); value = Ok (own_reference (references + 1)) }) (fault ps SystemLimit)) (fault ps Badarg)).processes pid)
-      go false c = still_asked ps q e
-      go true false = still_asked ps q e
-      go true true = noproc_asked ps (references + 1) watched q e lives
-
-  monitor_asked : (references : ℕ) (ps : List Process) (ts : List TermValue) (q : Process) → process_of ps pid ≡ Some q → is_ended q.status ≡ false
-      → Asked (signals_to pid (native_sends references ps pid Monitor ts)) q (process_of (answer_of references ps pid Monitor ts).processes pid)
-  monitor_asked references ps [] q e lives = still_asked ps q e
-  monitor_asked references ps (kind ∷ []) q e lives = one kind
-    where
-      one : (kind : TermValue) → Asked [] q (process_of (answer_of references ps pid Monitor (kind ∷ [])).processes pid)
-      one (int_term n) = still_asked ps q e
-      one (atom_term text) = still_asked ps q e
-      one (reference_term host creation words) = still_asked ps q e
-      one (pid_term host id serial creation) = still_asked ps q e
-      one nil_term = still_asked ps q e
-      one (pair_term head tail) = still_asked ps q e
-      one (tuple_term items) = still_asked ps q e
-  monitor_asked references ps (kind ∷ watched ∷ []) q e lives = two kind watched
-    where
-      two : (kind watched : TermValue)
-          → Asked (signals_to pid (native_sends references ps pid Monitor (kind ∷ watched ∷ []))) q (process_of (answer_of references ps pid Monitor (kind ∷ watched ∷ [])).processes pid)
-      two (atom_term kind) (pid_term host id serial creation) = monitors_asked references ps kind (pid_term host id serial creation) q e lives
-      two (atom_term kind) _ = still_asked ps q e
-      two _ _ = still_asked ps q e
-  monitor_asked references ps (kind ∷ watched ∷ more ∷ rest) q e lives = three kind watched
-    where
-      three : (kind watched : TermValue) → Asked [] q (process_of (answer_of references ps pid Monitor (kind ∷ watched ∷ more ∷ rest)).processes pid)
-      three (atom_term kind) (pid_term host id serial creation) = still_asked ps q e
-      three (atom_term kind) _ = still_asked ps q e
-      three _ _ = still_asked ps q e
+  answered_asked : (references : ℕ) (ps : List Process) (native : NodeNative) (xs : List Sent) (a : Answered) (q : Process) → process_of ps pid ≡ Some q → is_ended q.status ≡ false
+      → Answers references ps pid native xs a → Asked (signals_to pid xs) q (process_of a.processes pid)
+  answered_asked references ps native _ _ q e lives (keeps_all value) = still_asked ps q e
+  answered_asked references ps native _ _ q e lives (starts_one m f arguments value) = grows_asked [] ps _ q e (started_grows pid ps (length ps + 1) m f arguments)
+  answered_asked references ps native _ _ q e lives (names_one name at x value there free) = grows_asked [] ps _ q e (named_grows pid ps at x (Some name) there)
+  answered_asked references ps native _ _ q e lives (unnames_one at x value there) = grows_asked [] ps _ q e (named_grows pid ps at x None there)
+  answered_asked references ps native _ _ q e lives (posts_one to signal value plain) = grows_asked (signal_to ps to signal) ps _ q e (posted_grows pid ps to signal)
+  answered_asked references ps native _ _ q e lives (makes_one value) = still_asked ps q e
+  answered_asked references ps native _ _ q e lives (monitors_one watched value is) = noproc_asked ps (references + 1) watched q e lives
 
   pub answer_asked : (references : ℕ) (ps : List Process) (native : NodeNative) (ts : List TermValue) (q : Process) → process_of ps pid ≡ Some q → is_ended q.status ≡ false
       → Asked (signals_to pid (native_sends references ps pid native ts)) q (process_of (answer_of references ps pid native ts).processes pid)
-  answer_asked references ps native ts q e lives = by native
-    where
-      grown : (native : NodeNative) → Elsewhere pid native pid → Asked (signals_to pid (native_sends references ps pid native ts)) q (process_of (answer_of references ps pid native ts).processes pid)
-      grown native apart =
-          let xs : List Signal = signals_to pid (native_sends references ps pid native ts) in
-          let o : Option Process = process_of (answer_of references ps pid native ts).processes pid in
-          grown_asked xs q o (subst (λ x. Grown xs x o) e (answer_grows pid references ps pid native ts apart))
-
-      by : (native : NodeNative) → Asked (signals_to pid (native_sends references ps pid native ts)) q (process_of (answer_of references ps pid native ts).processes pid)
-      by Monitor = monitor_asked references ps ts q e lives
-      by native = grown native tt
+  answer_asked references ps native ts q e lives = answered_asked references ps native _ _ q e lives (answer_is references ps pid native ts)
 
   -- the process that asked goes on with the answer
   answered : (s : State) (p q : Process) (after : After) (a : Answered) (xs : List Signal) (o : Option Process) → s.processes ≡ a.processes → is_ended p.status ≡ false → q ≡ with p.name p.transit q

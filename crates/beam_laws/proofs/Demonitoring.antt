@@ -7,7 +7,7 @@ use Rattle.beam_model.specs.declared.exception.Fault.TheVariants.{Badarg}
 use Rattle.beam_model.specs.declared.native.ProcessNative.{ProcessNative}
 use Rattle.beam_model.specs.declared.native.ProcessNative.TheVariants.{Demonitor}
 use Rattle.beam_model.specs.Prelude.{Mailbox, truth}
-use Rattle.beam_term.specs.Prelude.{TermValue, int_term, atom_term, reference_term, pid_term, nil_term, pair_term, tuple_term}
+use Rattle.beam_term.specs.Prelude.{TermValue, reference_term}
 
 module _ (P : Process → Type 0) (other_mailbox : (q : Process) (m : Mailbox) → P q → P (record q { mailbox = m }))
     (fewer : (q : Process) (keep : Monitor → Bool) → P q → P (record q { monitors = filter keep q.monitors })) where
@@ -22,19 +22,12 @@ module _ (P : Process → Type 0) (other_mailbox : (q : Process) (m : Mailbox) �
   demonitors_if : (p : Process) (t : TermValue) (flush : Option Bool) → P p → If (demonitors p t flush)
   demonitors_if p (reference_term host creation words) (Some flush) h =
       flushes flush (demonitored p (reference_term host creation words)) (reference_term host creation words) (fewer p _ h)
-  demonitors_if p (reference_term host creation words) None h = tt
-  demonitors_if p (int_term n) flush h = tt
-  demonitors_if p (atom_term text) flush h = tt
-  demonitors_if p (pid_term host id serial creation) flush h = tt
-  demonitors_if p nil_term flush h = tt
-  demonitors_if p (pair_term head tail) flush h = tt
-  demonitors_if p (tuple_term items) flush h = tt
+  demonitors_if p _ _ h = tt
 
   changed_if : (p : Process) (native : ProcessNative) (ts : List TermValue) → P p → If (changed_by p native ts)
-  changed_if p Demonitor [] h = tt
   changed_if p Demonitor (t ∷ []) h = demonitors_if p t (Some false) h
   changed_if p Demonitor (t ∷ options ∷ []) h = demonitors_if p t (flush_in options) h
-  changed_if p Demonitor (t ∷ options ∷ u ∷ more) h = tt
+  changed_if p Demonitor _ h = tt
 
   -- the answer of the native, true or badarg, keeps it too
   pub answers_keep : (R : Process → Type 0) (p : Process) (after : After) (native : ProcessNative) (ts : List TermValue) → P p → R (faults p Badarg)

@@ -2,21 +2,20 @@
 use Rattle.std.proofs.Common.{◌≡◌, ◌≢◌, ℕ, zero, suc, ◌+◌, ◌-◌, Bool, true, false, cond, nat_lt, List, [], ◌∷◌, ◌++◌, length, map, slice_get, refl, sym, ap, subst, ◌∙◌, true≢false, Option, Some, None, Result, option_map, unwrap_or, slice_set, flat_map, codes}
 use Rattle.std.proofs.lemmas.Option.{slice_get-map, same_Some}
 use Rattle.beam_model.specs.declared.exception.Fault.{Fault}
-use Rattle.beam_model.specs.declared.exception.Fault.TheVariants.{Badarg, SystemLimit}
 use Rattle.beam_model.specs.declared.native.NodeNative.{NodeNative}
-use Rattle.beam_model.specs.declared.native.NodeNative.TheVariants.{Spawn, Register, Unregister, Whereis, IsProcessAlive, Exit, Send, MakeRef, Monitor}
-use Rattle.beam_model.specs.Prelude.{Listing, elements_in, same_text}
+use Rattle.beam_model.specs.Prelude.{Listing}
 use Rattle.beam_machine.specs.declared.event.Event.{Event}
 use Rattle.beam_machine.specs.declared.process.Status.{Status}
 use Rattle.beam_machine.specs.declared.process.Status.TheVariants.{Running, Waiting, Ended}
 use Rattle.beam_machine.specs.declared.process.Signal.{Signal}
-use Rattle.beam_machine.specs.declared.process.Signal.TheVariants.{Message, Exit as ExitSignal, Down}
-use Rattle.beam_machine.specs.Prelude.{Process, is_running, is_ended, started, own_pid, ended, killed, Outcome, makes, sends, asks, sleeps, answers, outcome, own_number, arguments_of, State, process_of, with_process, alive, live_process, registered, posted_to, posted, with_signals, downs, hearing_by, lingers, old_of, lingers_in_old, lingers_in_olds, pids_of, ends_or_hears, killing, Answered, answer, fault, most_processes, spawns_with, names, registers, unnames, unregisters, is_alive, posted_if_own, sends_named, most_references, makes_reference, or_noproc, put_monitor, monitored, answer_of, Rows, raised, delivered, continues, done_by, row, running, row_and, next, run, Touch, touch_of, Touches, stays, in_turn, loads, deletes, ends, purges, runs, arrives, times_out, ticks, posts, starts}
+use Rattle.beam_machine.specs.declared.process.Signal.TheVariants.{Down}
+use Rattle.beam_machine.specs.Prelude.{Process, is_running, is_ended, started, ended, killed, Outcome, makes, sends, asks, sleeps, answers, outcome, own_number, arguments_of, State, process_of, with_process, alive, live_process, posted_to, posted, with_signals, downs, hearing_by, lingers, old_of, lingers_in_old, lingers_in_olds, pids_of, ends_or_hears, killing, Answered, is_alive, or_noproc, put_monitor, monitored, answer_of, Rows, raised, delivered, continues, done_by, row, running, row_and, next, run, Touch, touch_of, Touches, stays, in_turn, loads, deletes, ends, purges, runs, arrives, times_out, ticks, posts, starts, Sent}
 use Rattle.beam_machine.specs.declared.callee.After.{After}
-use Rattle.beam_term.specs.Prelude.{TermValue, atom_term, pid_term, nil_term}
+use Rattle.beam_term.specs.Prelude.{TermValue, atom_term, nil_term}
 use Rattle.beam_machine.specs.Next.{steps}
 use Rattle.beam_laws.proofs.Hearing.{gets_none, lingers_not, in_olds_not}
 use Rattle.beam_laws.proofs.Touching.{next_touches}
+use Rattle.beam_laws.proofs.NodeAnswers.{Answers, keeps_all, starts_one, names_one, unnames_one, posts_one, makes_one, monitors_one, answer_is}
 
 -- ---- how a process stands
 
@@ -101,42 +100,6 @@ module _ (pid : ℕ) (p : Process) (over : is_ended p.status ≡ true) (nowhere 
 
   -- ---- natives of the node
 
-  either_stays : (b : Bool) (x y : Answered) → Stays x.processes → Stays y.processes → Stays (cond b x y).processes
-  either_stays true x y h k = h
-  either_stays false x y h k = k
-
-  spawns_stays : (ps : List Process) (name function : List ℕ) (o : Option (List TermValue)) → Stays ps → Stays (spawns_with ps name function o).processes
-  spawns_stays ps name function None h = h
-  spawns_stays ps name function (Some arguments) h =
-      let new : Process = started (length ps + 1) name function arguments in
-      let b : Bool = nat_lt (length ps) most_processes in
-      let spawned : Answered = answer (ps ++ new ∷ []) (own_pid (length ps + 1)) in
-      either_stays (nat_lt 255 (length arguments)) (fault ps Badarg) (cond b spawned (fault ps SystemLimit)) h (either_stays b spawned (fault ps SystemLimit) (push_stays ps new h) h)
-
-  names_stays : (ps : List Process) (name : List ℕ) (at : ℕ) (o : Option Process) → live_process ps at ≡ o → Stays ps → Stays (names ps name at o).processes
-  names_stays ps name at None e h = h
-  names_stays ps name at (Some x) e h = either_stays _ _ (fault ps Badarg) (live_stays ps at x (record x { name = Some name }) e h) h
-
-  registers_stays : (ps : List Process) (name : List ℕ) (o : Option ℕ) → Stays ps → Stays (registers ps name o).processes
-  registers_stays ps name None h = h
-  registers_stays ps name (Some at) h = names_stays ps name at (live_process ps at) refl h
-
-  unnames_stays : (ps : List Process) (at : ℕ) (o : Option Process) → live_process ps at ≡ o → Stays ps → Stays (unnames ps at o).processes
-  unnames_stays ps at None e h = h
-  unnames_stays ps at (Some x) e h = live_stays ps at x _ e h
-
-  unregisters_stays : (ps : List Process) (o : Option ℕ) → Stays ps → Stays (unregisters ps o).processes
-  unregisters_stays ps None h = h
-  unregisters_stays ps (Some at) h = unnames_stays ps at (live_process ps at) refl h
-
-  signalled_stays : (ps : List Process) (o : Option ℕ) (signal : Signal) → Stays ps → Stays (posted_if_own ps o signal)
-  signalled_stays ps None signal h = h
-  signalled_stays ps (Some to) signal h = posted_stays ps to signal (live_process ps to) refl h
-
-  sends_stays : (ps : List Process) (o : Option ℕ) (message : TermValue) → Stays ps → Stays (sends_named ps o message).processes
-  sends_stays ps None message h = h
-  sends_stays ps (Some to) message h = posted_stays ps to (Message message) (live_process ps to) refl h
-
   -- the caller keeps one monitor more
   watching_stays : (ps : List Process) (caller n : ℕ) (watched : TermValue) (o : Option Process) → live_process ps caller ≡ o → Stays ps → Stays (put_monitor ps caller n watched o)
   watching_stays ps caller n watched None e h = h
@@ -152,24 +115,18 @@ module _ (pid : ℕ) (p : Process) (over : is_ended p.status ≡ true) (nowhere 
       let qs : List Process = or_noproc ps caller n watched in
       watching_stays qs caller n watched (live_process qs caller) refl (noproc_stays ps caller n watched h)
 
-  makes_stays : (references : ℕ) (ps : List Process) (f : ℕ → List Process) → Stays ps → ((n : ℕ) → Stays (f n)) → Stays (makes_reference references ps f).processes
-  makes_stays references ps f h each = either_stays (nat_lt references most_references) _ (fault ps SystemLimit) (each (references + 1)) h
+  answered_stays : (references : ℕ) (ps : List Process) (caller : ℕ) (native : NodeNative) (xs : List Sent) (a : Answered) → Stays ps → Answers references ps caller native xs a
+      → Stays a.processes
+  answered_stays references ps caller native _ _ h (keeps_all value) = h
+  answered_stays references ps caller native _ _ h (starts_one name function arguments value) = push_stays ps (started (length ps + 1) name function arguments) h
+  answered_stays references ps caller native _ _ h (names_one name at x value e free) = live_stays ps at x _ e h
+  answered_stays references ps caller native _ _ h (unnames_one at x value e) = live_stays ps at x _ e h
+  answered_stays references ps caller native _ _ h (posts_one to signal value plain) = posted_stays ps to signal (live_process ps to) refl h
+  answered_stays references ps caller native _ _ h (makes_one value) = h
+  answered_stays references ps caller native _ _ h (monitors_one watched value is) = monitored_stays ps caller watched (references + 1) h
 
   answer_stays : (references : ℕ) (ps : List Process) (caller : ℕ) (native : NodeNative) (ts : List TermValue) → Stays ps → Stays (answer_of references ps caller native ts).processes
-  answer_stays references ps caller Spawn (atom_term name ∷ atom_term function ∷ arguments ∷ []) h = spawns_stays ps name function (elements_in arguments) h
-  answer_stays references ps caller Register (atom_term name ∷ pid_term host id serial creation ∷ []) h = registers_stays ps name (own_number (pid_term host id serial creation)) h
-  answer_stays references ps caller Unregister (atom_term name ∷ []) h = unregisters_stays ps (registered ps name) h
-  answer_stays references ps caller Whereis (atom_term name ∷ []) h = h
-  answer_stays references ps caller IsProcessAlive (pid_term host id serial creation ∷ []) h = h
-  answer_stays references ps caller Exit (pid_term host id serial creation ∷ reason ∷ []) h = signalled_stays ps (own_number (pid_term host id serial creation)) (ExitSignal caller reason) h
-  answer_stays references ps caller Send (pid_term host id serial creation ∷ message ∷ []) h = signalled_stays ps (own_number (pid_term host id serial creation)) (Message message) h
-  answer_stays references ps caller Send (atom_term name ∷ message ∷ []) h = sends_stays ps (registered ps name) message h
-  answer_stays references ps caller MakeRef [] h = makes_stays references ps (λ n. ps) h (λ n. h)
-  answer_stays references ps caller Monitor (atom_term kind ∷ pid_term host id serial creation ∷ []) h =
-      let watched : TermValue = pid_term host id serial creation in
-      either_stays (same_text kind (codes "process")) (makes_reference references ps (monitored ps caller watched)) (fault ps Badarg)
-      (makes_stays references ps (monitored ps caller watched) h (λ n. monitored_stays ps caller watched n h)) h
-  answer_stays references ps caller _ _ h = h
+  answer_stays references ps caller native ts h = answered_stays references ps caller native _ _ h (answer_is references ps caller native ts)
 
   -- ---- rows
 

@@ -10,10 +10,10 @@ use Rattle.beam_machine.specs.declared.process.Status.{Status}
 use Rattle.beam_machine.specs.declared.process.Status.TheVariants.{Running}
 use Rattle.beam_machine.specs.Prelude.{Code, Process, is_running, is_ended, started, ended, killed, monitor_of, Outcome, makes, sends, asks, sleeps, answers, arguments_of, outcome, goes_on, State, process_of, with_process, hearing_by, Answered, answer_of, loaded, deleted, purged, lingers, lingers_in_olds, IsHome, AreHome, made_process, raised, notified, continues, goes_on_with, deadline_at, done_by, row, Rows, running, row_and, signalled, arrived, delivered, purge_old, end_old, load_new, next, run, Touch, touch_of, Touches, stays, in_turn, loads, deletes, ends, purges, runs, arrives, times_out, ticks, posts, starts}
 use Rattle.beam_machine.specs.declared.callee.After.{After}
-use Rattle.beam_term.specs.Prelude.{TermValue, nil_term, int_term, atom_term, reference_term, pid_term, pair_term, tuple_term}
+use Rattle.beam_term.specs.Prelude.{TermValue, nil_term, atom_term}
 use Rattle.beam_machine.specs.Next.{steps}
 use Rattle.beam_laws.proofs.LivePlaces.{IsDeadlineHome, Whole, whole_home, home_whole}
-use Rattle.beam_laws.proofs.Calls.{AfterHome, ComesHome, answers_home, outcome_home}
+use Rattle.beam_laws.proofs.RowsHome.{AfterHome, ComesHome, answers_home, outcome_home}
 use Rattle.beam_laws.proofs.Answering.{IsHomeIf, set_home, process_home, live_home, appended_home, started_home, posted_home, answer_home}
 use Rattle.beam_laws.specs.Prelude.{downs_of_end}
 use Rattle.beam_laws.proofs.Changes.{all_kept, loaded_keeps, deleted_keeps, purged_keeps, purged_home, killed_home}
@@ -40,7 +40,7 @@ continues_home : (s : State) (pid : ℕ) (after : After) (value : Result TermVal
 continues_home s pid after value None h i l = h
 continues_home s pid after value (Some p) h i l =
     let q : Process = answers p after (raised value) in
-    made_home s pid q h (whole_home s.code q (answers_home s.code p after (raised value) (home_whole s.code p i).1 l))
+    made_home s pid q h (whole_home s.code q (answers_home s.code p after (raised value) (home_whole s.code p i) l))
 
 goes_on_with_home : (s : State) (pid : ℕ) (after : After) (a : Answered) → AreHome s.code a.processes → AfterHome s.code after → IsStateHome (goes_on_with s pid after a)
 goes_on_with_home s pid after a h l =
@@ -80,12 +80,7 @@ signalled_home code p sender (atom_term text) h =
       | true ↦ λ n e. cc
       | false ↦ elim (same_text text (codes "normal") && not (sender == p.pid)) as (λ c. IsHome code (cond c p (ended p (atom_term text) nil_term))) [ true ↦ h | false ↦ λ n e. cc ]
     ]
-signalled_home code p sender (int_term n) h = λ n e. cc
-signalled_home code p sender (reference_term node creation words) h = λ n e. cc
-signalled_home code p sender (pid_term host id serial creation) h = λ n e. cc
-signalled_home code p sender nil_term h = λ n e. cc
-signalled_home code p sender (pair_term head tail) h = λ n e. cc
-signalled_home code p sender (tuple_term items) h = λ n e. cc
+signalled_home code p sender reason h = λ n e. cc
 
 notified_home : (code : Code) (p : Process) (reason : TermValue) (o : Option Monitor) → IsHome code p → IsHome code (notified p reason o)
 notified_home code p reason None h = h

@@ -1,14 +1,15 @@
 pub mod LivePlaces
 pub mod Lookups
-pub mod Registers
-pub mod Rows
-pub mod Calls
+pub mod NodeAnswers
 pub mod Answering
 pub mod Changes
 pub mod Loads
 pub mod Hearing
 pub mod Demonitoring
 pub mod Touching
+pub mod Moves
+pub mod Moving
+pub mod RowsHome
 pub mod Homes
 pub mod Events
 pub mod Numbering
@@ -20,7 +21,6 @@ pub mod Ending
 pub mod Follows
 pub mod Orderly
 pub mod Unread
-pub mod UnreadCalls
 pub mod Numbered
 pub mod Private
 pub mod Commits

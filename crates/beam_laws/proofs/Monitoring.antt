@@ -5,7 +5,7 @@ use Rattle.beam_machine.specs.declared.process.Signal.{Signal}
 use Rattle.beam_machine.specs.declared.process.Signal.TheVariants.{Message, Exit, Down}
 use Rattle.beam_machine.specs.Prelude.{Code, signalled, notified, arrived, delivered, Process, is_ended, ended, killed, monitor_of, Outcome, makes, sends, asks, sleeps, outcome}
 use Rattle.beam_model.specs.Prelude.{same_text}
-use Rattle.beam_term.specs.Prelude.{TermValue, nil_term, int_term, atom_term, reference_term, pid_term, pair_term, tuple_term}
+use Rattle.beam_term.specs.Prelude.{TermValue, nil_term, atom_term}
 use Rattle.beam_laws.specs.Prelude.{ArePart, MonitorsNoMore}
 use Rattle.beam_laws.proofs.Follows.{ComesWith, outcome_comes_with}
 
@@ -61,12 +61,7 @@ signalled_part p sender (atom_term text) =
       | true ↦ none_are p.monitors
       | false ↦ elim (same_text text (codes "normal") && not (sender == p.pid)) as (λ c. ArePart p.monitors (cond {A = Process} c p (ended p (atom_term text) nil_term)).monitors) [ true ↦ all_are p.monitors | false ↦ none_are p.monitors ]
     ]
-signalled_part p sender (int_term n) = none_are p.monitors
-signalled_part p sender (reference_term node creation words) = none_are p.monitors
-signalled_part p sender (pid_term host id serial creation) = none_are p.monitors
-signalled_part p sender nil_term = none_are p.monitors
-signalled_part p sender (pair_term head tail) = none_are p.monitors
-signalled_part p sender (tuple_term items) = none_are p.monitors
+signalled_part p sender reason = none_are p.monitors
 
 notified_part : (p : Process) (reason : TermValue) (o : Option Monitor) → ArePart p.monitors (notified p reason o).monitors
 notified_part p reason None = all_are p.monitors

@@ -1,21 +1,19 @@
 -- Process n has pid n, an ended process is its pid, its reason and its value, and no two processes have one name: each event keeps this.
-use Rattle.std.proofs.Common.{◌≡◌, ℕ, zero, suc, ◌+◌, ◌-◌, ◌==◌, ◌&&◌, Bool, true, false, cond, not, nat_lt, List, [], ◌∷◌, ◌++◌, length, map, slice_get, refl, sym, ap, subst, ◌∙◌, true≢false, arith, is_some, codes, Option, Some, None, Result, option_map, unwrap_or, flat_map, slice_set}
+use Rattle.std.proofs.Common.{◌≡◌, ℕ, zero, suc, ◌+◌, ◌-◌, ◌==◌, ◌&&◌, Bool, true, false, cond, not, List, [], ◌∷◌, ◌++◌, length, map, slice_get, refl, sym, ap, subst, ◌∙◌, true≢false, arith, codes, Option, Some, None, Result, option_map, unwrap_or, flat_map, slice_set}
 use Rattle.std.proofs.lemmas.Option.{slice_get-map, same_Some}
 use Rattle.std.specs.Cmp.Lexicographic.{nat_list_eq_equiv}
 use Rattle.beam_model.specs.declared.exception.Fault.{Fault}
-use Rattle.beam_model.specs.declared.exception.Fault.TheVariants.{Badarg, SystemLimit}
 use Rattle.beam_model.specs.declared.native.NodeNative.{NodeNative}
-use Rattle.beam_model.specs.declared.native.NodeNative.TheVariants.{Spawn, Register, Unregister, Whereis, IsProcessAlive, Exit, Send, MakeRef, Monitor}
-use Rattle.beam_model.specs.Prelude.{Listing, elements_in, truth, same_text}
+use Rattle.beam_model.specs.Prelude.{Listing, same_text}
 use Rattle.beam_machine.specs.declared.event.Event.{Event}
 use Rattle.beam_machine.specs.declared.process.Status.{Status}
 use Rattle.beam_machine.specs.declared.process.Status.TheVariants.{Running, Waiting, Ended}
 use Rattle.beam_machine.specs.declared.process.Monitor.{Monitor as MonitorValue}
 use Rattle.beam_machine.specs.declared.process.Signal.{Signal}
 use Rattle.beam_machine.specs.declared.process.Signal.TheVariants.{Message, Exit as ExitSignal, Down}
-use Rattle.beam_machine.specs.Prelude.{Process, is_ended, started, own_pid, ended, killed, monitor_of, Outcome, makes, sends, asks, sleeps, answers, outcome, own_number, arguments_of, goes_on, State, process_of, with_process, live_process, has_name, registered, posted_to, posted, with_signals, downs, hearing_by, lingers, lingers_in_old, lingers_in_olds, pids_of, ends_or_hears, killing, Answered, answer, fault, most_processes, is_free, spawns_with, names, registers, unnames, unregisters, is_alive, posted_if_own as signals, sends_named, most_references, makes_reference, or_noproc, put_monitor, monitored, answer_of, Rows, raised, continues, deadline_at, done_by, row, running, row_and, received, signalled, notified, arrived, delivered, next, run, Touch, touch_of, Touches, stays, in_turn, loads, deletes, ends as ends_olds, purges, runs, arrives, times_out, ticks, posts, starts}
+use Rattle.beam_machine.specs.Prelude.{Process, is_ended, started, ended, killed, monitor_of, Outcome, makes, sends, asks, sleeps, answers, outcome, own_number, arguments_of, goes_on, State, process_of, with_process, live_process, has_name, registered, posted_to, posted, with_signals, downs, hearing_by, lingers, lingers_in_old, lingers_in_olds, pids_of, ends_or_hears, killing, Answered, is_alive, posted_if_own as signals, or_noproc, put_monitor, monitored, answer_of, Rows, raised, continues, deadline_at, done_by, row, running, row_and, received, signalled, notified, arrived, delivered, next, run, Touch, touch_of, Touches, stays, in_turn, loads, deletes, ends as ends_olds, purges, runs, arrives, times_out, ticks, posts, starts, Sent}
 use Rattle.beam_machine.specs.declared.callee.After.{After}
-use Rattle.beam_term.specs.Prelude.{TermValue, atom_term, pid_term, nil_term}
+use Rattle.beam_term.specs.Prelude.{TermValue, atom_term, nil_term}
 use Rattle.beam_machine.specs.Next.{steps}
 pub use Rattle.beam_laws.specs.Orderly.{Numbered, Apart, Orderly}
 use Rattle.beam_laws.proofs.Ending.{running_is, alive_is, at_index, final}
@@ -23,6 +21,7 @@ use Rattle.beam_laws.proofs.Follows.{Ends, Follows, Lives, on, over, answered, C
 use Rattle.beam_laws.specs.Prelude.{downs_of_end}
 use Rattle.beam_laws.proofs.Hearing.{hears, hearing_is}
 use Rattle.beam_laws.proofs.Touching.{next_touches}
+use Rattle.beam_laws.proofs.NodeAnswers.{Answers, keeps_all, starts_one, names_one, unnames_one, posts_one, makes_one, monitors_one, answer_is}
 
 pub none_orderly : Orderly []
 none_orderly = ((λ i p e. cc), λ i j p q name e f g h. cc)
@@ -129,10 +128,6 @@ unregistered (p ∷ ps) name zero q h e g =
 unregistered (p ∷ ps) name (suc j) q h e g =
     unregistered ps name j q (elim (has_name name p.name) as (λ b. cond b (Some p.pid) (registered ps name) ≡ None → registered ps name ≡ None) [ true ↦ λ e. cc | false ↦ λ e. e ] h) e g
 
-free_is : (o : Option ℕ) (b c : Bool) → ((not (is_some o) && b) && c) ≡ true → o ≡ None
-free_is None b c e = refl
-free_is (Some n) b c e = cc
-
 named_orderly : (ps : List Process) (name : List ℕ) (at : ℕ) (x : Process) → Orderly ps → slice_get ps at ≡ Some x → is_ended x.status ≡ false → registered ps name ≡ None → Orderly (slice_set ps at (record x { name = Some name }))
 named_orderly ps name at x o there lives free =
     let q : Process = record x { name = Some name } in (
@@ -178,51 +173,6 @@ posted_tame ps to signal (Some x) e h =
     let a = alive_is (process_of ps to) x e in
     live_tame ps to x (record x { transit = x.transit ++ signal ∷ [] }) h e (refl, (refl, a.1)) (λ n e. e)
 
-either_tame : (ps : List Process) (b : Bool) (x y : Answered) → Tame ps x.processes → Tame ps y.processes → Tame ps (cond b x y).processes
-either_tame ps true x y h k = h
-either_tame ps false x y h k = k
-
-spawns_tame : (ps : List Process) (name function : List ℕ) (o : Option (List TermValue)) → Orderly ps → Tame ps (spawns_with ps name function o).processes
-spawns_tame ps name function None h = same_tame ps h
-spawns_tame ps name function (Some arguments) h =
-    let new : Process = started (length ps + 1) name function arguments in
-    let b : Bool = nat_lt (length ps) most_processes in
-    let spawned : Answered = answer (ps ++ new ∷ []) (own_pid (length ps + 1)) in
-    either_tame ps (nat_lt 255 (length arguments)) (fault ps Badarg) (cond b spawned (fault ps SystemLimit)) (same_tame ps h)
-    (either_tame ps b spawned (fault ps SystemLimit) (push_orderly ps name function arguments h, push_ends_none ps new refl) (same_tame ps h))
-
-names_tame : (ps : List Process) (name : List ℕ) (at : ℕ) (o : Option Process) → live_process ps at ≡ o → Orderly ps → Tame ps (names ps name at o).processes
-names_tame ps name at None e h = same_tame ps h
-names_tame ps name at (Some x) e h = go (is_free ps name && not (is_some x.name)) refl
-  where
-    go : (b : Bool) → (is_free ps name && not (is_some x.name)) ≡ b → Tame ps (cond {A = Answered} b (answer (with_process ps at (record x { name = Some name })) (truth true)) (fault ps Badarg)).processes
-    go false f = same_tame ps h
-    go true f =
-        let a = alive_is (process_of ps at) x e in
-        (named_orderly ps name (at - 1) x h (at_index ps at x a.0) a.1 (free_is (registered ps name) (not (same_text name (codes "undefined"))) (not (is_some x.name)) f), set_ends_none ps (at - 1) (record x { name = Some name }) a.1)
-
-registers_tame : (ps : List Process) (name : List ℕ) (o : Option ℕ) → Orderly ps → Tame ps (registers ps name o).processes
-registers_tame ps name None h = same_tame ps h
-registers_tame ps name (Some at) h = names_tame ps name at (live_process ps at) refl h
-
-unnames_tame : (ps : List Process) (at : ℕ) (o : Option Process) → live_process ps at ≡ o → Orderly ps → Tame ps (unnames ps at o).processes
-unnames_tame ps at None e h = same_tame ps h
-unnames_tame ps at (Some x) e h =
-    let a = alive_is (process_of ps at) x e in
-    live_tame ps at x (record x { name = None }) h e (refl, (refl, a.1)) (λ n e. nameless n e)
-
-unregisters_tame : (ps : List Process) (o : Option ℕ) → Orderly ps → Tame ps (unregisters ps o).processes
-unregisters_tame ps None h = same_tame ps h
-unregisters_tame ps (Some at) h = unnames_tame ps at (live_process ps at) refl h
-
-signals_tame : (ps : List Process) (o : Option ℕ) (signal : Signal) → Orderly ps → Tame ps (signals ps o signal)
-signals_tame ps None signal h = same_tame ps h
-signals_tame ps (Some to) signal h = posted_tame ps to signal (live_process ps to) refl h
-
-sends_tame : (ps : List Process) (o : Option ℕ) (message : TermValue) → Orderly ps → Tame ps (sends_named ps o message).processes
-sends_tame ps None message h = same_tame ps h
-sends_tame ps (Some to) message h = posted_tame ps to (Message message) (live_process ps to) refl h
-
 watching_tame : (ps : List Process) (caller n : ℕ) (watched : TermValue) (o : Option Process) → live_process ps caller ≡ o → Orderly ps → Tame ps (put_monitor ps caller n watched o)
 watching_tame ps caller n watched None e h = same_tame ps h
 watching_tame ps caller n watched (Some x) e h =
@@ -244,24 +194,23 @@ monitored_tame ps caller watched n h =
     let first : Tame ps qs = noproc_tame ps caller n watched h in
     both_tame ps qs (put_monitor qs caller n watched (live_process qs caller)) first (watching_tame qs caller n watched (live_process qs caller) refl first.0)
 
-makes_tame : (references : ℕ) (ps : List Process) (f : ℕ → List Process) → Orderly ps → ((n : ℕ) → Tame ps (f n)) → Tame ps (makes_reference references ps f).processes
-makes_tame references ps f h each = either_tame ps (nat_lt references most_references) _ (fault ps SystemLimit) (each (references + 1)) (same_tame ps h)
+answered_tame : (references : ℕ) (ps : List Process) (caller : ℕ) (native : NodeNative) (xs : List Sent) (a : Answered) → Orderly ps → Answers references ps caller native xs a
+    → Tame ps a.processes
+answered_tame references ps caller native _ _ h (keeps_all value) = same_tame ps h
+answered_tame references ps caller native _ _ h (starts_one name function arguments value) =
+    (push_orderly ps name function arguments h, push_ends_none ps (started (length ps + 1) name function arguments) refl)
+answered_tame references ps caller native _ _ h (names_one name at x value e free) =
+    let a = alive_is (process_of ps at) x e in
+    (named_orderly ps name (at - 1) x h (at_index ps at x a.0) a.1 free, set_ends_none ps (at - 1) (record x { name = Some name }) a.1)
+answered_tame references ps caller native _ _ h (unnames_one at x value e) =
+    let a = alive_is (process_of ps at) x e in
+    live_tame ps at x (record x { name = None }) h e (refl, (refl, a.1)) (λ n e. nameless n e)
+answered_tame references ps caller native _ _ h (posts_one to signal value plain) = posted_tame ps to signal (live_process ps to) refl h
+answered_tame references ps caller native _ _ h (makes_one value) = same_tame ps h
+answered_tame references ps caller native _ _ h (monitors_one watched value is) = monitored_tame ps caller watched (references + 1) h
 
 answer_tame : (references : ℕ) (ps : List Process) (caller : ℕ) (native : NodeNative) (ts : List TermValue) → Orderly ps → Tame ps (answer_of references ps caller native ts).processes
-answer_tame references ps caller Spawn (atom_term name ∷ atom_term function ∷ arguments ∷ []) h = spawns_tame ps name function (elements_in arguments) h
-answer_tame references ps caller Register (atom_term name ∷ pid_term host id serial creation ∷ []) h = registers_tame ps name (own_number (pid_term host id serial creation)) h
-answer_tame references ps caller Unregister (atom_term name ∷ []) h = unregisters_tame ps (registered ps name) h
-answer_tame references ps caller Whereis (atom_term name ∷ []) h = same_tame ps h
-answer_tame references ps caller IsProcessAlive (pid_term host id serial creation ∷ []) h = same_tame ps h
-answer_tame references ps caller Exit (pid_term host id serial creation ∷ reason ∷ []) h = signals_tame ps (own_number (pid_term host id serial creation)) (ExitSignal caller reason) h
-answer_tame references ps caller Send (pid_term host id serial creation ∷ message ∷ []) h = signals_tame ps (own_number (pid_term host id serial creation)) (Message message) h
-answer_tame references ps caller Send (atom_term name ∷ message ∷ []) h = sends_tame ps (registered ps name) message h
-answer_tame references ps caller MakeRef [] h = makes_tame references ps (λ n. ps) h (λ n. same_tame ps h)
-answer_tame references ps caller Monitor (atom_term kind ∷ pid_term host id serial creation ∷ []) h =
-    let watched : TermValue = pid_term host id serial creation in
-    either_tame ps (same_text kind (codes "process")) (makes_reference references ps (monitored ps caller watched)) (fault ps Badarg)
-    (makes_tame references ps (monitored ps caller watched) h (λ n. monitored_tame ps caller watched n h)) (same_tame ps h)
-answer_tame references ps caller _ _ h = same_tame ps h
+answer_tame references ps caller native ts h = answered_tame references ps caller native _ _ h (answer_is references ps caller native ts)
 
 -- ---- rows
 

@@ -1,20 +1,19 @@
 -- Posted signals, seen from one process: they come after those in transit to it.
-use Rattle.std.proofs.Common.{◌≡◌, ◌≢◌, ℕ, zero, suc, ◌+◌, ◌-◌, ◌==◌, eq-eqb, true≢false, Bool, true, false, cond, nat_lt, List, [], ◌∷◌, ◌++◌, append_assoc, append-nil, length, ◌<◌, slice_get, refl, sym, ap, subst, ◌∙◌, arith, Option, Some, None, option_map, is_some, map, Ok, codes}
+use Rattle.std.proofs.Common.{◌≡◌, ◌≢◌, ℕ, zero, suc, ◌+◌, ◌-◌, ◌==◌, eq-eqb, true≢false, Bool, true, false, cond, nat_lt, List, [], ◌∷◌, ◌++◌, append_assoc, append-nil, length, ◌<◌, slice_get, refl, sym, ap, subst, ◌∙◌, arith, Option, Some, None, option_map, is_some, map, codes}
 use Rattle.std.proofs.lemmas.Bool.Decides.{nat_tests}
 use Rattle.beam_machine.specs.declared.process.Signal.{Signal}
-use Rattle.beam_machine.specs.declared.process.Signal.TheVariants.{Message, Exit as ExitSignal, Down}
-use Rattle.beam_machine.specs.Prelude.{Process, is_ended, started, own_pid, own_reference, own_number, process_of, with_process, alive, live_process, registered, posted_to, posted, hearing_by, Answered, answer, fault, most_processes, spawns_with, names, registers, unnames, unregisters, is_alive, posted_if_own, sends_named, most_references, makes_reference, or_noproc, put_monitor, monitored, monitors_by, answer_of, Sent}
+use Rattle.beam_machine.specs.declared.process.Signal.TheVariants.{Down}
+use Rattle.beam_machine.specs.Prelude.{Process, is_ended, started, own_number, process_of, with_process, alive, live_process, posted_to, posted, hearing_by, Answered, is_alive, or_noproc, put_monitor, monitored, answer_of, Sent}
 use Rattle.beam_machine.specs.declared.process.Status.{Status}
-use Rattle.beam_term.specs.Prelude.{TermValue, int_term, atom_term, reference_term, pid_term, nil_term, pair_term, tuple_term}
-use Rattle.beam_model.specs.Prelude.{same_text, elements_in}
-use Rattle.beam_model.specs.declared.exception.Fault.TheVariants.{Badarg, SystemLimit}
+use Rattle.beam_term.specs.Prelude.{TermValue, atom_term}
 use Rattle.beam_model.specs.declared.native.NodeNative.{NodeNative}
-use Rattle.beam_model.specs.declared.native.NodeNative.TheVariants.{Spawn, Register, Unregister, Whereis, IsProcessAlive, Exit, Send, MakeRef, Monitor}
-use Rattle.beam_laws.specs.Prelude.{with_name_and_transit, with_signals, posted_all, signal_to, signal_if, each_sent, noproc_sends, native_sends, signals_to, downs_of_end}
+use Rattle.beam_model.specs.declared.native.NodeNative.TheVariants.{Monitor}
+use Rattle.beam_laws.specs.Prelude.{with_name_and_transit, with_signals, posted_all, signal_to, each_sent, noproc_sends, native_sends, signals_to, downs_of_end}
 use Rattle.beam_laws.proofs.Ending.{alive_is, get_push}
 use Rattle.beam_laws.proofs.Numbered.{positive, put_here, put_elsewhere}
 use Rattle.beam_laws.proofs.Hearing.{hears, hearing_at}
 use Rattle.beam_laws.proofs.Private.{having_own}
+use Rattle.beam_laws.proofs.NodeAnswers.{Answers, keeps_all, starts_one, names_one, unnames_one, posts_one, makes_one, monitors_one, answer_is}
 
 -- ---- more signals
 
@@ -255,43 +254,6 @@ module _ (pid : ℕ) where
 
   -- ---- natives of the node
 
-  either_grows : (ps : List Process) (b : Bool) (x y : Answered) → Grows [] ps x.processes → Grows [] ps y.processes → Grows [] ps (cond b x y).processes
-  either_grows ps true x y h k = h
-  either_grows ps false x y h k = k
-
-  spawns_grows : (ps : List Process) (m f : List ℕ) (o : Option (List TermValue)) → Grows [] ps (spawns_with ps m f o).processes
-  spawns_grows ps m f None = grows_still ps
-  spawns_grows ps m f (Some arguments) =
-      let new : Process = started (length ps + 1) m f arguments in
-      let b : Bool = nat_lt (length ps) most_processes in
-      let spawned : Answered = answer (ps ++ new ∷ []) (own_pid (length ps + 1)) in
-      either_grows ps (nat_lt 255 (length arguments)) (fault ps Badarg) (cond b spawned (fault ps SystemLimit)) (grows_still ps)
-      (either_grows ps b spawned (fault ps SystemLimit) (started_grows ps (length ps + 1) m f arguments) (grows_still ps))
-
-  names_grows : (ps : List Process) (name : List ℕ) (at : ℕ) (o : Option Process) → live_process ps at ≡ o → Grows [] ps (names ps name at o).processes
-  names_grows ps name at None e = grows_still ps
-  names_grows ps name at (Some x) e = either_grows ps _ _ (fault ps Badarg) (named_grows ps at x (Some name) e) (grows_still ps)
-
-  registers_grows : (ps : List Process) (name : List ℕ) (o : Option ℕ) → Grows [] ps (registers ps name o).processes
-  registers_grows ps name None = grows_still ps
-  registers_grows ps name (Some at) = names_grows ps name at (live_process ps at) refl
-
-  unnames_grows : (ps : List Process) (at : ℕ) (o : Option Process) → live_process ps at ≡ o → Grows [] ps (unnames ps at o).processes
-  unnames_grows ps at None e = grows_still ps
-  unnames_grows ps at (Some x) e = named_grows ps at x None e
-
-  unregisters_grows : (ps : List Process) (o : Option ℕ) → Grows [] ps (unregisters ps o).processes
-  unregisters_grows ps None = grows_still ps
-  unregisters_grows ps (Some at) = unnames_grows ps at (live_process ps at) refl
-
-  signalled_grows : (ps : List Process) (o : Option ℕ) (signal : Signal) → Grows (signal_if ps o signal) ps (posted_if_own ps o signal)
-  signalled_grows ps None signal = grows_still ps
-  signalled_grows ps (Some to) signal = posted_grows ps to signal
-
-  sends_grows : (ps : List Process) (o : Option ℕ) (message : TermValue) → Grows (signal_if ps o (Message message)) ps (sends_named ps o message).processes
-  sends_grows ps None message = grows_still ps
-  sends_grows ps (Some to) message = posted_grows ps to (Message message)
-
   pub noproc_grows : (ps : List Process) (caller n : ℕ) (watched : TermValue) → Grows (noproc_sends ps caller watched (Some n)) ps (or_noproc ps caller n watched)
   noproc_grows ps caller n watched =
       let signal : Signal = Down n (atom_term (codes "noproc")) in
@@ -312,70 +274,22 @@ module _ (pid : ℕ) where
       subst (λ ys. Grown ys (process_of ps pid) (process_of (monitored ps caller watched n) pid)) (ap (signals_to pid) (append-nil xs))
       (grows_more xs [] ps qs (monitored ps caller watched n) (noproc_grows ps caller n watched) (watching_grows qs caller n watched (live_process qs caller) refl ne))
 
-  -- monitor sends a DOWN only where it made a reference
-  monitors_grow : (references : ℕ) (ps : List Process) (caller : ℕ) (kind : List ℕ) (watched : TermValue) → pid ≢ caller
-      → Grows (noproc_sends ps caller watched (monitors_by references ps caller kind watched).made) ps (monitors_by references ps caller kind watched).processes
-  monitors_grow references ps caller kind watched ne = go (same_text kind (codes "process")) (nat_lt references most_references)
-    where
-      go : (b c : Bool)
-          → Grows (noproc_sends ps caller watched (cond {A = Answered} b (cond c (record { processes = monitored ps caller watched (references + 1); made = Some (references + 1); value = Ok (own_reference (references + 1)) }) (fault ps SystemLimit)) (fault ps Badarg)).made)
-          ps (cond {A = Answered} b (cond c (record { processes = monitored ps caller watched (references + 1); made = Some (references + 1); value = Ok (own_reference (references + 1)) }) (fault ps SystemLimit)) (fault ps Badarg)).processes
-      go false c = grows_still ps
-      go true false = grows_still ps
-      go true true = monitored_grows ps caller (references + 1) watched ne
-
-  makes_still : (references : ℕ) (ps : List Process) → Grows [] ps (makes_reference references ps (λ n. ps)).processes
-  makes_still references ps = either_grows ps (nat_lt references most_references) _ (fault ps SystemLimit) (grows_still ps) (grows_still ps)
-
   -- the caller of monitor is another process; other natives may have any caller
   abbrev pub Elsewhere : NodeNative → ℕ → Type 0
   Elsewhere Monitor caller = pid ≢ caller
   Elsewhere native caller = Unit {0}
 
-  monitor_grows : (references : ℕ) (ps : List Process) (caller : ℕ) (ts : List TermValue) → pid ≢ caller
-      → Grows (native_sends references ps caller Monitor ts) ps (answer_of references ps caller Monitor ts).processes
-  monitor_grows references ps caller [] ne = grows_still ps
-  monitor_grows references ps caller (kind ∷ []) ne = one kind
-    where
-      one : (kind : TermValue) → Grows (native_sends references ps caller Monitor (kind ∷ [])) ps (answer_of references ps caller Monitor (kind ∷ [])).processes
-      one (int_term n) = grows_still ps
-      one (atom_term text) = grows_still ps
-      one (reference_term host creation words) = grows_still ps
-      one (pid_term host id serial creation) = grows_still ps
-      one nil_term = grows_still ps
-      one (pair_term head tail) = grows_still ps
-      one (tuple_term items) = grows_still ps
-  monitor_grows references ps caller (kind ∷ watched ∷ []) ne = two kind watched
-    where
-      two : (kind watched : TermValue) → Grows (native_sends references ps caller Monitor (kind ∷ watched ∷ [])) ps (answer_of references ps caller Monitor (kind ∷ watched ∷ [])).processes
-      two (atom_term kind) (pid_term host id serial creation) = monitors_grow references ps caller kind (pid_term host id serial creation) ne
-      two (atom_term kind) _ = grows_still ps
-      two _ _ = grows_still ps
-  monitor_grows references ps caller (kind ∷ watched ∷ more ∷ rest) ne = three kind watched
-    where
-      three : (kind watched : TermValue)
-          → Grows (native_sends references ps caller Monitor (kind ∷ watched ∷ more ∷ rest)) ps (answer_of references ps caller Monitor (kind ∷ watched ∷ more ∷ rest)).processes
-      three (atom_term kind) (pid_term host id serial creation) = grows_still ps
-      three (atom_term kind) _ = grows_still ps
-      three _ _ = grows_still ps
+  answered_grows : (references : ℕ) (ps : List Process) (caller : ℕ) (native : NodeNative) (xs : List Sent) (a : Answered) → Elsewhere native caller
+      → Answers references ps caller native xs a → Grows xs ps a.processes
+  answered_grows references ps caller native _ _ apart (keeps_all value) = grows_still ps
+  answered_grows references ps caller native _ _ apart (starts_one m f arguments value) = started_grows ps (length ps + 1) m f arguments
+  answered_grows references ps caller native _ _ apart (names_one name at x value e free) = named_grows ps at x (Some name) e
+  answered_grows references ps caller native _ _ apart (unnames_one at x value e) = named_grows ps at x None e
+  answered_grows references ps caller native _ _ apart (posts_one to signal value plain) = posted_grows ps to signal
+  answered_grows references ps caller native _ _ apart (makes_one value) = grows_still ps
+  answered_grows references ps caller native _ _ apart (monitors_one watched value is) =
+      monitored_grows ps caller (references + 1) watched (subst (λ n. Elsewhere n caller) is apart)
 
   pub answer_grows : (references : ℕ) (ps : List Process) (caller : ℕ) (native : NodeNative) (ts : List TermValue) → Elsewhere native caller
       → Grows (native_sends references ps caller native ts) ps (answer_of references ps caller native ts).processes
-  answer_grows references ps caller Spawn (atom_term m ∷ atom_term f ∷ arguments ∷ []) apart = spawns_grows ps m f (elements_in arguments)
-  answer_grows references ps caller Register (atom_term name ∷ pid_term host id serial creation ∷ []) apart = registers_grows ps name (own_number (pid_term host id serial creation))
-  answer_grows references ps caller Unregister (atom_term name ∷ []) apart = unregisters_grows ps (registered ps name)
-  answer_grows references ps caller Whereis (atom_term name ∷ []) apart = grows_still ps
-  answer_grows references ps caller IsProcessAlive (pid_term host id serial creation ∷ []) apart = grows_still ps
-  answer_grows references ps caller Exit (pid_term host id serial creation ∷ reason ∷ []) apart = signalled_grows ps (own_number (pid_term host id serial creation)) (ExitSignal caller reason)
-  answer_grows references ps caller Send (pid_term host id serial creation ∷ message ∷ []) apart = signalled_grows ps (own_number (pid_term host id serial creation)) (Message message)
-  answer_grows references ps caller Send (atom_term name ∷ message ∷ []) apart = sends_grows ps (registered ps name) message
-  answer_grows references ps caller Exit (to ∷ []) apart = grows_still ps
-  answer_grows references ps caller Exit (to ∷ reason ∷ []) apart = grows_still ps
-  answer_grows references ps caller Exit (to ∷ reason ∷ more ∷ rest) apart = grows_still ps
-  answer_grows references ps caller Send (to ∷ []) apart = grows_still ps
-  answer_grows references ps caller Send (to ∷ message ∷ []) apart = grows_still ps
-  answer_grows references ps caller Send (to ∷ message ∷ more ∷ rest) apart = grows_still ps
-  answer_grows references ps caller MakeRef [] apart = makes_still references ps
-  answer_grows references ps caller MakeRef (t ∷ rest) apart = grows_still ps
-  answer_grows references ps caller Monitor ts apart = monitor_grows references ps caller ts apart
-  answer_grows references ps caller _ _ apart = grows_still ps
+  answer_grows references ps caller native ts apart = answered_grows references ps caller native _ _ apart (answer_is references ps caller native ts)

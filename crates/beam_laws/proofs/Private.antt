@@ -5,8 +5,7 @@ use Rattle.beam_machine.specs.declared.process.Status.{Status}
 use Rattle.beam_machine.specs.declared.process.Status.TheVariants.{Running, Waiting, Ended}
 use Rattle.beam_machine.specs.Prelude.{Code, Process, is_running, is_ended, Outcome, makes, sends, asks, sleeps, outcome, Private, with_first_row, with_first_sending, private_by, private_rows}
 use Rattle.beam_laws.specs.Prelude.{with_name_and_transit}
-use Rattle.beam_laws.proofs.Unread.{with}
-use Rattle.beam_laws.proofs.UnreadCalls.{moved, outcome_same}
+use Rattle.beam_laws.proofs.Unread.{with, moved, outcome_same}
 
 pub having_having : (name m : Option (List ℕ)) (transit t : List Signal) (p : Process) → with_name_and_transit name transit (with_name_and_transit m t p) ≡ with_name_and_transit name transit p
 having_having name m transit t p = go (is_ended p.status) refl

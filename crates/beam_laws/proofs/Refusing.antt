@@ -9,18 +9,17 @@ use Rattle.beam_machine.specs.declared.event.Refused.{Refused}
 use Rattle.beam_machine.specs.declared.event.Refused.TheVariants.{BackwardClock, NotReady, Sticky, NotPurged, Duplicated, TooMany}
 use Rattle.beam_machine.specs.declared.process.Deadline.{Deadline}
 use Rattle.beam_machine.specs.declared.process.Signal.{Signal}
-use Rattle.beam_machine.specs.declared.process.Signal.TheVariants.{Message, Exit as ExitSignal, Down}
-use Rattle.beam_machine.specs.Prelude.{Process, started, own_pid, Outcome, makes, sends, asks, sleeps, answers, outcome, own_number, arguments_of, State, process_of, with_process, alive, live_process, registered, receiver_of, posted_to, posted, hearing_by, Answered, answer, fault, most_processes, spawns_with, names, registers, unnames, unregisters, is_alive, posted_if_own, sends_named, most_references, makes_reference, or_noproc, put_monitor, monitored, answer_of, Next, refused, replied, Rows, raised, continues, done_by, row, running, row_and, ran_to, next_steps, next_deliver, timed_out, next_timeout, sent_to, next_send, next}
+use Rattle.beam_machine.specs.declared.process.Signal.TheVariants.{Down}
+use Rattle.beam_machine.specs.Prelude.{Process, started, Outcome, makes, sends, asks, sleeps, answers, outcome, own_number, arguments_of, State, process_of, with_process, alive, live_process, receiver_of, posted_to, posted, hearing_by, Answered, is_alive, or_noproc, put_monitor, monitored, answer_of, Next, refused, replied, Rows, raised, continues, done_by, row, running, row_and, ran_to, next_steps, next_deliver, timed_out, next_timeout, sent_to, next_send, next, Sent}
 use Rattle.beam_machine.specs.declared.callee.After.{After}
-use Rattle.beam_model.specs.Prelude.{same_text, Listing, elements_in}
+use Rattle.beam_model.specs.Prelude.{Listing}
 use Rattle.beam_model.specs.declared.exception.Fault.{Fault}
-use Rattle.beam_model.specs.declared.exception.Fault.TheVariants.{Badarg, SystemLimit}
 use Rattle.beam_model.specs.declared.native.NodeNative.{NodeNative}
-use Rattle.beam_model.specs.declared.native.NodeNative.TheVariants.{Spawn, Register, Unregister, Whereis, IsProcessAlive, Exit, Send, MakeRef, Monitor}
 use Rattle.beam_laws.proofs.Hearing.{hearing_length}
-use Rattle.beam_term.specs.Prelude.{TermValue, atom_term, pid_term}
+use Rattle.beam_term.specs.Prelude.{TermValue, atom_term}
 use Rattle.beam_machine.specs.declared.event.Event.TheVariants as event
 use Rattle.beam_machine.specs.Next.{steps}
+use Rattle.beam_laws.proofs.NodeAnswers.{Answers, keeps_all, starts_one, names_one, unnames_one, posts_one, makes_one, monitors_one, answer_is}
 
 -- ---- processes stay in the list
 
@@ -34,44 +33,8 @@ posted_longer : (ps : List Process) (pid : ℕ) (signal : Signal) (o : Option Pr
 posted_longer ps pid signal None = omega arith
 posted_longer ps pid signal (Some p) = set_longer ps pid _
 
-either_longer : (ps : List Process) (b : Bool) (x y : Answered) → Longer ps x.processes → Longer ps y.processes → Longer ps (cond b x y).processes
-either_longer ps true x y h k = h
-either_longer ps false x y h k = k
-
 push_longer : (ps : List Process) (p : Process) → Longer ps (ps ++ p ∷ [])
 push_longer ps p = omega (arith, length_push ps p)
-
-spawns_longer : (ps : List Process) (name function : List ℕ) (o : Option (List TermValue)) → Longer ps (spawns_with ps name function o).processes
-spawns_longer ps name function None = omega arith
-spawns_longer ps name function (Some arguments) =
-    let new : Process = started (length ps + 1) name function arguments in
-    let b : Bool = nat_lt (length ps) most_processes in
-    let spawned : Answered = answer (ps ++ new ∷ []) (own_pid (length ps + 1)) in
-    either_longer ps (nat_lt 255 (length arguments)) (fault ps Badarg) (cond b spawned (fault ps SystemLimit)) (omega arith) (either_longer ps b spawned (fault ps SystemLimit) (push_longer ps new) (omega arith))
-
-names_longer : (ps : List Process) (name : List ℕ) (pid : ℕ) (o : Option Process) → Longer ps (names ps name pid o).processes
-names_longer ps name pid None = omega arith
-names_longer ps name pid (Some p) = either_longer ps _ _ (fault ps Badarg) (set_longer ps pid _) (omega arith)
-
-registers_longer : (ps : List Process) (name : List ℕ) (o : Option ℕ) → Longer ps (registers ps name o).processes
-registers_longer ps name None = omega arith
-registers_longer ps name (Some pid) = names_longer ps name pid (live_process ps pid)
-
-unnames_longer : (ps : List Process) (pid : ℕ) (o : Option Process) → Longer ps (unnames ps pid o).processes
-unnames_longer ps pid None = omega arith
-unnames_longer ps pid (Some p) = set_longer ps pid _
-
-unregisters_longer : (ps : List Process) (o : Option ℕ) → Longer ps (unregisters ps o).processes
-unregisters_longer ps None = omega arith
-unregisters_longer ps (Some pid) = unnames_longer ps pid (live_process ps pid)
-
-signalled_longer : (ps : List Process) (o : Option ℕ) (signal : Signal) → Longer ps (posted_if_own ps o signal)
-signalled_longer ps None signal = omega arith
-signalled_longer ps (Some pid) signal = posted_longer ps pid signal (live_process ps pid)
-
-sends_longer : (ps : List Process) (o : Option ℕ) (message : TermValue) → Longer ps (sends_named ps o message).processes
-sends_longer ps None message = omega arith
-sends_longer ps (Some pid) message = posted_longer ps pid (Message message) (live_process ps pid)
 
 watching_longer : (ps : List Process) (caller n : ℕ) (watched : TermValue) (o : Option Process) → Longer ps (put_monitor ps caller n watched o)
 watching_longer ps caller n watched None = omega arith
@@ -87,24 +50,18 @@ monitored_longer ps caller watched n =
     let qs : List Process = or_noproc ps caller n watched in
     omega (arith, noproc_longer ps caller n watched, watching_longer qs caller n watched (live_process qs caller))
 
-makes_longer : (references : ℕ) (ps : List Process) (f : ℕ → List Process) → ((n : ℕ) → Longer ps (f n)) → Longer ps (makes_reference references ps f).processes
-makes_longer references ps f each = either_longer ps (nat_lt references most_references) _ (fault ps SystemLimit) (each (references + 1)) (omega arith)
+answered_longer : (references : ℕ) (ps : List Process) (caller : ℕ) (native : NodeNative) (xs : List Sent) (a : Answered) → Answers references ps caller native xs a
+    → Longer ps a.processes
+answered_longer references ps caller native _ _ (keeps_all value) = omega arith
+answered_longer references ps caller native _ _ (starts_one name function arguments value) = push_longer ps (started (length ps + 1) name function arguments)
+answered_longer references ps caller native _ _ (names_one name pid p value e free) = set_longer ps pid _
+answered_longer references ps caller native _ _ (unnames_one pid p value e) = set_longer ps pid _
+answered_longer references ps caller native _ _ (posts_one to signal value plain) = posted_longer ps to signal (live_process ps to)
+answered_longer references ps caller native _ _ (makes_one value) = omega arith
+answered_longer references ps caller native _ _ (monitors_one watched value is) = monitored_longer ps caller watched (references + 1)
 
 answer_longer : (references : ℕ) (ps : List Process) (caller : ℕ) (native : NodeNative) (ts : List TermValue) → Longer ps (answer_of references ps caller native ts).processes
-answer_longer references ps caller Spawn (atom_term name ∷ atom_term function ∷ arguments ∷ []) = spawns_longer ps name function (elements_in arguments)
-answer_longer references ps caller Register (atom_term name ∷ pid_term host id serial creation ∷ []) = registers_longer ps name (own_number (pid_term host id serial creation))
-answer_longer references ps caller Unregister (atom_term name ∷ []) = unregisters_longer ps (registered ps name)
-answer_longer references ps caller Whereis (atom_term name ∷ []) = omega arith
-answer_longer references ps caller IsProcessAlive (pid_term host id serial creation ∷ []) = omega arith
-answer_longer references ps caller Exit (pid_term host id serial creation ∷ reason ∷ []) = signalled_longer ps (own_number (pid_term host id serial creation)) (ExitSignal caller reason)
-answer_longer references ps caller Send (pid_term host id serial creation ∷ message ∷ []) = signalled_longer ps (own_number (pid_term host id serial creation)) (Message message)
-answer_longer references ps caller Send (atom_term name ∷ message ∷ []) = sends_longer ps (registered ps name) message
-answer_longer references ps caller MakeRef [] = makes_longer references ps (λ n. ps) (λ n. omega arith)
-answer_longer references ps caller Monitor (atom_term kind ∷ pid_term host id serial creation ∷ []) =
-    let watched : TermValue = pid_term host id serial creation in
-    either_longer ps (same_text kind (codes "process")) (makes_reference references ps (monitored ps caller watched)) (fault ps Badarg)
-    (makes_longer references ps (monitored ps caller watched) (λ n. monitored_longer ps caller watched n)) (omega arith)
-answer_longer references ps caller _ _ = omega arith
+answer_longer references ps caller native ts = answered_longer references ps caller native _ _ (answer_is references ps caller native ts)
 
 -- a process is put, and the DOWNs of its end are sent
 made_longer : (ps : List Process) (pid : ℕ) (status : Status) (p : Process) → Longer ps (hearing_by pid status (with_process ps pid p))

@@ -7,17 +7,16 @@ use Rattle.beam_machine.specs.declared.process.Frame.{Frame}
 use Rattle.beam_machine.specs.declared.event.Event.{Event}
 use Rattle.beam_machine.specs.declared.process.Monitor.{Monitor as MonitorValue}
 use Rattle.beam_machine.specs.declared.process.Signal.{Signal}
-use Rattle.beam_machine.specs.declared.process.Signal.TheVariants.{Message, Exit as ExitSignal, Down}
+use Rattle.beam_machine.specs.declared.process.Signal.TheVariants.{Down}
 use Rattle.beam_machine.specs.declared.process.Status.{Status}
 use Rattle.beam_machine.specs.declared.process.Status.TheVariants.{Running}
-use Rattle.beam_machine.specs.Prelude.{lingers_in_old, lingers_in_olds, pids_of, ends_or_hears, killing, Answered, answer, fault, most_processes, spawns_with, names, registers, unnames, unregisters, is_alive, posted_if_own, sends_named, most_references, makes_reference, or_noproc, put_monitor, monitored, answer_of, Rows, raised, continues, done_by, row, running, row_and, delivered, next, Process, is_running, is_ended, started, ended, killed, own_pid, own_reference, put_x, Outcome, makes, sends, asks, sleeps, goes_on, tag_of, caught_at, unwound, illegal, returns_to, returns_from, answers, arguments_of, own_number, outcome, run, State, process_of, with_process, alive, live_process, registered, posted_to, posted, with_signals, downs, hearing_by, with_made, Touch, touch_of, Touches, stays, in_turn, loads, deletes, ends, purges, runs, arrives, times_out, ticks, posts, starts}
+use Rattle.beam_machine.specs.Prelude.{lingers_in_old, lingers_in_olds, pids_of, ends_or_hears, killing, Answered, is_alive, or_noproc, put_monitor, monitored, answer_of, Rows, raised, continues, done_by, row, running, row_and, delivered, next, Process, is_running, is_ended, started, ended, killed, put_x, Outcome, makes, sends, asks, sleeps, goes_on, tag_of, caught_at, unwound, illegal, returns_to, returns_from, answers, arguments_of, own_number, outcome, run, State, process_of, with_process, alive, live_process, posted_to, posted, with_signals, downs, hearing_by, with_made, Touch, touch_of, Touches, stays, in_turn, loads, deletes, ends, purges, runs, arrives, times_out, ticks, posts, starts, Sent}
 use Rattle.beam_model.specs.declared.exception.Fault.{Fault}
-use Rattle.beam_model.specs.declared.exception.Fault.TheVariants.{Badarg, SystemLimit, IllegalOperand}
+use Rattle.beam_model.specs.declared.exception.Fault.TheVariants.{IllegalOperand}
 use Rattle.beam_model.specs.declared.native.NodeNative.{NodeNative}
-use Rattle.beam_model.specs.declared.native.NodeNative.TheVariants.{Spawn, Register, Unregister, Whereis, IsProcessAlive, Exit, Send, MakeRef, Monitor}
-use Rattle.beam_model.specs.Prelude.{Listing, elements_in, same_text, Place}
+use Rattle.beam_model.specs.Prelude.{Listing, Place}
 use Rattle.beam_model.specs.declared.exception.Exception.{Exception}
-use Rattle.beam_term.specs.Prelude.{TermValue, atom_term, pid_term, nil_term}
+use Rattle.beam_term.specs.Prelude.{TermValue, atom_term, nil_term}
 use Rattle.beam_machine.specs.declared.process.Tag.{Tag}
 use Rattle.beam_model.specs.declared.exception.Exception.TheVariants as exception
 use Rattle.beam_machine.specs.Next.{steps}
@@ -26,6 +25,7 @@ use Rattle.beam_laws.proofs.Ending.{runs_on}
 use Rattle.beam_laws.proofs.Hearing.{as_before, hears, hearing_is}
 use Rattle.beam_laws.proofs.Monitoring.{row_part, delivered_part, all_are, none_are}
 use Rattle.beam_laws.proofs.Touching.{next_touches}
+use Rattle.beam_laws.proofs.NodeAnswers.{Answers, keeps_all, starts_one, names_one, unnames_one, posts_one, makes_one, monitors_one, answer_is}
 
 -- ---- one list of monitors
 
@@ -124,43 +124,7 @@ module _ (count : ℕ) where
             | false ↦ subst (Rise 0 count) (sym (as_before (λ p. p.monitors) signals p refl)) i
           ]
 
-  -- ---- natives that make no reference
-
-  either_up : (b : Bool) (x y : Answered) → Up x.processes → Up y.processes → Up (cond b x y).processes
-  either_up true x y h k = h
-  either_up false x y h k = k
-
-  spawns_up : (ps : List Process) (name function : List ℕ) (o : Option (List TermValue)) → Up ps → Up (spawns_with ps name function o).processes
-  spawns_up ps name function None h = h
-  spawns_up ps name function (Some arguments) h =
-      let new : Process = started (length ps + 1) name function arguments in
-      let b : Bool = nat_lt (length ps) most_processes in
-      let spawned : Answered = answer (ps ++ new ∷ []) (own_pid (length ps + 1)) in
-      either_up (nat_lt 255 (length arguments)) (fault ps Badarg) (cond b spawned (fault ps SystemLimit)) h (either_up b spawned (fault ps SystemLimit) (push_up ps new h tt) h)
-
-  names_up : (ps : List Process) (name : List ℕ) (pid : ℕ) (o : Option Process) → Up ps → RisesIf count o → Up (names ps name pid o).processes
-  names_up ps name pid None h i = h
-  names_up ps name pid (Some p) h i = either_up _ _ (fault ps Badarg) (set_up ps (pid - 1) (record p { name = Some name }) h i) h
-
-  registers_up : (ps : List Process) (name : List ℕ) (o : Option ℕ) → Up ps → Up (registers ps name o).processes
-  registers_up ps name None h = h
-  registers_up ps name (Some pid) h = names_up ps name pid (live_process ps pid) h (live_up ps pid h)
-
-  unnames_up : (ps : List Process) (pid : ℕ) (o : Option Process) → Up ps → RisesIf count o → Up (unnames ps pid o).processes
-  unnames_up ps pid None h i = h
-  unnames_up ps pid (Some p) h i = set_up ps (pid - 1) (record p { name = None }) h i
-
-  unregisters_up : (ps : List Process) (o : Option ℕ) → Up ps → Up (unregisters ps o).processes
-  unregisters_up ps None h = h
-  unregisters_up ps (Some pid) h = unnames_up ps pid (live_process ps pid) h (live_up ps pid h)
-
-  signalled_up : (ps : List Process) (o : Option ℕ) (signal : Signal) → Up ps → Up (posted_if_own ps o signal)
-  signalled_up ps None signal h = h
-  signalled_up ps (Some pid) signal h = posted_up ps pid signal h
-
-  sends_up : (ps : List Process) (o : Option ℕ) (message : TermValue) → Up ps → Up (sends_named ps o message).processes
-  sends_up ps None message h = h
-  sends_up ps (Some pid) message h = posted_up ps pid (Message message) h
+  -- ---- natives of the node
 
   noproc_up : (ps : List Process) (caller n : ℕ) (watched : TermValue) → Up ps → Up (or_noproc ps caller n watched)
   noproc_up ps caller n watched h =
@@ -171,11 +135,6 @@ module _ (count : ℕ) where
 
 abbrev After : ℕ → List Process → Answered → Type 0
 After count ps a = (count ≤ unwrap_or a.made count) × (AreRising count ps → AreRising (unwrap_or a.made count) a.processes)
-
-still : (count : ℕ) (ps : List Process) (a : Answered) → a.made ≡ None → (AreRising count ps → AreRising count a.processes) → After count ps a
-still count ps a e f =
-    let le : count ≤ count = omega arith in
-    (subst (λ o. count ≤ unwrap_or o count) (sym e) le, λ h. subst (λ o. AreRising (unwrap_or o count) a.processes) (sym e) (f h))
 
 watching_up : (count : ℕ) (ps : List Process) (caller : ℕ) (watched : TermValue) (o : Option Process) → AreRising count ps → RisesIf count o
     → AreRising (count + 1) (put_monitor ps caller (count + 1) watched o)
@@ -191,72 +150,22 @@ monitored_up count ps caller watched h =
     let k : AreRising count qs = noproc_up count ps caller (count + 1) watched h in
     watching_up count qs caller watched (live_process qs caller) k (live_up count qs caller k)
 
-made_after : (count : ℕ) (ps : List Process) (f : ℕ → List Process) → (AreRising count ps → AreRising (count + 1) (f (count + 1))) → After count ps (makes_reference count ps f)
-made_after count ps f k = go (nat_lt count most_references)
-  where
-    go : (b : Bool) → After count ps (cond {A = Answered} b (record { processes = f (count + 1); made = Some (count + 1); value = Ok (own_reference (count + 1)) }) (fault ps SystemLimit))
-    go true = (omega arith, k)
-    go false = (omega arith, λ h. h)
+-- a process that hasn't ended, with another name
+renamed_up : (count : ℕ) (ps : List Process) (pid : ℕ) (p : Process) (name : Option (List ℕ)) → live_process ps pid ≡ Some p → AreRising count ps
+    → AreRising count (with_process ps pid (record p { name = name }))
+renamed_up count ps pid p name e h = set_up count ps (pid - 1) (record p { name = name }) h (subst (RisesIf count) e (live_up count ps pid h))
 
-monitor_after : (count : ℕ) (ps : List Process) (caller : ℕ) (kind : List ℕ) (watched : TermValue)
-    → After count ps (cond {A = Answered} (same_text kind (codes "process")) (makes_reference count ps (monitored ps caller watched)) (fault ps Badarg))
-monitor_after count ps caller kind watched = go (same_text kind (codes "process"))
-  where
-    go : (b : Bool) → After count ps (cond {A = Answered} b (makes_reference count ps (monitored ps caller watched)) (fault ps Badarg))
-    go true = made_after count ps (monitored ps caller watched) (λ h. monitored_up count ps caller watched h)
-    go false = (omega arith, λ h. h)
-
--- only make_ref and monitor make a reference
-none_made : (b : Bool) (x y : Answered) → x.made ≡ None → y.made ≡ None → (cond b x y).made ≡ None
-none_made true x y e f = e
-none_made false x y e f = f
-
-spawns_none : (ps : List Process) (name function : List ℕ) (o : Option (List TermValue)) → (spawns_with ps name function o).made ≡ None
-spawns_none ps name function None = refl
-spawns_none ps name function (Some arguments) =
-    none_made (nat_lt 255 (length arguments)) (fault ps Badarg) (cond (nat_lt (length ps) most_processes) (answer (ps ++ started (length ps + 1) name function arguments ∷ []) (own_pid (length ps + 1))) (fault ps SystemLimit)) refl
-    (none_made (nat_lt (length ps) most_processes) _ (fault ps SystemLimit) refl refl)
-
-registers_none : (ps : List Process) (name : List ℕ) (o : Option ℕ) → (registers ps name o).made ≡ None
-registers_none ps name None = refl
-registers_none ps name (Some pid) = go (live_process ps pid)
-  where
-    go : (o : Option Process) → (names ps name pid o).made ≡ None
-    go None = refl
-    go (Some p) = none_made _ _ (fault ps Badarg) refl refl
-
-unregisters_none : (ps : List Process) (o : Option ℕ) → (unregisters ps o).made ≡ None
-unregisters_none ps None = refl
-unregisters_none ps (Some pid) = go (live_process ps pid)
-  where
-    go : (o : Option Process) → (unnames ps pid o).made ≡ None
-    go None = refl
-    go (Some p) = refl
-
-sends_none : (ps : List Process) (o : Option ℕ) (message : TermValue) → (sends_named ps o message).made ≡ None
-sends_none ps None message = refl
-sends_none ps (Some pid) message = refl
+answered_after : (count : ℕ) (ps : List Process) (caller : ℕ) (native : NodeNative) (xs : List Sent) (a : Answered) → Answers count ps caller native xs a → After count ps a
+answered_after count ps caller native _ _ (keeps_all value) = (omega arith, λ h. h)
+answered_after count ps caller native _ _ (starts_one name function arguments value) = (omega arith, λ h. push_up count ps (started (length ps + 1) name function arguments) h tt)
+answered_after count ps caller native _ _ (names_one name pid p value e free) = (omega arith, λ h. renamed_up count ps pid p (Some name) e h)
+answered_after count ps caller native _ _ (unnames_one pid p value e) = (omega arith, λ h. renamed_up count ps pid p None e h)
+answered_after count ps caller native _ _ (posts_one to signal value plain) = (omega arith, λ h. posted_up count ps to signal h)
+answered_after count ps caller native _ _ (makes_one value) = (omega arith, λ h. all_more count (count + 1) ps (omega arith) h)
+answered_after count ps caller native _ _ (monitors_one watched value is) = (omega arith, λ h. monitored_up count ps caller watched h)
 
 answer_after : (count : ℕ) (ps : List Process) (caller : ℕ) (native : NodeNative) (ts : List TermValue) → After count ps (answer_of count ps caller native ts)
-answer_after count ps caller Spawn (atom_term name ∷ atom_term function ∷ arguments ∷ []) =
-    let o : Option (List TermValue) = elements_in arguments in
-    still count ps (spawns_with ps name function o) (spawns_none ps name function o) (λ h. spawns_up count ps name function o h)
-answer_after count ps caller Register (atom_term name ∷ pid_term host id serial creation ∷ []) =
-    let o : Option ℕ = own_number (pid_term host id serial creation) in
-    still count ps (registers ps name o) (registers_none ps name o) (λ h. registers_up count ps name o h)
-answer_after count ps caller Unregister (atom_term name ∷ []) =
-    still count ps (unregisters ps (registered ps name)) (unregisters_none ps (registered ps name)) (λ h. unregisters_up count ps (registered ps name) h)
-answer_after count ps caller Whereis (atom_term name ∷ []) = (omega arith, λ h. h)
-answer_after count ps caller IsProcessAlive (pid_term host id serial creation ∷ []) = (omega arith, λ h. h)
-answer_after count ps caller Exit (pid_term host id serial creation ∷ reason ∷ []) =
-    (omega arith, λ h. signalled_up count ps (own_number (pid_term host id serial creation)) (ExitSignal caller reason) h)
-answer_after count ps caller Send (pid_term host id serial creation ∷ message ∷ []) =
-    (omega arith, λ h. signalled_up count ps (own_number (pid_term host id serial creation)) (Message message) h)
-answer_after count ps caller Send (atom_term name ∷ message ∷ []) =
-    still count ps (sends_named ps (registered ps name) message) (sends_none ps (registered ps name) message) (λ h. sends_up count ps (registered ps name) message h)
-answer_after count ps caller MakeRef [] = made_after count ps (λ n. ps) (λ h. all_more count (count + 1) ps (omega arith) h)
-answer_after count ps caller Monitor (atom_term kind ∷ pid_term host id serial creation ∷ []) = monitor_after count ps caller kind (pid_term host id serial creation)
-answer_after count ps caller _ _ = (omega arith, λ h. h)
+answer_after count ps caller native ts = answered_after count ps caller native _ _ (answer_is count ps caller native ts)
 
 -- ---- rows
 

@@ -10,8 +10,7 @@ use Rattle.beam_model.specs.Prelude.{Place}
 use Rattle.beam_laws.specs.Prelude.{with_name_and_transit, IsStill, with_name_and_transit_of}
 use Rattle.beam_laws.proofs.Ending.{runs_on}
 use Rattle.beam_laws.proofs.Follows.{Comes, outcome_comes}
-use Rattle.beam_laws.proofs.Unread.{with}
-use Rattle.beam_laws.proofs.UnreadCalls.{moved, outcome_same}
+use Rattle.beam_laws.proofs.Unread.{with, moved, outcome_same}
 use Rattle.beam_laws.proofs.Private.{having_having, private_having, rows_keep}
 
 -- ---- as many rows

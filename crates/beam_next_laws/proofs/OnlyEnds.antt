@@ -4,23 +4,21 @@ use Rattle.std.proofs.lemmas.Bool.Decides.{nat_tests}
 use Rattle.std.proofs.lemmas.List.{append_cancel_left}
 use Rattle.std.proofs.lemmas.List.Elements.{filter-append}
 use Rattle.std.specs.List.{list_any}
-use Rattle.beam_term.specs.Prelude.{TermValue, atom_term, nil_term, pid_term}
-use Rattle.beam_model.specs.Prelude.{Listing, same_text}
+use Rattle.beam_term.specs.Prelude.{TermValue, atom_term, nil_term}
+use Rattle.beam_model.specs.Prelude.{Listing}
 use Rattle.beam_model.specs.declared.native.NodeNative.{NodeNative}
-use Rattle.beam_model.specs.declared.native.NodeNative.TheVariants.{Spawn, Register, Unregister, Whereis, IsProcessAlive, Exit, Send, MakeRef, Monitor}
 use Rattle.beam_machine.specs.declared.callee.After.{After}
 use Rattle.beam_machine.specs.declared.event.Event.{Event}
 use Rattle.beam_machine.specs.declared.event.Event.TheVariants as event
 use Rattle.beam_machine.specs.declared.event.Refused.TheVariants.{NotReady}
 use Rattle.beam_machine.specs.declared.event.Reply.{Reply}
 use Rattle.beam_machine.specs.declared.event.Reply.TheVariants.{Done}
-use Rattle.beam_model.specs.declared.exception.Fault.TheVariants.{Badarg, SystemLimit}
 use Rattle.beam_machine.specs.declared.process.Monitor.{Monitor as MonitorValue}
 use Rattle.beam_machine.specs.declared.process.Signal.{Signal}
-use Rattle.beam_machine.specs.declared.process.Signal.TheVariants.{Message, Exit as ExitSignal, Down}
+use Rattle.beam_machine.specs.declared.process.Signal.TheVariants.{Message, Down}
 use Rattle.beam_machine.specs.declared.process.Status.{Status}
 use Rattle.beam_machine.specs.declared.process.Status.TheVariants.{Running, Waiting, Ended}
-use Rattle.beam_machine.specs.Prelude.{Process, is_ended, is_running, ended, killed, own_number, Outcome, makes, sends, asks, sleeps, answers, arguments_of, outcome, receiver_of, State, empty, process_of, live_process, with_process, downs, monitors_process, Answered, answer_of, monitors_by, is_alive, alive, most_references, monitored, own_reference, fault, ends_or_hears, with_signals, Answer, lingers_in_old, lingers_in_olds, old_of, pids_of, killing, raised, row, row_and, running, delivered, is_nothing, next_deliver, next, run, Sent}
+use Rattle.beam_machine.specs.Prelude.{Process, is_ended, is_running, ended, killed, own_number, Outcome, makes, sends, asks, sleeps, answers, arguments_of, outcome, receiver_of, State, empty, process_of, live_process, with_process, downs, monitors_process, Answered, answer_of, is_alive, alive, ends_or_hears, with_signals, Answer, lingers_in_old, lingers_in_olds, old_of, pids_of, killing, raised, row, row_and, running, delivered, is_nothing, next_deliver, next, run, Sent}
 use Rattle.beam_machine.specs.Next.{steps, refused, replied, made_process, Next}
 use Rattle.beam_laws.specs.Prelude.{AreRising, Orderly, Rise, with_name_and_transit, downs_of_end, each_sent, end_sends, signal_to, signal_if, noproc_sends, native_sends, asker_sends, row_sends, row_and_send, steps_send, deliver_sends, event_sends, event_brings, signals_to, on_its_way}
 use Rattle.beam_laws.proofs.Accounts.{in_order}
@@ -40,7 +38,8 @@ use Rattle.beam_next_laws.specs.Heard.{EndsBetween, is_down_of}
 use Rattle.beam_next_laws.proofs.Downs.{plain_signals, picked, several, none_of}
 use Rattle.beam_next_laws.proofs.Ends.{same_process, all_at}
 use Rattle.beam_next_laws.proofs.PlainRows.{Plain, outcome_plain}
-use Rattle.beam_next_laws.proofs.Telling.{Tells, plain_signal, plain_if, end_tells, rows_tell}
+use Rattle.beam_next_laws.proofs.Telling.{Tells, no_down, plain_signal, plain_if, end_tells, rows_tell}
+use Rattle.beam_laws.proofs.NodeAnswers.{Answers, posts_one, monitors_one, answer_is}
 
 -- ---- the DOWNs that a process sends itself are of references that it didn't have
 
@@ -85,43 +84,15 @@ module _ (pid n count : ℕ) (ms : List MonitorValue) (rise : Rise 0 count ms) w
       go true = refl
       go false = fresh ps caller k (atom_term (codes "noproc")) l
 
-  monitors : (references : ℕ) (ps : List Process) (caller : ℕ) (kind : List ℕ) (watched : TermValue) → count ≤ references
-      → Silent (noproc_sends ps caller watched (monitors_by references ps caller kind watched).made)
-  monitors references ps caller kind watched le = go (same_text kind (codes "process")) (nat_lt references most_references)
-    where
-      l : count < references + 1
-      l = omega (arith, le)
-
-      go : (b c : Bool) → Silent (noproc_sends ps caller watched (cond {A = Answered} b (cond c (record { processes = monitored ps caller watched (references + 1); made = Some (references + 1); value = Ok (own_reference (references + 1)) }) (fault ps SystemLimit)) (fault ps Badarg)).made)
-      go false c = refl
-      go true false = refl
-      go true true = noproc ps caller (references + 1) watched l
-
-  monitor_native : (references : ℕ) (ps : List Process) (caller : ℕ) (kind watched : TermValue) → count ≤ references
-      → Silent (native_sends references ps caller Monitor (kind ∷ watched ∷ []))
-  monitor_native references ps caller (atom_term kind) (pid_term host id serial creation) le = monitors references ps caller kind (pid_term host id serial creation) le
-  monitor_native references ps caller (atom_term kind) _ le = refl
-  monitor_native references ps caller _ _ le = refl
+  answered_silent : (references : ℕ) (ps : List Process) (caller : ℕ) (f : NodeNative) (xs : List Sent) (a : Answered) → count ≤ references → Answers references ps caller f xs a
+      → Silent xs
+  answered_silent references ps caller f _ _ le (posts_one to signal value plain) =
+      plain_signals pid ms (signals_to n (signal_to ps to signal)) (plain_signal n ps to signal (no_down signal plain))
+  answered_silent references ps caller f _ _ le (monitors_one watched value is) = noproc ps caller (references + 1) watched (omega (arith, le))
+  answered_silent references ps caller f _ _ le _ = refl
 
   native : (references : ℕ) (ps : List Process) (caller : ℕ) (f : NodeNative) (ts : List TermValue) → count ≤ references → Silent (native_sends references ps caller f ts)
-  native references ps caller Exit [] le = refl
-  native references ps caller Exit (to ∷ []) le = refl
-  native references ps caller Exit (to ∷ reason ∷ []) le = plain_signals pid ms (signals_to n (signal_if ps (own_number to) (ExitSignal caller reason))) (plain_if n ps (own_number to) (ExitSignal caller reason) refl)
-  native references ps caller Exit (to ∷ reason ∷ more ∷ rest) le = refl
-  native references ps caller Send [] le = refl
-  native references ps caller Send (to ∷ []) le = refl
-  native references ps caller Send (to ∷ message ∷ []) le = plain_signals pid ms (signals_to n (signal_if ps (receiver_of ps to) (Message message))) (plain_if n ps (receiver_of ps to) (Message message) refl)
-  native references ps caller Send (to ∷ message ∷ more ∷ rest) le = refl
-  native references ps caller Monitor [] le = refl
-  native references ps caller Monitor (kind ∷ []) le = refl
-  native references ps caller Monitor (kind ∷ watched ∷ []) le = monitor_native references ps caller kind watched le
-  native references ps caller Monitor (kind ∷ watched ∷ more ∷ rest) le = refl
-  native references ps caller Spawn ts le = refl
-  native references ps caller Register ts le = refl
-  native references ps caller Unregister ts le = refl
-  native references ps caller Whereis ts le = refl
-  native references ps caller IsProcessAlive ts le = refl
-  native references ps caller MakeRef ts le = refl
+  native references ps caller f ts le = answered_silent references ps caller f _ _ le (answer_is references ps caller f ts)
 
   -- ---- a process's own rows
 

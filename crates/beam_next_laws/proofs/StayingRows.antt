@@ -22,7 +22,7 @@ use Rattle.beam_laws.proofs.Hearing.{hearing_here}
 use Rattle.beam_laws.proofs.Numbered.{put_here}
 use Rattle.beam_laws.proofs.Posting.{posted_at}
 use Rattle.beam_laws.proofs.Sending.{steps_state}
-use Rattle.beam_next_laws.specs.Places.{StandsAt, is_local, IsTagOf, LeadsTo, StaysIn, IsNextIn, OutcomeStays}
+use Rattle.beam_next_laws.specs.Places.{StandsAt, is_local, LeadsTo, StaysIn, IsNextIn, OutcomeStays}
 use Rattle.beam_next_laws.proofs.Staying.{raised as raised_stays, stays}
 
 here : (o : Option Process) (x y : Process) → o ≡ Some y → o ≡ Some x → y ≡ x
@@ -49,7 +49,7 @@ module _ (i : ℕ) (start : List Frame) where
   -- the caller of a native of the node, which goes on with its answer
   answered : (z : Process) (after : After) (value : Result TermValue Exception) → z.frames ≡ start → IsNextIn i after → StaysIn i start (answers z after value)
   answered z (NextRow next) (Ok value) same h = inl h
-  answered z (NextRow next) (Err e) same h = raised_stays i 0 start z e (subst (λ fs. (place : Place) → IsTagOf place fs → IsTagOf place start) (sym same) (λ place t. t))
+  answered z (NextRow next) (Err e) same h = raised_stays i start z e same
   answered z Return value same h = absurd h
 
   same_frames : (name : Option (List ℕ)) (transit : List Signal) (q : Process) → (with_name_and_transit name transit q).frames ≡ q.frames

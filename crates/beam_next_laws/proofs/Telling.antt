@@ -1,16 +1,16 @@
 -- What rows of one process send to another: signals that are no DOWNs, and then, where the process has ended, its DOWNs.
-use Rattle.std.proofs.Common.{◌≡◌, ◌≢◌, ℕ, zero, suc, ◌==◌, Bool, true, false, true≢false, cond, List, [], ◌∷◌, ◌++◌, append_assoc, append-nil, filter, refl, sym, ap, subst, ◌∙◌, arith, Option, Some, None, option_map, is_some, unwrap_or, codes}
+use Rattle.std.proofs.Common.{◌≡◌, ◌≢◌, ℕ, ◌+◌, zero, suc, ◌==◌, Bool, true, false, true≢false, cond, List, [], ◌∷◌, ◌++◌, append_assoc, append-nil, filter, refl, sym, ap, subst, ◌∙◌, arith, Option, Some, None, option_map, is_some, unwrap_or, codes}
 use Rattle.std.proofs.lemmas.Bool.Decides.{nat_tests}
 use Rattle.std.proofs.lemmas.List.Elements.{filter-append}
 use Rattle.beam_term.specs.Prelude.{TermValue, atom_term}
 use Rattle.beam_model.specs.declared.native.NodeNative.{NodeNative}
-use Rattle.beam_model.specs.declared.native.NodeNative.TheVariants.{Spawn, Register, Unregister, Whereis, IsProcessAlive, Exit, Send, MakeRef, Monitor}
+use Rattle.beam_model.specs.declared.native.NodeNative.TheVariants.{Monitor}
 use Rattle.beam_machine.specs.declared.callee.After.{After}
 use Rattle.beam_machine.specs.declared.process.Signal.{Signal}
-use Rattle.beam_machine.specs.declared.process.Signal.TheVariants.{Message, Exit as ExitSignal, Down}
+use Rattle.beam_machine.specs.declared.process.Signal.TheVariants.{Down}
 use Rattle.beam_machine.specs.declared.process.Status.{Status}
 use Rattle.beam_machine.specs.declared.process.Status.TheVariants.{Running, Waiting, Ended}
-use Rattle.beam_machine.specs.Prelude.{Process, is_running, is_ended, Outcome, makes, sends, asks, sleeps, answers, arguments_of, outcome, own_number, receiver_of, State, process_of, live_process, with_process, posted, with_made, Answered, answer_of, is_alive, Rows, raised, continues, done_by, row, running, row_and, Sent}
+use Rattle.beam_machine.specs.Prelude.{Process, is_running, is_ended, Outcome, makes, sends, asks, sleeps, answers, arguments_of, outcome, own_number, State, process_of, live_process, with_process, posted, with_made, Answered, answer_of, is_alive, Rows, raised, continues, done_by, row, running, row_and, Sent}
 use Rattle.beam_machine.specs.Next.{steps}
 use Rattle.beam_laws.specs.Prelude.{with_name_and_transit, with_signals, downs_of_end, signal_to, signal_if, end_sends, noproc_sends, native_sends, asker_sends, row_sends, row_and_send, steps_send, signals_to}
 use Rattle.beam_laws.proofs.Follows.{Comes, outcome_comes}
@@ -20,6 +20,7 @@ use Rattle.beam_laws.proofs.Posting.{Grown, Elsewhere, said, each_sent_to, signa
 use Rattle.beam_laws.proofs.Sending.{idle, idle_sends, steps_grow}
 use Rattle.beam_next_laws.specs.Heard.{is_down}
 use Rattle.beam_next_laws.proofs.PlainRows.{Plain, outcome_plain}
+use Rattle.beam_laws.proofs.NodeAnswers.{Answers, posts_one, monitors_one, is_no_down, answer_is}
 
 -- what a process hears of another with this status
 abbrev pub Tells : ℕ → Status → Process → List Signal → Type 0
@@ -44,6 +45,10 @@ only_plain : (pid : ℕ) (status : Status) (q : Process) (came : List Signal) �
 only_plain pid status q came lives plain = (came, plain, sym (ap (λ xs. came ++ xs) (none_heard pid status q lives) ∙ append-nil came))
 
 -- ---- one signal
+
+pub no_down : (signal : Signal) → is_no_down signal ≡ true → is_down signal ≡ false
+no_down (Down reference reason) e = sym e
+no_down _ e = refl
 
 module _ (n : ℕ) where
   plain_sent : (to : ℕ) (signal : Signal) → is_down signal ≡ false → filter is_down (signals_to n (record { to = to; signal = signal } ∷ [])) ≡ []
@@ -81,26 +86,15 @@ module _ (n : ℕ) where
       go true = refl
       go false = not_to ps caller (Down k (atom_term (codes "noproc"))) e
 
+  answered_plain : (references : ℕ) (ps : List Process) (caller : ℕ) (native : NodeNative) (xs : List Sent) (a : Answered) → (caller == n) ≡ false
+      → Answers references ps caller native xs a → filter is_down (signals_to n xs) ≡ []
+  answered_plain references ps caller native _ _ e (posts_one to signal value plain) = plain_signal ps to signal (no_down signal plain)
+  answered_plain references ps caller native _ _ e (monitors_one watched value is) = noproc_elsewhere ps caller watched (Some (references + 1)) e
+  answered_plain references ps caller native _ _ e _ = refl
+
   native_plain : (references : ℕ) (ps : List Process) (caller : ℕ) (native : NodeNative) (ts : List TermValue) → (caller == n) ≡ false
       → filter is_down (signals_to n (native_sends references ps caller native ts)) ≡ []
-  native_plain references ps caller Exit [] e = refl
-  native_plain references ps caller Exit (to ∷ []) e = refl
-  native_plain references ps caller Exit (to ∷ reason ∷ []) e = plain_if ps (own_number to) (ExitSignal caller reason) refl
-  native_plain references ps caller Exit (to ∷ reason ∷ more ∷ rest) e = refl
-  native_plain references ps caller Send [] e = refl
-  native_plain references ps caller Send (to ∷ []) e = refl
-  native_plain references ps caller Send (to ∷ message ∷ []) e = plain_if ps (receiver_of ps to) (Message message) refl
-  native_plain references ps caller Send (to ∷ message ∷ more ∷ rest) e = refl
-  native_plain references ps caller Monitor [] e = refl
-  native_plain references ps caller Monitor (kind ∷ []) e = refl
-  native_plain references ps caller Monitor (kind ∷ watched ∷ []) e = noproc_elsewhere ps caller watched (answer_of references ps caller Monitor (kind ∷ watched ∷ [])).made e
-  native_plain references ps caller Monitor (kind ∷ watched ∷ more ∷ rest) e = refl
-  native_plain references ps caller Spawn ts e = refl
-  native_plain references ps caller Register ts e = refl
-  native_plain references ps caller Unregister ts e = refl
-  native_plain references ps caller Whereis ts e = refl
-  native_plain references ps caller IsProcessAlive ts e = refl
-  native_plain references ps caller MakeRef ts e = refl
+  native_plain references ps caller native ts e = answered_plain references ps caller native _ _ e (answer_is references ps caller native ts)
 
 -- ---- one row, seen from another process
 

@@ -20,7 +20,7 @@ use Rattle.beam_machine.specs.declared.process.Status.TheVariants.{Running, Wait
 use Rattle.beam_machine.specs.Prelude.{current_of, old_of, deleted, purged, lingers_at, lingers_in_old, lingers_in_olds, killing, Code, Next, refused, replied, raised, continues, deadline_at, done_by, row, Rows, running as running_one, row_and, ran_to, ran, next_steps, signalled, notified, arrived, delivered, is_nothing, next_deliver, timed_out, next_timeout, next_spawn, sent_to, next_send, end_old, load_new, has_instances_left, next_load, next_load_strict, next_delete, is_lingered_in, next_soft_purge, are_apart, stands_in_way, end_olds, load_each, upgraded, next_atomic, next, Answered, answer_of, most_processes, Process, is_running, is_ended, is_waiting, started, ended, killed, monitor_of, Outcome, makes, sends, asks, sleeps, answers, arguments_of, outcome, goes_on, run, State, process_of, with_process, live_process, receiver_of, hearing_by, with_made}
 use Rattle.beam_model.specs.declared.exception.Fault.{Fault}
 use Rattle.beam_model.specs.Prelude.{IsWellFormed, Listing, is_erlang, same_text}
-use Rattle.beam_term.specs.Prelude.{TermValue, nil_term, int_term, atom_term, reference_term, pid_term, pair_term, tuple_term}
+use Rattle.beam_term.specs.Prelude.{TermValue, nil_term, atom_term}
 use Rattle.beam_machine.specs.declared.event.Event.TheVariants as event
 use Rattle.beam_machine.specs.declared.process.Goes.{Goes}
 use Rattle.beam_machine.specs.Next.{steps}
@@ -130,12 +130,7 @@ signalled_shaped code p sender (atom_term text) h =
       | true ↦ over code p killed nil_term
       | false ↦ elim (same_text text (codes "normal") && not (sender == p.pid)) as (λ c. IsShaped code (cond c p (ended p (atom_term text) nil_term))) [ true ↦ h | false ↦ over code p (atom_term text) nil_term ]
     ]
-signalled_shaped code p sender (int_term n) h = over code p (int_term n) nil_term
-signalled_shaped code p sender (reference_term node creation words) h = over code p (reference_term node creation words) nil_term
-signalled_shaped code p sender (pid_term host id serial creation) h = over code p (pid_term host id serial creation) nil_term
-signalled_shaped code p sender nil_term h = over code p nil_term nil_term
-signalled_shaped code p sender (pair_term head tail) h = over code p (pair_term head tail) nil_term
-signalled_shaped code p sender (tuple_term items) h = over code p (tuple_term items) nil_term
+signalled_shaped code p sender reason h = over code p reason nil_term
 
 arrived_shaped : (code : Code) (p : Process) (signal : Signal) → is_ended p.status ≡ false → IsShaped code p → IsShaped code (arrived p signal)
 arrived_shaped code p (Message t) lives h = λ e. ((h lives).0, λ d w f. cc)

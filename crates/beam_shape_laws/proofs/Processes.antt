@@ -1,16 +1,14 @@
 -- Processes that are set, started, named and sent to stay shaped, while one of them is apart.
-use Rattle.std.proofs.Common.{◌≡◌, ℕ, suc, zero, ◌+◌, ◌-◌, Bool, true, false, cond, nat_lt, List, [], ◌∷◌, ◌++◌, length, slice_get, refl, subst, Option, Some, None, codes}
+use Rattle.std.proofs.Common.{◌≡◌, ℕ, suc, zero, ◌+◌, ◌-◌, true, false, cond, nat_lt, List, [], ◌∷◌, ◌++◌, length, slice_get, refl, subst, Option, Some, None, codes}
 use Rattle.std.proofs.Math.ListN.{set}
 use Rattle.std.proofs.lemmas.Option.{same_Some}
 use Rattle.beam_machine.specs.declared.process.Signal.{Signal}
-use Rattle.beam_machine.specs.declared.process.Signal.TheVariants.{Message, Exit as ExitSignal, Down}
-use Rattle.beam_machine.specs.Prelude.{Code, Answered, answer, fault, most_processes, spawns_with, names, registers, unnames, unregisters, is_alive, posted_if_own, sends_named, most_references, makes_reference, or_noproc, put_monitor, monitored, answer_of, Process, is_ended, started, own_pid, own_number, process_of, alive, live_process, registered, posted_to, posted}
-use Rattle.beam_term.specs.Prelude.{TermValue, atom_term, pid_term}
-use Rattle.beam_model.specs.Prelude.{same_text, elements_in}
-use Rattle.beam_model.specs.declared.exception.Fault.TheVariants.{Badarg, SystemLimit}
+use Rattle.beam_machine.specs.declared.process.Signal.TheVariants.{Down}
+use Rattle.beam_machine.specs.Prelude.{Code, Answered, is_alive, or_noproc, put_monitor, monitored, answer_of, Process, is_ended, started, own_number, process_of, alive, live_process, posted_to, posted, Sent}
+use Rattle.beam_term.specs.Prelude.{TermValue, atom_term}
 use Rattle.beam_model.specs.declared.native.NodeNative.{NodeNative}
-use Rattle.beam_model.specs.declared.native.NodeNative.TheVariants.{Spawn, Register, Unregister, Whereis, IsProcessAlive, Exit, Send, MakeRef, Monitor}
 use Rattle.beam_laws.proofs.Ending.{alive_is, at_index}
+use Rattle.beam_laws.proofs.NodeAnswers.{Answers, keeps_all, starts_one, names_one, unnames_one, posts_one, makes_one, monitors_one, answer_is}
 use Rattle.beam_shape_laws.specs.Shaped.{IsShaped, AreShaped}
 
 pub started_shaped : (code : Code) (pid : ℕ) (name function : List ℕ) (arguments : List TermValue) → IsShaped code (started pid name function arguments)
@@ -97,42 +95,7 @@ module _ (code : Code) where
   posted_apart i ps pid signal None e h = h
   posted_apart i ps pid signal (Some x) e h = set_other i ps (pid - 1) x (record x { transit = x.transit ++ signal ∷ [] }) (there ps pid x e) (λ k. k) h
 
-  either_apart : (i : ℕ) (b : Bool) (x y : Answered) → AllBut i x.processes → AllBut i y.processes → AllBut i (cond b x y).processes
-  either_apart i true x y h k = h
-  either_apart i false x y h k = k
-
-  spawns_apart : (i : ℕ) (ps : List Process) (name function : List ℕ) (o : Option (List TermValue)) → AllBut i ps → AllBut i (spawns_with ps name function o).processes
-  spawns_apart i ps name function None h = h
-  spawns_apart i ps name function (Some arguments) h =
-      let new : Process = started (length ps + 1) name function arguments in
-      let b : Bool = nat_lt (length ps) most_processes in
-      let spawned : Answered = answer (ps ++ new ∷ []) (own_pid (length ps + 1)) in
-      either_apart i (nat_lt 255 (length arguments)) (fault ps Badarg) (cond b spawned (fault ps SystemLimit)) h
-      (either_apart i b spawned (fault ps SystemLimit) (appended_apart i ps new h (started_shaped code (length ps + 1) name function arguments)) h)
-
-  names_apart : (i : ℕ) (ps : List Process) (name : List ℕ) (pid : ℕ) (o : Option Process) → live_process ps pid ≡ o → AllBut i ps → AllBut i (names ps name pid o).processes
-  names_apart i ps name pid None e h = h
-  names_apart i ps name pid (Some x) e h = either_apart i _ _ (fault ps Badarg) (set_other i ps (pid - 1) x (record x { name = Some name }) (there ps pid x e) (λ k. k) h) h
-
-  registers_apart : (i : ℕ) (ps : List Process) (name : List ℕ) (o : Option ℕ) → AllBut i ps → AllBut i (registers ps name o).processes
-  registers_apart i ps name None h = h
-  registers_apart i ps name (Some pid) h = names_apart i ps name pid (live_process ps pid) refl h
-
-  unnames_apart : (i : ℕ) (ps : List Process) (pid : ℕ) (o : Option Process) → live_process ps pid ≡ o → AllBut i ps → AllBut i (unnames ps pid o).processes
-  unnames_apart i ps pid None e h = h
-  unnames_apart i ps pid (Some x) e h = set_other i ps (pid - 1) x (record x { name = None }) (there ps pid x e) (λ k. k) h
-
-  unregisters_apart : (i : ℕ) (ps : List Process) (o : Option ℕ) → AllBut i ps → AllBut i (unregisters ps o).processes
-  unregisters_apart i ps None h = h
-  unregisters_apart i ps (Some pid) h = unnames_apart i ps pid (live_process ps pid) refl h
-
-  signalled_apart : (i : ℕ) (ps : List Process) (o : Option ℕ) (signal : Signal) → AllBut i ps → AllBut i (posted_if_own ps o signal)
-  signalled_apart i ps None signal h = h
-  signalled_apart i ps (Some pid) signal h = posted_apart i ps pid signal (live_process ps pid) refl h
-
-  sends_apart : (i : ℕ) (ps : List Process) (o : Option ℕ) (message : TermValue) → AllBut i ps → AllBut i (sends_named ps o message).processes
-  sends_apart i ps None message h = h
-  sends_apart i ps (Some pid) message h = posted_apart i ps pid (Message message) (live_process ps pid) refl h
+  -- ---- natives of the node
 
   watching_apart : (i : ℕ) (ps : List Process) (caller n : ℕ) (watched : TermValue) (o : Option Process) → live_process ps caller ≡ o → AllBut i ps → AllBut i (put_monitor ps caller n watched o)
   watching_apart i ps caller n watched None e h = h
@@ -148,22 +111,17 @@ module _ (code : Code) where
       let qs : List Process = or_noproc ps caller n watched in
       watching_apart i qs caller n watched (live_process qs caller) refl (noproc_apart i ps caller n watched h)
 
-  makes_apart : (i references : ℕ) (ps : List Process) (f : ℕ → List Process) → AllBut i ps → ((n : ℕ) → AllBut i (f n)) → AllBut i (makes_reference references ps f).processes
-  makes_apart i references ps f h each = either_apart i (nat_lt references most_references) _ (fault ps SystemLimit) (each (references + 1)) h
+  answered_apart : (i references : ℕ) (ps : List Process) (caller : ℕ) (native : NodeNative) (xs : List Sent) (a : Answered) → AllBut i ps
+      → Answers references ps caller native xs a → AllBut i a.processes
+  answered_apart i references ps caller native _ _ h (keeps_all value) = h
+  answered_apart i references ps caller native _ _ h (starts_one name function arguments value) =
+      appended_apart i ps (started (length ps + 1) name function arguments) h (started_shaped code (length ps + 1) name function arguments)
+  answered_apart i references ps caller native _ _ h (names_one name pid x value e free) = set_other i ps (pid - 1) x (record x { name = Some name }) (there ps pid x e) (λ k. k) h
+  answered_apart i references ps caller native _ _ h (unnames_one pid x value e) = set_other i ps (pid - 1) x (record x { name = None }) (there ps pid x e) (λ k. k) h
+  answered_apart i references ps caller native _ _ h (posts_one to signal value plain) = posted_apart i ps to signal (live_process ps to) refl h
+  answered_apart i references ps caller native _ _ h (makes_one value) = h
+  answered_apart i references ps caller native _ _ h (monitors_one watched value is) = monitored_apart i ps caller watched (references + 1) h
 
   -- the node's answer to the process that is apart leaves the others shaped
   pub answer_apart : (i references : ℕ) (ps : List Process) (caller : ℕ) (native : NodeNative) (ts : List TermValue) → AllBut i ps → AllBut i (answer_of references ps caller native ts).processes
-  answer_apart i references ps caller Spawn (atom_term name ∷ atom_term function ∷ arguments ∷ []) h = spawns_apart i ps name function (elements_in arguments) h
-  answer_apart i references ps caller Register (atom_term name ∷ pid_term host id serial creation ∷ []) h = registers_apart i ps name (own_number (pid_term host id serial creation)) h
-  answer_apart i references ps caller Unregister (atom_term name ∷ []) h = unregisters_apart i ps (registered ps name) h
-  answer_apart i references ps caller Whereis (atom_term name ∷ []) h = h
-  answer_apart i references ps caller IsProcessAlive (pid_term host id serial creation ∷ []) h = h
-  answer_apart i references ps caller Exit (pid_term host id serial creation ∷ reason ∷ []) h = signalled_apart i ps (own_number (pid_term host id serial creation)) (ExitSignal caller reason) h
-  answer_apart i references ps caller Send (pid_term host id serial creation ∷ message ∷ []) h = signalled_apart i ps (own_number (pid_term host id serial creation)) (Message message) h
-  answer_apart i references ps caller Send (atom_term name ∷ message ∷ []) h = sends_apart i ps (registered ps name) message h
-  answer_apart i references ps caller MakeRef [] h = makes_apart i references ps (λ n. ps) h (λ n. h)
-  answer_apart i references ps caller Monitor (atom_term kind ∷ pid_term host id serial creation ∷ []) h =
-      let watched : TermValue = pid_term host id serial creation in
-      either_apart i (same_text kind (codes "process")) (makes_reference references ps (monitored ps caller watched)) (fault ps Badarg)
-      (makes_apart i references ps (monitored ps caller watched) h (λ n. monitored_apart i ps caller watched n h)) h
-  answer_apart i references ps caller _ _ h = h
+  answer_apart i references ps caller native ts h = answered_apart i references ps caller native _ _ h (answer_is references ps caller native ts)
