@@ -1,12 +1,5 @@
 pub mod Homes
-pub mod Ending
 pub mod Copies
 pub mod SameNumbers
 pub mod Apart
-pub mod Upgrades
 pub mod Several
-pub mod Untaken
-pub mod Heard
-pub mod Monitored
-pub mod Gathered
-pub mod Purged

@@ -1,11 +1,8 @@
--- Several old instances, and the processes that linger in one of them.
+-- The old instances of several modules.
 use Rattle.std.specs.Prelude.{◌≡◌, ℕ, Bool, false, List, Option, Some, None}
 use Rattle.std.specs.List.{list_any}
-use Rattle.beam_machine.specs.Prelude.{Code, old_of, lingers, Process}
+use Rattle.beam_machine.specs.Prelude.{Code, old_of}
 use Rattle.beam_model.specs.Prelude.{Listing}
-
-abbrev pub lingers_in_any : List ℕ → Process → Bool
-lingers_in_any numbers p = list_any (λ n. lingers n p) numbers
 
 -- whether there is a number, and it passes a test
 abbrev pub passes : (ℕ → Bool) → Option ℕ → Bool

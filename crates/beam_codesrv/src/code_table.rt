@@ -1,17 +1,22 @@
 //! The code: the modules by name, and the instances by number.
-ghost use Rattle.std.specs.Prelude.{◌≡◌, ◌≤◌, ℕ, [], Some, None, OnOk, OnErr, nat_eq};
+ghost use Rattle.std.specs.Prelude.{◌≡◌, ◌≤◌, ℕ, List, [], Some, None, OnOk, OnErr, nat_eq};
 ghost use Rattle.std.specs.Map.{lookup};
 ghost use Rattle.std.specs.Option.{option_copied};
 ghost use Rattle.indexmap.specs.IndexMap.{get, insert_entry, IsUnique};
 ghost use Rattle.beam_model.specs.SameText.{same_text};
 ghost use Rattle.beam_machine.specs.Change.{current_of, old_of, loaded, deleted, purged, is_live};
 ghost use Rattle.beam_machine.specs.Code.{versions_of, listing_of, step_of, entry_of};
+ghost use Rattle.beam_machine.specs.Next.{replied, versions_reply, next_delete};
+ghost use Rattle.beam_machine.specs.Process.{Process as TheProcess};
+ghost use Rattle.beam_machine.specs.declared.event.Reply.TheVariants.{Changed};
 ghost use Rattle.beam_laws.specs.Numbers.{how_many};
 ghost use Rattle.beam_codesrv.specs.Homes.{with_change, is_bare, tidied, dropped_of, with_home, without};
+ghost use Rattle.beam_codesrv.specs.Replacement.{node};
 
 use crate::versions::{Instance, Versions};
 use beam_image::Image;
 use beam_machine::action::Step;
+use beam_machine::event::Reply;
 use beam_model::place::Place;
 use beam_term::Atom;
 use indexmap::IndexMap;
@@ -208,9 +213,19 @@ impl CodeTable {
         self.modules.get(name)?.old_number()
     }
 
+    /// The reply with the numbers of a module's instances.
+    pub fn versions(&self, name: &Atom) -> Reply
+        ensures { result ≡ versions_reply self.now name.now }
+    {
+        Reply::Versions {
+            current: self.current(name),
+            old: self.old(name),
+        }
+    }
+
     /// Puts in an instance under a number that no instance has: it becomes its module's current one, the current one becomes old,
     /// and the old one goes. A module that is new comes last. An `Err` changes nothing.
-    pub(crate) fn put(&mut self, number: u32, image: &Image) -> Result<(), AllocError>
+    pub fn put(&mut self, number: u32, image: &Image) -> Result<(), AllocError>
         requires fresh { listing_of self.old number ≡ None }
         ensures ok { OnOk result (self.new ≡ loaded self.old number image.now) }
         ensures err { OnErr result (self.new ≡ self.old) }
@@ -230,7 +245,7 @@ impl CodeTable {
     }
 
     /// Makes the current instance of a module old. Its old instance goes.
-    pub(crate) fn retire(&mut self, name: &Atom)
+    pub fn retire(&mut self, name: &Atom)
         ensures { self.new ≡ deleted self.old name.now }
     {
         let dropped = delete_in(&mut self.modules, name);
@@ -238,8 +253,20 @@ impl CodeTable {
         forget(&mut self.homes, dropped);
     }
 
+    /// Makes a module's current code old, where it has current code and no old code, and tells whether it has. It takes no memory.
+    pub fn delete(&mut self, name: &Atom) -> bool
+        ensures { (ps : List TheProcess) (clock n references : ℕ) → next_delete (node self.old ps clock n references) name.now
+            ≡ replied (node self.new ps clock n references) (Changed result) }
+    {
+        let changes = self.current(name).is_some() && self.old(name).is_none();
+        if changes {
+            self.retire(name);
+        }
+        changes
+    }
+
     /// Removes the old instance of a module.
-    pub(crate) fn drop_old(&mut self, name: &Atom)
+    pub fn drop_old(&mut self, name: &Atom)
         ensures { self.new ≡ purged self.old name.now }
     {
         let dropped = purge_in(&mut self.modules, name);

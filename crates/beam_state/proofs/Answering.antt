@@ -13,7 +13,7 @@ use Rattle.beam_machine.specs.declared.process.Status.TheVariants.{Running}
 use Rattle.beam_machine.specs.Prelude.{Process, is_ended, then_of, read_x, put_x, Outcome, sends, goes_on, answers, State, process_of, with_process, posted, hearing_by, with_made, answer_of, done_by, goes_on_with, continues, raised}
 use Rattle.beam_term.specs.Prelude.{TermValue}
 use Rattle.beam_laws.proofs.Hearing.{hearing_here, none_hear}
-use Rattle.beam_codesrv.proofs.Gathered.{at_pid}
+use Rattle.beam_state.proofs.Located.{at_pid}
 use Rattle.beam_state.specs.Prelude.{RespondsBy, AnswersNative, bare_if, sending, node, parts, then_at}
 use Rattle.beam_state.proofs.Located.{pid_found, put_back}
 use Rattle.beam_state.proofs.Leaving.{Kept, kept, kept_at, posted_stay}

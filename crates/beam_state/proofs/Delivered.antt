@@ -8,7 +8,7 @@ use Rattle.beam_machine.specs.Prelude.{delivered, Process, is_ended, ended, with
 use Rattle.beam_term.specs.Prelude.{TermValue, nil_term}
 use Rattle.beam_proc.specs.Prelude.{ending, woken, arriving, received_all}
 use Rattle.beam_proc.proofs.Deliveries.{delivered_is}
-use Rattle.beam_codesrv.proofs.Gathered.{at_pid}
+use Rattle.beam_state.proofs.Located.{at_pid}
 use Rattle.beam_state.specs.Prelude.{MadeBy}
 use Rattle.beam_state.proofs.Answering.{made_quietly}
 use Rattle.beam_state.proofs.Asked.{said, says}

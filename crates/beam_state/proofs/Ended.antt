@@ -14,13 +14,13 @@ use Rattle.beam_proc.specs.Prelude.{DoesAtOnce}
 use Rattle.beam_state.specs.Prelude.{MadeBy, GoesOnFrom, MonitorNoMore, then_at, notices_of}
 use Rattle.beam_state.proofs.Keeping.{stays_on}
 use Rattle.beam_state.proofs.MonitorKeys.{none_more}
-use Rattle.beam_codesrv.specs.Posting.{all_taken}
+use Rattle.beam_state.specs.Posting.{all_taken}
 use Rattle.beam_state.proofs.Answering.{set_process, set_same, made_stands}
 use Rattle.beam_state.proofs.Asked.{said}
 use Rattle.beam_state.proofs.Seen.{length_each}
 use Rattle.beam_state.proofs.Telling.{but_one, told, told_stays, notices_make}
-use Rattle.beam_codesrv.proofs.Untaken.{all_untaken}
-use Rattle.beam_codesrv.proofs.Gathered.{at_pid}
+use Rattle.beam_state.proofs.Untaken.{all_untaken}
+use Rattle.beam_state.proofs.Located.{at_pid}
 
 pub ended_keeps : (p q : Process) (reason value : TermValue) (result : Result Then AllocError) → DoesAtOnce p (ended p reason value) result q → GoesOnFrom p q
 ended_keeps p q reason value (Ok said) h = (

@@ -1,7 +1,5 @@
 -- A change of one process keeps the indexes right.
-use Rattle.std.proofs.Common.{◌≡◌, ℕ, zero, suc, take, drop, add-one, ◌+◌, ◌<◌, ◌==◌, ◌&&◌, Bool, true, false, cond, not, List, [], ◌∷◌, ◌++◌, length, map, slice_get, get_or, refl, sym, ap, subst, ◌∙◌, arith, option_map, Option, Some, None, Result, Ok, Err, slice_set, codes, is_ok, IfSome, OnOk, OnErr}
-use Rattle.std.proofs.lemmas.List.{length-map}
-use Rattle.std.proofs.lemmas.Option.{slice_get-map}
+use Rattle.std.proofs.Common.{◌≡◌, ℕ, ◌+◌, ◌<◌, ◌==◌, ◌&&◌, Bool, true, false, cond, not, List, [], ◌∷◌, ◌++◌, length, slice_get, get_or, refl, sym, ap, subst, ◌∙◌, arith, Option, Some, None, Result, Ok, Err, slice_set, codes, is_ok, IfSome, OnOk, OnErr}
 use Rattle.std.specs.declared.alloc.AllocError.{AllocError}
 use Rattle.beam_agenda.specs.declared.entry.AgendaEntry.{AgendaEntry}
 use Rattle.beam_machine.specs.declared.callee.After.{After}
@@ -20,7 +18,7 @@ use Rattle.beam_laws.proofs.Follows.{Lives, answered_with}
 use Rattle.beam_laws.proofs.Monitoring.{all_are, none_are, fewer_are, delivered_part}
 use Rattle.beam_proc.specs.Prelude.{Does}
 use Rattle.beam_state.specs.Prelude.{bare_if, entry_of, IsIndexed, KeepsName, GoesOnFrom, MonitorNoMore, IsKeyed, AreKeyed, AreMonitorsKeyed, AreMonitorsKeyedIf, has_key, with_monitor}
-use Rattle.beam_state.proofs.MonitorKeys.{no_more, part_fewer, monitored_if, fewer_monitored, set_monitored, push_monitored, kept_monitored, more_keyed, fewer_keyed, added_if}
+use Rattle.beam_state.proofs.MonitorKeys.{no_more, part_fewer, monitored_if, fewer_monitored, set_monitored, push_monitored, kept_monitored, more_keyed, added_if}
 use Rattle.beam_state.proofs.Indexing.{Find, as_many, changed_indexed, pushed_indexed}
 use Rattle.beam_state.proofs.Finding.{there}
 use Rattle.beam_state.proofs.Located.{put_back}
@@ -196,18 +194,3 @@ answer_keeps p q slots after value (Err refused) runs e = stays_on p q e
 answer_keeps p q slots after value (Ok (Ended reason v)) runs e = stays_on p q e.1
 answer_keeps p q slots after value (Ok GoesOn) runs e = answers_keep p q slots after value runs e.0
 answer_keeps p q slots after value (Ok Waits) runs e = answers_keep p q slots after value runs e.0
-
--- ---- the entries of all processes
-
-entries_set : (old new : List AgendaEntry) (i : ℕ) (e : AgendaEntry) → length old ≡ length new → slice_get new i ≡ Some e → slice_set (take i new ++ drop i old) i e ≡ take (suc i) new ++ drop (suc i) old
-entries_set old [] i e h there = cc
-entries_set [] (m ∷ new) i e h there = cc
-entries_set (a ∷ old) (m ∷ new) zero e h there = let same : e ≡ m = cc in ap (λ e. e ∷ old) same
-entries_set (a ∷ old) (m ∷ new) (suc i) e h there = ap (λ es. m ∷ es) (entries_set old new i e (omega (arith, h)) there)
-
-pub entries_more : (ps : List Process) (old before after : List AgendaEntry) (i : ℕ) (p : Process) (e : AgendaEntry) → length old ≡ length ps → i < length ps → p ≡ get_or ps i p
-    → before ≡ take i (map entry_of ps) ++ drop i old → e ≡ entry_of p → after ≡ slice_set before i e → after ≡ take (i + 1) (map entry_of ps) ++ drop (i + 1) old
-entries_more ps old before after i p e alike l g was is set =
-    let many : length old ≡ length (map entry_of ps) = alike ∙ sym (length-map ps entry_of) in
-    let entry : slice_get (map entry_of ps) i ≡ Some e = slice_get-map entry_of ps i ∙ (ap (option_map entry_of) (there ps i p l g) ∙ ap Some (sym is)) in
-    set ∙ (ap (λ es. slice_set es i e) was ∙ (entries_set old (map entry_of ps) i e many entry ∙ ap (λ k. take k (map entry_of ps) ++ drop k old) (sym (add-one i))))

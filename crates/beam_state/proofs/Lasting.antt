@@ -16,11 +16,11 @@ use Rattle.beam_laws.proofs.Hearing.{hears}
 use Rattle.beam_state.specs.Prelude.{IsAsking, AreRead, CanDrop, ReturnsCounting, Sends, does_send, is_make_ref, posted_if, AreLawful, notices_of}
 use Rattle.beam_state.proofs.Asked.{within}
 use Rattle.beam_state.proofs.Askers.{left, left_lives, left_runs, left_drops, left_wrote}
-use Rattle.beam_codesrv.specs.Posting.{all_taken}
+use Rattle.beam_state.specs.Posting.{all_taken}
 use Rattle.beam_state.proofs.Leaving.{fault_leaves}
 use Rattle.beam_state.proofs.Seen.{each, get_each, moved}
 use Rattle.beam_state.proofs.Telling.{but_one, itself, told, answer_told}
-use Rattle.beam_codesrv.proofs.Untaken.{all_untaken}
+use Rattle.beam_state.proofs.Untaken.{all_untaken}
 use Rattle.beam_state.proofs.Posted.{all_posted_more, all_posted_lawful}
 
 -- ---- the DOWNs of an end don't depend on the signals in transit

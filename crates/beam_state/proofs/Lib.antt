@@ -20,3 +20,9 @@ pub mod Seen
 pub mod Telling
 pub mod Transit
 pub mod MonitorKeys
+pub mod Ending
+pub mod Notified
+pub mod OldCode
+pub mod Purged
+pub mod Untaken
+pub mod Upgrades

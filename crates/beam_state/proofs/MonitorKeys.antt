@@ -1,10 +1,10 @@
 -- The DOWNs made by the keys of monitors are those that all others are sent at an end.
-use Rattle.std.proofs.Common.{◌≡◌, ℕ, zero, suc, ◌+◌, ◌-◌, ◌*◌, ◌/◌, ◌%◌, ◌<◌, ◌≤◌, ◌==◌, ◌&&◌, Bool, true, false, cond, not, nat_lt, List, [], ◌∷◌, ◌++◌, length, map, slice_get, append_assoc, append-nil, Option, Some, None, refl, sym, ap, subst, ◌∙◌, arith, true≢false, rules, filter, ◌||◌, option_map, slice_set, eqb-true}
+use Rattle.std.proofs.Common.{◌≡◌, ℕ, zero, suc, ◌+◌, ◌-◌, ◌*◌, ◌<◌, ◌≤◌, ◌==◌, ◌&&◌, Bool, true, false, cond, not, nat_lt, List, [], ◌∷◌, ◌++◌, length, map, slice_get, append_assoc, append-nil, Option, Some, None, refl, sym, ap, subst, ◌∙◌, arith, true≢false, filter, ◌||◌, option_map, slice_set, eqb-true}
 use Rattle.std.specs.Ordering.{nat_cmp}
 use Rattle.std.proofs.lemmas.Bool.Decides.{nat_tests}
 use Rattle.std.proofs.lemmas.List.{map-append}
 use Rattle.std.proofs.lemmas.List.Folds.{list_any-append}
-use Rattle.std.specs.List.{list_any, AllByRecursion}
+use Rattle.std.specs.List.{list_any}
 use Rattle.std.specs.List.Sorted.{IsStrictlySortedBy}
 use Rattle.std.proofs.lemmas.Bool.{and_parts, and_from, or_left, or_right}
 use Rattle.std.proofs.lemmas.Option.{same_Some}
@@ -432,11 +432,6 @@ swept_if complete old new ps now count view lawful few leaves h =
 -- a process is replaced by one that has no monitors but the first one's
 pub fewer_monitored : (keys : List ℕ) (ps : List Process) (i : ℕ) (p q : Process) → slice_get ps i ≡ Some p → MonitorNoMore p.monitors q.monitors → AreMonitorsKeyed keys ps → AreMonitorsKeyed keys (slice_set ps i q)
 fewer_monitored keys ps i p q there fewer h = set_monitored keys ps i q h (fewer_keyed keys (i + 1) p.monitors q.monitors fewer (h i p there))
-
--- processes are replaced by others, each without monitors but the first one's
-pub all_monitored : (keys : List ℕ) (ps qs : List Process) → ((i : ℕ) (q : Process) → slice_get qs i ≡ Some q → (p : Process) × ((slice_get ps i ≡ Some p) × MonitorNoMore p.monitors q.monitors)) → AreMonitorsKeyed keys ps
-    → AreMonitorsKeyed keys qs
-all_monitored keys ps qs fewer h = λ i q e. let f = fewer i q e in fewer_keyed keys (i + 1) f.0.monitors q.monitors f.1.1 (h i f.0 f.1.0)
 
 -- ---- the monitors of a process are added one after another
 

@@ -13,7 +13,7 @@ use Rattle.beam_laws.proofs.Numbered.{put_put, put_here, alive_of}
 use Rattle.beam_laws.proofs.Ending.{alive_is}
 use Rattle.beam_laws.proofs.Rising.{RisesIf, live_up}
 use Rattle.beam_watches.specs.MonitorEntries.{AreBelow}
-use Rattle.beam_codesrv.proofs.Gathered.{at_pid}
+use Rattle.beam_state.proofs.Located.{at_pid}
 use Rattle.beam_state.specs.Prelude.{Returns, ReturnsCounting, with_monitor}
 use Rattle.beam_state.proofs.Answering.{set_process, set_same}
 use Rattle.beam_state.proofs.Asked.{said}

@@ -8,7 +8,7 @@ use Rattle.beam_laws.proofs.Ending.{alive_is, at_index}
 use Rattle.beam_laws.proofs.Follows.{on}
 use Rattle.beam_laws.proofs.Orderly.{set_orderly}
 use Rattle.beam_laws.proofs.Rising.{RisesIf, set_up, live_up}
-use Rattle.beam_codesrv.specs.Posting.{taken_of, all_taken}
+use Rattle.beam_state.specs.Posting.{taken_of, all_taken}
 use Rattle.beam_state.specs.Prelude.{AreLawful}
 
 -- ---- pids, names and monitors stay in order

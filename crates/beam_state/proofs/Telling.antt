@@ -16,8 +16,8 @@ use Rattle.beam_laws.specs.Prelude.{posted_all, Rise, AreRising, each_sent}
 use Rattle.beam_laws.proofs.Hearing.{none_more, as_before, hears, hearing_is, own_hears}
 use Rattle.beam_laws.proofs.Orderly.{Orderly}
 use Rattle.beam_laws.proofs.Posting.{all_posted_at, said, each_sent_to}
-use Rattle.beam_codesrv.proofs.Gathered.{at_pid}
-use Rattle.beam_codesrv.proofs.Heard.{same_lists}
+use Rattle.beam_state.proofs.Located.{at_pid}
+use Rattle.beam_state.proofs.Located.{same_lists}
 use Rattle.beam_state.specs.Prelude.{does_send, notices_of}
 use Rattle.beam_state.proofs.Seen.{each, get_each, Unseen, moved, same_answer}
 

@@ -1,4 +1,5 @@
 pub mod Asking
+pub mod Ends
 pub mod Returns
 pub mod Indexed
 pub mod Parts

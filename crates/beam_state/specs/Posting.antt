@@ -1,6 +1,6 @@
--- Signals that are posted at an end, and one process that stands in for another.
-use Rattle.std.specs.Prelude.{◌≡◌, ℕ, ◌==◌, if◌then◌else◌, List, [], Some}
-use Rattle.beam_machine.specs.Prelude.{Sent, Process, live_process, downs}
+-- Signals that are posted at an end, how they are taken back, and one process that stands in for another.
+use Rattle.std.specs.Prelude.{◌≡◌, ℕ, ◌==◌, ◌-◌, if◌then◌else◌, List, [], ◌∷◌, length, take, Option, Some, None}
+use Rattle.beam_machine.specs.Prelude.{Sent, Process, with_process, live_process, downs}
 use Rattle.beam_term.specs.Prelude.{TermValue}
 use Rattle.beam_laws.specs.Prelude.{AreRising, Follows, Orderly, with_name_and_transit, each_sent}
 
@@ -16,3 +16,22 @@ notices_of ps pid reason = each_sent 1 (λ q. if q.pid == pid then [] else downs
 -- process n has pid n, no two have one name, and the references of each one's monitors rise, and are among those that were made
 abbrev pub AreLawful : ℕ → List Process → Type 0
 AreLawful references ps = Orderly ps × AreRising references ps
+
+-- ---- signals that are taken back
+
+-- a process without the last signal that is in transit to it
+abbrev pub without_last : Process → Process
+without_last p = record p { transit = take (length p.transit - 1) p.transit }
+
+abbrev pub taken_of : List Process → ℕ → Option Process → List Process
+taken_of ps pid (Some p) = with_process ps pid (without_last p)
+taken_of ps pid None = ps
+
+-- the last signal to a process that hasn't ended is taken back
+abbrev pub taken : List Process → ℕ → List Process
+taken ps pid = taken_of ps pid (live_process ps pid)
+
+-- for each of these signals, from the last to the first, the last signal to its receiver is taken back
+abbrev pub all_taken : List Process → List Sent → List Process
+all_taken ps [] = ps
+all_taken ps (sent ∷ rest) = taken (all_taken ps rest) sent.to

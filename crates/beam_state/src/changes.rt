@@ -4,11 +4,12 @@ ghost use Rattle.beam_machine.specs.Next.{next};
 ghost use Rattle.beam_machine.specs.Run.{Answers};
 ghost use Rattle.beam_machine.specs.Quiet.{LacksMemory, ends_monitored};
 ghost use Rattle.beam_laws.specs.Numbers.{Ordered};
-ghost use Rattle.beam_laws.specs.Orderly.{Orderly};
 ghost use Rattle.beam_state.specs.Parts.{node, parts};
+ghost use Rattle.beam_state.specs.Posting.{AreLawful};
 
-use crate::processes::{Processes, renew_all};
+use crate::processes::Processes;
 use crate::state::State;
+use crate::{replacement, upgrading};
 use beam_codesrv::CodeTable;
 use beam_image::Image;
 use beam_machine::event::{Event, Refused, Reply, UpgradeMode};
@@ -20,19 +21,19 @@ fn load(
     alloc: Global,
     code: &mut CodeTable,
     processes: &mut Processes,
+    references: u32,
     instances: &mut u32,
     image: &Image,
 ) -> Result<Reply, Refused>
     requires ordered { Ordered code.old instances.old }
-    requires orderly { Orderly processes.old }
-    ensures next { (clock references : ℕ) → Answers (node code.old (parts processes.old clock instances.old references)) (Event.Load image.now)
-        result (node code.new (parts processes.new clock instances.new references)) }
-    ensures memory { (clock references : ℕ) → IsErrOf result Refused.NoMemory
-        → is_ok (next (node code.old (parts processes.old clock instances.old references)) (Event.Load image.now)).answer ≡ true }
+    requires lawful { AreLawful references processes.old }
+    ensures next { (clock count : ℕ) → Answers (node code.old (parts processes.old clock instances.old count)) (Event.Load image.now)
+        result (node code.new (parts processes.new clock instances.new count)) }
+    ensures memory { (clock count : ℕ) → IsErrOf result Refused.NoMemory
+        → is_ok (next (node code.old (parts processes.old clock instances.old count)) (Event.Load image.now)).answer ≡ true }
 {
-    let answer = code.load(alloc, &mut processes.items, instances, image);
-    renew_all(&mut processes.agenda, &processes.items);
-    Ok(answer?)
+    let loaded = replacement::load(alloc, code, processes, references, instances, image);
+    Ok(loaded?)
 }
 
 #[tactic(auto, using(beam_laws::proofs::Numbering::next_is_free))]
@@ -43,55 +44,57 @@ fn load_strict(
     image: &Image,
 ) -> Result<Reply, Refused>
     requires { Ordered code.old instances.old }
-    ensures next { (clock references : ℕ) → Answers (node code.old (parts processes.old clock instances.old references)) (Event.LoadStrict image.now)
-        result (node code.new (parts processes.new clock instances.new references)) }
-    ensures memory { (clock references : ℕ) → IsErrOf result Refused.NoMemory
-        → is_ok (next (node code.old (parts processes.old clock instances.old references)) (Event.LoadStrict image.now)).answer ≡ true }
+    ensures next { (clock count : ℕ) → Answers (node code.old (parts processes.old clock instances.old count)) (Event.LoadStrict image.now)
+        result (node code.new (parts processes.new clock instances.new count)) }
+    ensures memory { (clock count : ℕ) → IsErrOf result Refused.NoMemory
+        → is_ok (next (node code.old (parts processes.old clock instances.old count)) (Event.LoadStrict image.now)).answer ≡ true }
 {
-    Ok(code.load_strict(&mut processes.items, instances, image)?)
+    Ok(replacement::load_strict(code, processes, instances, image)?)
 }
 
 fn atomic_load(
     alloc: Global,
     code: &mut CodeTable,
     processes: &mut Processes,
+    references: u32,
     instances: &mut u32,
     mode: UpgradeMode,
     images: &[Image],
 ) -> Result<Reply, Refused>
     requires ordered { Ordered code.old instances.old }
-    requires orderly { Orderly processes.old }
-    ensures { (clock references : ℕ) → Answers (node code.old (parts processes.old clock instances.old references)) (Event.AtomicLoad mode images.now)
-        result (node code.new (parts processes.new clock instances.new references)) }
+    requires lawful { AreLawful references processes.old }
+    ensures { (clock count : ℕ) → Answers (node code.old (parts processes.old clock instances.old count)) (Event.AtomicLoad mode images.now)
+        result (node code.new (parts processes.new clock instances.new count)) }
 {
-    let answer = code.atomic_load(alloc, &mut processes.items, instances, mode, images);
-    renew_all(&mut processes.agenda, &processes.items);
-    Ok(answer?)
+    let loaded = upgrading::atomic_load(
+        alloc, code, processes, references, instances, mode, images,
+    );
+    Ok(loaded?)
 }
 
 fn soft_purge(code: &mut CodeTable, processes: &Processes, name: &Atom) -> Result<Reply, Refused>
-    ensures next { (clock n references : ℕ) → Answers (node code.old (parts processes.now clock n references)) (Event.SoftPurge name.now)
-        result (node code.new (parts processes.now clock n references)) }
+    ensures next { (clock n count : ℕ) → Answers (node code.old (parts processes.now clock n count)) (Event.SoftPurge name.now)
+        result (node code.new (parts processes.now clock n count)) }
     ensures memory { IsErrOf result Refused.NoMemory → ⊥ }
 {
-    Ok(Reply::Changed(code.soft_purge(processes.as_slice(), name)))
+    Ok(Reply::Changed(replacement::soft_purge(code, processes, name)))
 }
 
 fn purge(
     alloc: Global,
     code: &mut CodeTable,
     processes: &mut Processes,
+    references: u32,
     name: &Atom,
 ) -> Result<Reply, Refused>
-    requires { Orderly processes.old }
-    ensures next { (clock n references : ℕ) → Answers (node code.old (parts processes.old clock n references)) (Event.Purge name.now)
-        result (node code.new (parts processes.new clock n references)) }
-    ensures memory { (clock n references : ℕ) → IsErrOf result Refused.NoMemory
-        → ends_monitored (node code.old (parts processes.old clock n references)) name.now ≡ true }
+    requires { AreLawful references processes.old }
+    ensures next { (clock n count : ℕ) → Answers (node code.old (parts processes.old clock n count)) (Event.Purge name.now)
+        result (node code.new (parts processes.new clock n count)) }
+    ensures memory { (clock n count : ℕ) → IsErrOf result Refused.NoMemory
+        → ends_monitored (node code.old (parts processes.old clock n count)) name.now ≡ true }
 {
-    let ended = code.purge(alloc, &mut processes.items, name);
-    renew_all(&mut processes.agenda, &processes.items);
-    Ok(Reply::Changed(ended?))
+    let ended = replacement::purge(alloc, code, processes, references, name)?;
+    Ok(Reply::Changed(ended))
 }
 
 impl State {
@@ -106,6 +109,7 @@ impl State {
             self.alloc,
             code,
             &mut self.processes,
+            self.references,
             &mut self.instances,
             image,
         )
@@ -138,6 +142,7 @@ impl State {
             self.alloc,
             code,
             &mut self.processes,
+            self.references,
             &mut self.instances,
             mode,
             images,
@@ -158,6 +163,6 @@ impl State {
         ensures next { Answers (node code.old self.old) (Event.Purge name.now) result (node code.new self.new) }
         ensures memory { LacksMemory (node code.old self.old) (Event.Purge name.now) result (node code.new self.new) }
     {
-        purge(self.alloc, code, &mut self.processes, name)
+        purge(self.alloc, code, &mut self.processes, self.references, name)
     }
 }

@@ -1,6 +1,7 @@
 //! Ends of processes, and the DOWNs that those that monitor them are sent.
-ghost use Rattle.std.specs.Prelude.{◌≡◌, ◌==◌, ◌+◌, ◌<◌, ◌++◌, if◌then◌else◌, false, [], length, filter, map, slice_get, IfSome, IfOk, OnOk, OnErr};
+ghost use Rattle.std.specs.Prelude.{◌≡◌, ◌==◌, ◌+◌, ◌<◌, ◌++◌, if◌then◌else◌, true, false, [], length, filter, map, slice_get, IfSome, IfOk, OnOk, OnErr};
 ghost use Rattle.std.specs.List.{list_any};
+ghost use Rattle.beam_term.specs.TermValue.{TermValue};
 ghost use Rattle.beam_machine.specs.Process.{ended, is_ended};
 ghost use Rattle.beam_machine.specs.Quiet.{is_monitored};
 ghost use Rattle.beam_machine.specs.State.{monitors_process, downs};
@@ -9,7 +10,7 @@ ghost use Rattle.beam_state.specs.Asking.{MadeBy};
 ghost use Rattle.beam_state.specs.Posting.{AreLawful, notices_of};
 ghost use Rattle.beam_state.specs.MonitorKeys.{is_key_of, is_told, down_of};
 
-use crate::monitor_index::{MonitorIndex, add_down};
+use crate::monitor_index::{MonitorIndex, add_down, is_told};
 use crate::posting::{post_all, take_all_back};
 use crate::processes::Processes;
 use crate::returning::end_with;
@@ -97,6 +98,40 @@ pub(crate) fn notices(
     match processes.complete_index() {
         Some(monitor_index) => found(sent, processes.as_slice(), monitor_index, pid, reason),
         None => walked(sent, processes.as_slice(), references, pid, reason),
+    }
+}
+
+/// Whether a process monitors the one of that number. It takes no memory.
+fn is_monitored(processes: &[ProcessEntry], pid: u32) -> bool
+    ensures { result ≡ is_monitored processes.now pid }
+{
+    processes
+        .iter()
+        .any(|process| process.monitors_process(pid))
+}
+
+/// Whether the index has a key of a process that is sent a DOWN where the process of that number ends. It takes no memory.
+fn one_is_told(processes: &[ProcessEntry], monitor_index: &MonitorIndex, pid: u32) -> bool
+    ensures { result ≡ list_any (is_told processes.now pid) (filter (is_key_of pid) monitor_index.now) }
+{
+    for key in monitor_index.of(pid) {
+        if is_told(processes, pid, *key) {
+            return true;
+        }
+    }
+    false
+}
+
+/// Whether `notices` may add signals for that process: where it says no, there are none, and where it says yes, the process is
+/// monitored. It takes no memory.
+pub(crate) fn has_notices(processes: &Processes, references: u32, pid: u32) -> bool
+    requires lawful { AreLawful references processes.now }
+    ensures some { result ≡ true → is_monitored processes.now pid ≡ true }
+    ensures none { result ≡ false → (reason : TermValue) → notices_of processes.now pid reason ≡ [] }
+{
+    match processes.complete_index() {
+        Some(monitor_index) => one_is_told(processes.as_slice(), monitor_index, pid),
+        None => references > 0 && is_monitored(processes.as_slice(), pid),
     }
 }
 

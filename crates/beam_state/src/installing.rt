@@ -5,8 +5,7 @@ ghost use Rattle.beam_machine.specs.State.{process_of, live_process, with_proces
 ghost use Rattle.beam_laws.specs.Monitors.{ArePart, Rise};
 ghost use Rattle.beam_laws.specs.Private.{with_name_and_transit, posted_all};
 ghost use Rattle.beam_state.specs.Parts.{with_processes};
-ghost use Rattle.beam_codesrv.specs.Posting.{all_taken};
-ghost use Rattle.beam_state.specs.Posting.{CanReplace};
+ghost use Rattle.beam_state.specs.Posting.{CanReplace, all_taken};
 
 use crate::names::live_index;
 use crate::posting;

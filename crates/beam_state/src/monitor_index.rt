@@ -83,6 +83,13 @@ fn is_live_key(processes: &[ProcessEntry], monitored: u32, key: u128) -> bool
     }
 }
 
+/// Whether the process of a key is sent a DOWN where the process of number `pid` ends: it isn't that process, and the key is live.
+pub(crate) fn is_told(processes: &[ProcessEntry], pid: u32, key: u128) -> bool
+    ensures { result ≡ is_told processes.now pid key }
+{
+    receiver_in(key) != pid && is_live_key(processes, pid, key)
+}
+
 /// Adds the DOWN that the process of a key is sent where the monitored process ends for that reason, if the key is live.
 pub(crate) fn add_down(
     processes: &[ProcessEntry],
@@ -94,10 +101,10 @@ pub(crate) fn add_down(
     ensures ok { OnOk result (sent.new.items ≡ sent.old.items ++ (if is_told processes.now pid key then down_of reason.now key ∷ [] else [])) }
     ensures quiet { is_told processes.now pid key ≡ false → OnErr result ⊥ }
 {
-    let to = receiver_in(key);
-    if to == pid || !is_live_key(processes, pid, key) {
+    if !is_told(processes, pid, key) {
         return Ok(());
     }
+    let to = receiver_in(key);
     let signal = Signal::Down {
         reference: reference_in(key),
         reason: reason.clone()?,

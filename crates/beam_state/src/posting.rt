@@ -3,7 +3,7 @@ ghost use Rattle.std.specs.Prelude.{◌≡◌, [], OnOk, OnErr};
 ghost use Rattle.beam_machine.specs.State.{posted};
 ghost use Rattle.beam_laws.specs.Private.{posted_all};
 ghost use Rattle.beam_state.specs.Returns.{posted_if};
-ghost use Rattle.beam_codesrv.specs.Posting.{taken, all_taken};
+ghost use Rattle.beam_state.specs.Posting.{taken, all_taken};
 
 use crate::names::live_index;
 use crate::processes::Processes;

@@ -1,5 +1,5 @@
 //! The processes by number, with what finds those that can go on, the deadline that comes first and the process of a name in O(log n).
-ghost use Rattle.std.specs.Prelude.{◌≡◌, ◌+◌, ◌<◌, [], ◌∷◌, ◌++◌, false, true, length, map, slice_get, slice_set, Some, None, is_ok, OnOk, OnErr, IfSome};
+ghost use Rattle.std.specs.Prelude.{◌≡◌, ◌+◌, ◌<◌, [], ◌∷◌, ◌++◌, false, true, length, slice_get, slice_set, Some, None, is_ok, OnOk, OnErr, IfSome};
 ghost use Rattle.std.specs.Fn.{FnOnceTakesAtMut, FnOnceReturnsAtMut};
 ghost use Rattle.std.specs.Option.{ForSome};
 ghost use Rattle.indexmap.specs.IndexMap.{get};
@@ -29,12 +29,12 @@ use std::marker::Model;
 
 /// The processes of a node. Contracts see their list. A change of one of them takes no memory for the indexes.
 pub(crate) struct Processes {
-    /// Process n is the n-th.
-    pub(crate) items: Vec<ProcessEntry>,
+    // process n is the n-th
+    items: Vec<ProcessEntry>,
     // by name, the index of the process that was given it last. The process may have lost it since: an entry is never taken out
     names: IndexMap<Atom, usize>,
-    /// The entry of each process.
-    pub(crate) agenda: Agenda,
+    // the entry of each process
+    agenda: Agenda,
     // the index of monitors
     monitor_index: MonitorIndex,
     // whether that index has the monitors of all processes
@@ -94,7 +94,7 @@ fn due_time(process: &ProcessEntry) -> Option<u64>
 }
 
 /// The agenda's entry of a process.
-pub(crate) fn entry_of(process: &ProcessEntry) -> AgendaEntry
+fn entry_of(process: &ProcessEntry) -> AgendaEntry
     ensures { result ≡ entry_of process.now }
 {
     AgendaEntry {
@@ -149,16 +149,6 @@ fn monitor(
         return Err(refused);
     }
     Ok(())
-}
-
-/// Puts the entries of all processes into the agenda.
-pub(crate) fn renew_all(agenda: &mut Agenda, items: &[ProcessEntry])
-    requires { length agenda.old ≡ length items.now }
-    ensures { agenda.new ≡ map entry_of items.now }
-{
-    for index in 0..items.len() {
-        agenda.set(index, entry_of(&items[index]));
-    }
 }
 
 impl Processes {

@@ -116,6 +116,13 @@ impl State {
         self.processes.next_deadline()
     }
 
+    /// The clock, in milliseconds.
+    pub fn clock(&self) -> u64
+        ensures { result ≡ self.now.clock }
+    {
+        self.clock
+    }
+
     /// The signals that all others are sent where the process of that number ends for that reason: a DOWN for each monitor of it. It isn't
     /// refused where the process isn't monitored.
     pub fn notices(&self, pid: u32, reason: &Term) -> Result<Vec<Sent>, AllocError>

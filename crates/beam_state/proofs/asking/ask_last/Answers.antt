@@ -4,7 +4,7 @@ use Rattle.beam_model.specs.declared.exception.Exception.TheVariants as exceptio
 use Rattle.beam_machine.specs.declared.process.Status.TheVariants.{Running}
 use Rattle.beam_machine.specs.Prelude.{answer_of, Process, then_of, answers}
 use Rattle.beam_state.specs.Prelude.{CanDrop, IsAsking, AnswersNative, MadeBy, bare_if, AreLawful}
-use Rattle.beam_codesrv.specs.Posting.{all_taken}
+use Rattle.beam_state.specs.Posting.{all_taken}
 use Rattle.beam_state.proofs.Askers.{goes_last, fault_answers}
 use Rattle.beam_state.proofs.Keeping.{answers_keep}
 use Rattle.beam_state.proofs.Lasting.{makes_is, told_alone, told_lawful, told_back, value_is, count_is, cur_is, fault_is, fault_stays, fault_counts, still_there, cur_within, cur_lives, cur_runs, cur_drops, cur_wrote}

@@ -1,4 +1,4 @@
-use Rattle.std.proofs.Common.{◌≡◌, ◌<◌, false, length, slice_get, rules, subst, IfSome}
+use Rattle.std.proofs.Common.{◌≡◌, ◌<◌, false, length, slice_get, subst, IfSome}
 use Rattle.beam_machine.specs.Prelude.{is_ended}
 use Rattle.beam_state.proofs.Monitored.{DoesMonitor, below_there, keeps_ok, keeps_err}
 use Rattle.beam_state.proofs.natives.keep.Goals as goal

@@ -2,8 +2,8 @@ use Rattle.std.proofs.Common.{◌≡◌, ◌+◌, ◌<◌, [], ◌∷◌, ◌++�
 use Rattle.std.proofs.lemmas.List.{take_more}
 use Rattle.beam_machine.specs.Prelude.{Sent, posted}
 use Rattle.beam_laws.specs.Prelude.{posted_all}
-use Rattle.beam_codesrv.specs.Posting.{all_taken}
-use Rattle.beam_codesrv.proofs.Untaken.{all_untaken, posted_more}
+use Rattle.beam_state.specs.Posting.{all_taken}
+use Rattle.beam_state.proofs.Untaken.{all_untaken, posted_more}
 use Rattle.beam_state.proofs.posting.post_all.Goals as goal
 
 pub returns-in-Err-clause-err : goal.returns-in-Err-clause-err

@@ -1,5 +1,5 @@
 use Rattle.std.proofs.Common.{◌≡◌, ◌≤◌, drop, length}
-use Rattle.beam_codesrv.specs.Posting.{all_taken}
+use Rattle.beam_state.specs.Posting.{all_taken}
 use Rattle.beam_state.proofs.posting.take_all_back.Given as goal
 
 abbrev pub invariant-loop-left : goal.invariant-loop-left

@@ -1,4 +1,4 @@
-use Rattle.std.proofs.Common.{◌≡◌, true, sym, ap, subst, ◌∙◌, rules, List, None, [], slice_set}
+use Rattle.std.proofs.Common.{◌≡◌, sym, ap, subst, ◌∙◌, rules, List, None, [], slice_set}
 use Rattle.beam_machine.specs.Prelude.{Process}
 use Rattle.beam_laws.specs.Prelude.{with_name_and_transit}
 use Rattle.beam_state.specs.Prelude.{KeepsName, AreKeyed}
