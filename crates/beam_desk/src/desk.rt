@@ -47,6 +47,13 @@ impl NodeDesk {
         }
     }
 
+    /// The desk of a node in the state that it has.
+    pub fn of(debugger: Debugger) -> NodeDesk
+        ensures { result ≡ debugger.state }
+    {
+        NodeDesk { debugger }
+    }
+
     /// The node.
     pub fn debugger(&self) -> &Debugger
         ensures { result.now.state ≡ self.now }

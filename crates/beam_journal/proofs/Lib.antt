@@ -1,1 +1,3 @@
 pub mod Replayed
+pub mod DrainedEntries
+mod Walks

@@ -1,5 +1,5 @@
 -- A journal with its capacity, and its entries. (This node's own.)
-use Rattle.std.specs.Prelude.{◌≡◌, ℕ, List, [], ◌∷◌, Bool, true, false, not, ◌||◌, Option, Ok, Err, is_ok}
+use Rattle.std.specs.Prelude.{◌≡◌, ℕ, ◌-◌, List, [], ◌∷◌, length, Bool, true, false, not, ◌||◌, Option, Ok, Err, is_ok}
 use Rattle.beam_machine.specs.declared.debug.DebugEvent.{DebugEvent}
 use Rattle.beam_machine.specs.declared.debug.DebugReply.{DebugReply}
 use Rattle.beam_machine.specs.declared.event.Reply.TheVariants.{Done}
@@ -12,6 +12,17 @@ pub record Journal : Type 0 where
   pub entries : List Entry
   pub capacity : ℕ  -- how many more entries can be made without memory
   pub limit : ℕ  -- how many entries it can have
+
+-- what callers see of the journal of a node, of which entries can leave memory
+pub record NodeJournal : Type 0 where
+  pub entries : List Entry  -- all of them
+  pub drained : ℕ  -- how many of them have left memory: the first ones
+  pub capacity : ℕ  -- how many more entries can be made without memory
+  pub limit : ℕ  -- how many entries can be in memory
+
+-- how many of these entries are in memory, where the first `drained` of them have left it
+abbrev pub in_memory : List Entry → ℕ → ℕ
+in_memory entries drained = length entries - drained
 
 -- the greatest limit
 abbrev pub most_entries : ℕ

@@ -10,8 +10,8 @@ use std::mem::size_of;
 /// has capacity, as `Vec` makes it: four at least where there is one. Terms, atoms and images are shared with the node, not copied. The
 /// reply isn't stored: the events before it and this one determine it.
 pub struct Entry {
-    pub(crate) event: DebugEvent<Image>,
-    pub(crate) seat: Option<u32>,
+    event: DebugEvent<Image>,
+    seat: Option<u32>,
 }
 
 impl Drop for Entry {
@@ -38,6 +38,12 @@ impl Model for Entry {
 }
 
 impl Entry {
+    pub(crate) fn new(event: DebugEvent<Image>, seat: Option<u32>) -> Entry
+        ensures { result ≡ record { event = event; seat = seat } }
+    {
+        Entry { event, seat }
+    }
+
     /// The event. A `Steps` that was cut has the rows that were executed.
     pub fn event(&self) -> &DebugEvent<Image>
         ensures { result.now ≡ self.now.event }

@@ -5,7 +5,7 @@ ghost use Rattle.beam_machine.specs.DebugRun.{debug_after};
 ghost use Rattle.beam_machine.specs.Journal.{IsLawful, replay, sent_event_of};
 ghost use Rattle.beam_machine.specs.State.{empty};
 ghost use Rattle.beam_debug.specs.Answers.{reply_of};
-ghost use Rattle.beam_journal.specs.Entering.{Accepts, entry_of, most_entries, takes_memory};
+ghost use Rattle.beam_journal.specs.Entering.{Accepts, entries_of, entry_of, most_entries, takes_memory};
 
 use crate::cut::cut_event;
 use crate::entry::Entry;
@@ -73,6 +73,19 @@ impl Journal {
         Journal {
             alloc,
             entries: Vec::new(alloc),
+            limit,
+        }
+    }
+
+    /// The journal of these entries.
+    pub(crate) fn of_entries(alloc: Global, entries: Vec<Entry>, limit: u32) -> Journal
+        requires lawful { IsLawful (entries_of entries.items) }
+        requires few { (length entries.items ≤ limit) × (limit ≤ most_entries) }
+        ensures { (result.entries ≡ entries_of entries.items) × (result.limit ≡ limit) }
+    {
+        Journal {
+            alloc,
+            entries,
             limit,
         }
     }
@@ -159,7 +172,7 @@ impl Journal {
         }
         self.entries.reserve(1)?;
         let event = cut_event(event, reply);
-        self.entries.push_reserved(Entry { event, seat });
+        self.entries.push_reserved(Entry::new(event, seat));
         Ok(())
     }
 

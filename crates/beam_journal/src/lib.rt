@@ -2,7 +2,9 @@
 #![tactic(auto)]
 
 mod cut;
+mod drained_events;
 pub mod entry;
 pub mod error;
 pub mod journal;
+pub mod node_journal;
 mod replay;

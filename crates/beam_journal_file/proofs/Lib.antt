@@ -1,3 +1,4 @@
 pub mod Given
 mod Pages
 mod Heads
+pub mod ReadOn

@@ -40,11 +40,15 @@ pub record GivesRecord (old : JournalRead) (s : SentEvent) (new : JournalRead) :
 abbrev pub IsAtEnd : KnownBlocks → Type 0
 IsAtEnd known = (known.rest ≡ []) ⊎ (front_in known.rest ≡ Cut)
 
+-- the reader has given all: it comes to the entry before which it ends, or nothing but a torn end stands behind what it gave
+abbrev pub IsOver : JournalRead → Type 0
+IsOver r = (r.upto ≤ r.number) ⊎ ((r.rest ≡ []) × IfSome r.known IsAtEnd)
+
 -- what the reader gives next: an entry of the page that it has or of the next one; or none, before the entry at which it ends and at the
 -- file's end
 abbrev pub gives : JournalRead → Option SentEvent → JournalRead → Type 0
 gives old (Some s) new = (old.number < old.upto) × (GivesRecord old s new ⊎ ((middle : JournalRead) × ReadsPage old middle × GivesRecord middle s new))
-gives old None new = (new ≡ old) × ((old.upto ≤ old.number) ⊎ ((old.rest ≡ []) × IfSome old.known IsAtEnd))
+gives old None new = (new ≡ old) × IsOver old
 
 -- ---- what the reader gave since the beginning of its file
 
@@ -72,3 +76,20 @@ HasRead r ss = (length ss ≡ r.number) × IfSome r.known (λ known. HasGiven kn
 abbrev pub with_next_event : List SentEvent → Option SentEvent → List SentEvent
 with_next_event ss None = ss
 with_next_event ss (Some s) = ss ++ s ∷ []
+
+-- ---- a reader that reads on in its file
+
+-- these blocks were read, one after another, each of which stood next
+abbrev pub ReadsBlocks : KnownBlocks → List (List ℕ) → KnownBlocks → Type 0
+ReadsBlocks old [] new = new ≡ old
+ReadsBlocks old (content ∷ contents) new = IsNext content old × ReadsBlocks (with_next content old) contents new
+
+-- some blocks were read, as far as the device tells them
+abbrev pub KnowsMore : Option KnownBlocks → Option KnownBlocks → Type 0
+KnowsMore None new = new ≡ None
+KnowsMore (Some old) new = (contents : List (List ℕ)) × (known : KnownBlocks) × (new ≡ Some known) × ReadsBlocks old contents known
+
+-- the same file is read further, up to the same entry
+pub record ReadsOn (old new : JournalRead) : Type 0 where
+  pub known : KnowsMore old.known new.known
+  pub upto : new.upto ≡ old.upto

@@ -73,6 +73,13 @@ impl<S: Shelf + Drop> JournalWriter<S> {
         self.written
     }
 
+    /// How many bytes the file has.
+    pub fn bytes(&self) -> u64
+        ensures { result ≡ self.now.file.end }
+    {
+        self.file.end()
+    }
+
     /// How many entries stand in the file and in the page.
     pub fn has(&self) -> u64
         ensures { result ≡ min (self.now.written + self.now.taken) (2 ^ 64 - 1) }

@@ -1,7 +1,7 @@
 -- Events that a source gives, one after another, and that a node enters.
-use Rattle.std.proofs.Common.{◌≡◌, ℕ, List, [], ◌∷◌, ◌++◌, map, Option, Some, None, refl, sym, ap, subst, ◌∙◌, append_assoc, MatchOption}
+use Rattle.std.proofs.Common.{◌≡◌, ℕ, ◌+◌, List, [], ◌∷◌, ◌++◌, length, map, Option, Some, None, refl, sym, ap, subst, ◌∙◌, append_assoc, MatchOption}
 use Rattle.std.specs.Iterator.{Yields, YieldsThen}
-use Rattle.std.proofs.lemmas.List.{map-append}
+use Rattle.std.proofs.lemmas.List.{length-append, length-map, map-append}
 use Rattle.beam_journal.specs.Entering.{entry_of}
 use Rattle.beam_machine.specs.declared.debug.DebugEvent.{DebugEvent}
 use Rattle.beam_machine.specs.declared.debug.DebugReply.{DebugReply}
@@ -35,6 +35,11 @@ enters_one old new event seat reply sent is same =
 pub enters_more : (old between new : Node) (given : List SentEvent) (sent : SentEvent) → Enters old given between → Enters between (sent ∷ []) new → Enters old (given ++ sent ∷ []) new
 enters_more old between new given sent before one =
     one ∙ (ap (λ l. l ++ sent ∷ []) before ∙ append_assoc (map sent_event_of old.journal) given (sent ∷ []))
+
+pub one_longer : (old new : Node) (sent : SentEvent) → Enters old (sent ∷ []) new → length new.journal ≡ length old.journal + 1
+one_longer old new sent enters =
+    sym (length-map new.journal sent_event_of)
+    ∙ (ap length enters ∙ (length-append (map sent_event_of old.journal) (sent ∷ []) ∙ ap (λ n. n + 1) (length-map old.journal sent_event_of)))
 
 module _ {S : Type 0} (gives : S → Option SentEvent → S → Type 0) (s : S) (old : Node) (t u : S) (between new : Node) (event : SentEvent) where
   pub enters_those : EntersThose gives s old t between → gives t (Some event) u → Enters between (event ∷ []) new → EntersThose gives s old u new

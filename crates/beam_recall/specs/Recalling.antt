@@ -30,9 +30,11 @@ accepted_from n event seat reply = record n {
   journal = n.journal ++ entry_of event seat reply ∷ [];
 }
 
--- who is and was checked out, and how many entries the journal can have, are as before
+-- who is and was checked out, which entries have left memory, and how many can be in memory, are as before
 abbrev pub HasSameCheckouts : Node → Node → Type 0
-HasSameCheckouts old new = (new.handed ≡ old.handed) × (new.checked_out ≡ old.checked_out) × (new.moves ≡ old.moves) × (new.limit ≡ old.limit)
+HasSameCheckouts old new =
+    (new.handed ≡ old.handed) × (new.checked_out ≡ old.checked_out) × (new.moves ≡ old.moves) × (new.limit ≡ old.limit)
+    × (new.drained ≡ old.drained) × (new.drains ≡ old.drains)
 
 -- why this node, which has all that was recorded before the event, doesn't enter the event
 abbrev pub Hinders : {F : Type 0} → Node → SentEvent → RecallError F → Type 0

@@ -28,7 +28,6 @@ fn give<B: NodeBrand>(
     requires numbered { AreNumbered node.old.seats seats.old.items }
     requires there { IfSome seat (λ number. number < length seats.old.items) }
     ensures node { IfOk result (λ reply. node.new ≡ accepted_from node.old event seat (reply_of reply)) }
-    ensures few { OnOk result (length node.old.journal ≢ node.old.limit) }
     ensures numbered { AreNumbered node.old.seats seats.new.items }
     ensures refused { IfErr result (λ refusal. RefusesCommand node.old event refusal) }
     ensures err { OnErr result (node.new ≡ node.old) }
@@ -79,8 +78,6 @@ pub(crate) fn enter<B: NodeBrand, F>(
 ) -> Result<(), RecallError<F>>
     requires { AreNumbered node.old.seats seats.old.items }
     ensures entered { OnOk result (Enters node.old (recorded ∷ []) node.new) }
-    ensures longer { OnOk result (length node.new.journal ≡ length node.old.journal + 1) }
-    ensures fits { OnOk result (length node.old.journal < node.old.limit) }
     ensures numbered { AreNumbered node.new.seats seats.new.items }
     ensures checkouts { HasSameCheckouts node.old node.new }
     ensures err { IfErr result (λ e. Hinders node.new recorded e) }
@@ -90,7 +87,6 @@ pub(crate) fn enter<B: NodeBrand, F>(
     if let Err(why) = ready_seat(node, seats, seat) {
         return Err(why);
     }
-    let _entered = node.entered();
     let (event, _seat) = recorded.into_parts();
     let rows = rows_asked(&event);
     let outcome = match give(node, seats, event, seat) {

@@ -9,9 +9,9 @@ use std::alloc::AllocError;
 #[derive(Drop)]
 pub enum RecallError<F> {
     /// The node refuses the event, for this reason, which isn't memory.
-    Refused { number: u32, refusal: Refusal },
+    Refused { number: u64, refusal: Refusal },
     /// The event is of a seat that no node has: its number is 4,096 or more.
-    TooManySeats { number: u32 },
+    TooManySeats { number: u64 },
     /// Memory was refused. The journal's last entry may have fewer rows than were recorded.
     NoMemory,
     /// The next event can't be had.

@@ -16,26 +16,30 @@ pub record Move : Type 0 where
   pub pid : ℕ
   pub goes_out : Bool
 
--- all entries of the journal, how many seats were given, all checkouts, and which processes were checked out and in, in this order
+-- all entries of the journal, how many seats were given, all checkouts, which processes were checked out and in, in this order, and how
+-- many entries the journal had whenever its entries left memory, the last time first
 pub record History : Type 0 where
   pub journal : List Entry
   pub given : ℕ
   pub checkouts : List Origin
   pub moves : List Move
+  pub drains : List ℕ
 
 abbrev pub empty_history : History
-empty_history = record { journal = []; given = 0; checkouts = []; moves = [] }
+empty_history = record { journal = []; given = 0; checkouts = []; moves = []; drains = [] }
 
 -- a command that was refused: its event and why; and how many entries the journal had then, how many of them were of the seat that sent
--- the command, and how often processes had been checked out and in
+-- the command, how often processes had been checked out and in, and how many of the journal's entries had left memory
 pub record RefusedCommand : Type 0 where
   pub event : DebugEvent Listing
   pub refusal : Refusal
   pub entered : ℕ
   pub accepted : ℕ
   pub moves : ℕ
+  pub drained : ℕ
 
--- a seat's number, how many entries its node's journal can have, the seat's entries, and its commands that were refused, each in their order
+-- a seat's number, how many entries of its node's journal can be in memory, the seat's entries, and its commands that were refused, each in
+-- their order
 pub record SeatHistory : Type 0 where
   pub number : ℕ
   pub limit : ℕ
@@ -94,7 +98,7 @@ abbrev pub no_entry : Entry
 no_entry = record { event = Resume 0; seat = None; reply = Node Done }
 
 abbrev pub no_refused_command : RefusedCommand
-no_refused_command = record { event = Resume 0; refusal = JournalFull; entered = 0; accepted = 0; moves = 0 }
+no_refused_command = record { event = Resume 0; refusal = JournalFull; entered = 0; accepted = 0; moves = 0; drained = 0 }
 
 abbrev pub no_origin : Origin
 no_origin = record { pid = 0; process = started 0 [] [] []; passes = false; code = []; spots = [] }

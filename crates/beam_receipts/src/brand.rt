@@ -10,7 +10,7 @@ pub trait NodeBrand {
 
     ghost table: { TableId };
 
-    // How many entries the node's journal can have.
+    // How many entries of the node's journal can be in memory.
     ghost limit: { ℕ };
 }
 

@@ -1,11 +1,15 @@
 //! The keeper of a node: what it knows of the journal, the seats and the checkouts.
-ghost use Rattle.std.specs.Prelude.{◌≡◌, ◌+◌, ◌-◌, ◌<◌, ◌^◌, [], ◌∷◌, ◌++◌, length, min, slice_get, Some, None};
+ghost use Rattle.std.specs.Prelude.{◌≡◌, ◌+◌, ◌-◌, ◌<◌, ◌^◌, List, [], ◌∷◌, ◌++◌, length, min, slice_get, Some, None};
+ghost use Rattle.beam_machine.specs.Journal.{Entry};
 ghost use Rattle.beam_receipts.specs.Receipts.{empty_history, moved_in, moved_out, of_seat, AreOfGiven};
 ghost use Rattle.beam_receipts.specs.Refused.{AreFullAt, WereRefused, IsFullAt, WasRefused};
+ghost use Rattle.beam_receipts.specs.Rule.{with_drain};
 
 use crate::brand::{GhostEntry, GhostOrigin, GhostPid, GhostRefusedCommand, NodeBrand};
+use crate::drain::DrainReceipt;
 use crate::rule::{
-    ChecksIn, ChecksOut, Compared, Enters, GivesSeat, NotesRefused, Pass, Passes, Shown,
+    ChecksIn, ChecksOut, Compared, Drains, Enters, GivesDrainReceipt, GivesSeat, NotesRefused,
+    Pass, Passes, Shown,
 };
 use crate::seat::SeatReceipt;
 use crate::ticket::TicketReceipt;
@@ -53,7 +57,7 @@ impl UnbrandedKeeper {
         Ok(UnbrandedKeeper { passes, pass })
     }
 
-    /// The keeper, which knows that nothing was entered, given or checked out.
+    /// The keeper, which knows that nothing was entered, given, checked out or drained.
     pub fn branded<B: NodeBrand>(self) -> Keeper<B>
         requires { self ≡ B.table }
         ensures { result ≡ empty_history }
@@ -69,8 +73,8 @@ impl UnbrandedKeeper {
     }
 }
 
-/// The value that knows all: the journal's entries, how many seats were given, all checkouts, and which processes were checked out and in.
-/// All that is for proofs alone; it stores how many seats and checkouts there were.
+/// The value that knows all: the journal's entries, how many seats were given, all checkouts, which processes were checked out and in, and
+/// how many entries there were whenever they left memory. All that is for proofs alone; it stores how many seats and checkouts there were.
 pub struct Keeper<B: NodeBrand> {
     passes: Passes,
     pass: Pass,
@@ -159,8 +163,8 @@ impl<B: NodeBrand> Keeper<B> {
 
     /// Notes at a seat that its command was refused. Nothing is entered, and the keeper stays as it was.
     pub fn note_refused<F: GhostRefusedCommand>(&mut self, seat: &mut SeatReceipt<B>)
-        requires refused { WasRefused self.old.journal self.old.moves seat.old.number F.refused }
-        requires full { IsFullAt B.limit F.refused.entered F.refused.refusal }
+        requires refused { WasRefused self.old.journal self.old.moves self.old.drains seat.old.number F.refused }
+        requires full { IsFullAt B.limit (F.refused.entered - F.refused.drained) F.refused.refusal }
         ensures keeper { self.new ≡ self.old }
         ensures seat { seat.new ≡ record seat.old { refused = seat.old.refused ++ F.refused ∷ [] } }
     {
@@ -216,13 +220,13 @@ impl<B: NodeBrand> Keeper<B> {
     }
 
     /// Shows that a seat was given, that it has exactly the journal's entries of its number, and that each of its refused commands could be
-    /// refused so, `JournalFull` exactly at the journal's limit. Nothing changes.
+    /// refused so, `JournalFull` exactly where as many entries were in memory as can be. Nothing changes.
     pub fn check_seat(&mut self, seat: &mut SeatReceipt<B>)
         ensures keeper { self.new ≡ self.old }
         ensures seat { seat.new ≡ seat.old }
         ensures kept { seat.old.kept ≡ of_seat seat.old.number self.old.journal }
         ensures given { seat.old.number < self.old.given }
-        ensures refused { WereRefused self.old.journal self.old.moves seat.old.number seat.old.refused }
+        ensures refused { WereRefused self.old.journal self.old.moves self.old.drains seat.old.number seat.old.refused }
         ensures full { AreFullAt seat.old.limit seat.old.refused }
         ensures limit { seat.old.limit ≡ B.limit }
     {
@@ -246,5 +250,40 @@ impl<B: NodeBrand> Keeper<B> {
         passes.shared.join_seat::<Shown>(&mut self.pass, pass);
         passes.shared.load::<Compared>(&mut self.pass, 0);
         passes.shared.split_seat::<Shown>(&mut self.pass);
+    }
+
+    /// Gives the receipt of who drains the journal, which claims no entries yet.
+    pub fn drain_receipt(&mut self) -> DrainReceipt<B>
+        ensures receipt { result ≡ [] }
+        ensures keeper { self.new ≡ self.old }
+    {
+        let passes = &self.passes;
+        let pass = passes
+            .shared
+            .split_seat::<GivesDrainReceipt>(&mut self.pass);
+        DrainReceipt {
+            pass: pass.into_badge(),
+            count: 0,
+            brand: PhantomData,
+        }
+    }
+
+    /// Notes that all entries have left memory, which are `count`. The journal begins with those that the receipt claims; from now on it
+    /// claims all that there are.
+    pub fn drain(&mut self, receipt: &mut DrainReceipt<B>, count: u64)
+        requires count { count ≡ length self.old.journal }
+        ensures keeper { self.new ≡ with_drain self.old }
+        ensures first { (more : List Entry) × (self.old.journal ≡ receipt.old ++ more) }
+        ensures receipt { receipt.new ≡ self.old.journal }
+    {
+        let passes = &self.passes;
+        let pass = mem::replace(&mut receipt.pass, Badge::blank());
+        passes
+            .shared
+            .join_seat::<Shown>(&mut self.pass, pass.into_seat());
+        passes.shared.load::<Compared>(&mut self.pass, 0);
+        let pass = passes.shared.split_seat::<Drains>(&mut self.pass);
+        receipt.pass = pass.into_badge();
+        receipt.count = count;
     }
 }

@@ -13,7 +13,7 @@ pub enum Refusal {
     /// The process is checked out.
     #[error("Busy")]
     Busy,
-    /// The journal has as many entries as it can have.
+    /// As many of the journal's entries are in memory as can be.
     #[error("JournalFull")]
     JournalFull,
 }

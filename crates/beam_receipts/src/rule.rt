@@ -102,6 +102,28 @@ impl<F: GhostRefusedCommand> Split<Claim> for NotesRefused<F> {
     ghost right = { given_back_refused F.refused };
 }
 
+/// The keeper's pass gives a drain receipt's, which claims no entries.
+pub(crate) struct GivesDrainReceipt;
+
+impl Split<Claim> for GivesDrainReceipt {
+    ghost use Rattle.beam_receipts.specs.Rule.{alone, new_drain_claim};
+
+    ghost left = { alone };
+
+    ghost right = { new_drain_claim };
+}
+
+/// The keeper's pass notes that all entries have left memory, and gives back the drain receipt's, which now claims them all.
+pub(crate) struct Drains;
+
+impl Split<Claim> for Drains {
+    ghost use Rattle.beam_receipts.specs.Rule.{alone_drained, drained_claim};
+
+    ghost left = { alone_drained };
+
+    ghost right = { drained_claim };
+}
+
 /// The keeper's pass takes in another, and gives it back.
 pub(crate) struct Shown;
 

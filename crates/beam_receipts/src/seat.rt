@@ -7,8 +7,8 @@ use atomic_table::Badge;
 use std::marker::{Model, PhantomData};
 
 /// A seat's token: its number, and the claim that its entries are exactly the journal's entries of that number, and that each of its
-/// commands that were refused could be refused so. Contracts see the number, how many entries the journal can have, the entries and the
-/// refused commands; it stores the number.
+/// commands that were refused could be refused so. Contracts see the number, how many entries of the journal can be in memory, the entries
+/// and the refused commands; it stores the number.
 pub struct SeatReceipt<B: NodeBrand> {
     pub(crate) pass: Badge<Claim>,
     pub(crate) number: u32,

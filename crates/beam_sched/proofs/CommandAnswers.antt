@@ -5,7 +5,7 @@ use Rattle.beam_machine.specs.declared.debug.DebugEvent.{DebugEvent}
 use Rattle.beam_machine.specs.Prelude.{IsLawful, replay}
 use Rattle.beam_debug.specs.declared.outcome.Outcome.{Outcome}
 use Rattle.beam_debug.specs.Prelude.{reply_of, DebugLoudly}
-use Rattle.beam_journal.specs.Entering.{Accepts, entry_of}
+use Rattle.beam_journal.specs.Entering.{in_memory, Accepts, entry_of}
 use Rattle.beam_receipts.specs.Receipts.{SeatHistory, of_seat}
 use Rattle.beam_receipts.specs.declared.refusal.Refusal.{Refusal}
 use Rattle.beam_shared.specs.Prelude.{Node, accepted, RefusesCommand, must_wait, with_refused, AddUp, AreOfSeats}
@@ -17,7 +17,7 @@ pub command_answered : (n new : Node) (s t : SeatHistory) (event : DebugEvent Li
     → IfOk r (λ reply. new ≡ accepted n event s.number (reply_of reply))
     → IfOk r (λ reply. t ≡ record s { kept = s.kept ++ entry_of event (Some s.number) (reply_of reply) ∷ [] })
     → IfOk r (λ reply. DebugLoudly n.state event (Ok (reply_of reply)) new.state)
-    → OnOk r ((length n.journal ≢ n.limit) × (must_wait n.checked_out event ≡ false))
+    → OnOk r ((in_memory n.journal n.drained ≢ n.limit) × (must_wait n.checked_out event ≡ false))
     → IfErr r (λ refusal. RefusesCommand n event refusal)
     → OnErr r (new ≡ n)
     → IfErr r (λ refusal. t ≡ with_refused n event refusal s)

@@ -5,7 +5,7 @@ use denote.Ref.{NamedLft}
 use denote.Hole.{as_row}
 use denote.Struct.Field.{bool-field, i64-field, u16-field, u32-field, u64-field, u8-field, usize-field, row_field}
 use denote.Param.Send.{IsSend, IsSync, sendable, view_send, view_sync}
-use denote.Param.SendFields.{as_row_send, declared_send, declared_sync, variants_send, variants_sync}
+use denote.Param.SendFields.{as_row_send, declared_send, declared_sync, owner_send, variants_send, variants_sync}
 use Rattle.std.proofs.Crossing.{crosses, Arc-send, Arc-sync, Vec-send, Vec-sync, Box-send, Box-sync, Deque-send}
 use Rattle.std.proofs.alloc.Global.TheSendSync as Global
 use Rattle.std.proofs.option.Option.TheSendSync as Option
@@ -45,8 +45,9 @@ use Rattle.beam_image.specs.contracts.operand_lists.OperandList as OperandList
 use Rattle.beam_image.specs.contracts.operand_lists.OperandLists as OperandLists
 use Rattle.beam_journal.specs.contracts.entry.Entry as Entry
 use Rattle.beam_journal.specs.contracts.entry.Entry.TheInside as Entry_inside
-use Rattle.beam_journal.specs.contracts.journal.Journal as Journal
-use Rattle.beam_journal.specs.contracts.journal.Journal.TheInside as Journal_inside
+use Rattle.beam_journal.specs.contracts.drained_events.DrainedEvents as DrainedEvents
+use Rattle.beam_journal.specs.contracts.node_journal.NodeJournal as NodeJournal
+use Rattle.beam_journal.specs.contracts.node_journal.NodeJournal.TheInside as NodeJournal_inside
 use Rattle.beam_machine.proofs.action.Registers.TheSendSync as Registers_crossing
 use Rattle.beam_machine.proofs.action.SizeChoices.TheSendSync as SizeChoices_crossing
 use Rattle.beam_machine.proofs.callee.Callee.TheSendSync as Callee_crossing
@@ -367,8 +368,12 @@ DebugEvent_send I i-send = variants_send (DebugEvent.enum I) (((Event_send _ i-s
 pub Entry_send : IsSend Entry.the_row
 Entry_send = view_send _ _ _ _ _ (declared_send Entry_inside.the_type ((DebugEvent_send _ Image_send), ((Option.the_send _ (search sendable)), tt)))
 
-pub Journal_send : IsSend Journal.the_row
-Journal_send = view_send _ _ _ _ _ (declared_send Journal_inside.the_type (Global.the_send, ((Vec-send _ Entry_send), (u32_send, tt))))
+-- it has no bytes and owns nothing
+DrainedEvents_send : IsSend DrainedEvents.the_row
+DrainedEvents_send = owner_send DrainedEvents.the_type tt (λ d. tt) (λ k x w. tt)
+
+pub NodeJournal_send : IsSend NodeJournal.the_row
+NodeJournal_send = view_send _ _ _ _ _ (declared_send NodeJournal_inside.the_type (Global.the_send, (DrainedEvents_send, (u64_send, ((Vec-send _ Entry_send), (u32_send, tt))))))
 
 pub ContextParts_send : IsSend ContextParts.the_row
 ContextParts_send = let b = declared_send ContextParts_inside.the_type (CodeTable_send, ((Vec-send _ Place_crossing.the_send), tt)) in search (view_send) depth 9
@@ -392,7 +397,7 @@ pub CodeContext_send : IsSend CodeContext.the_row
 CodeContext_send = let b = declared_send CodeContext_inside.the_type ((Arc-send _ ContextParts_send ContextParts_sync), tt) in search (view_send) depth 9
 
 pub Node_send : (B : RattleType) (g : NodeBrand.Ghosts B.Denot) → IsSend (Node.the_row B g)
-Node_send B g = view_send _ _ _ _ _ (declared_send (Node_inside.the_type B g) (Global.the_send, (Debugger_send, (Journal_send, ((Keeper_crossing.the_send B g), ((Vec-send _ CheckoutEntry_crossing.the_send), (u64_send, ((Option.the_send _ CodeContext_send), tt))))))))
+Node_send B g = view_send _ _ _ _ _ (declared_send (Node_inside.the_type B g) (Global.the_send, (Debugger_send, (NodeJournal_send, ((Keeper_crossing.the_send B g), ((Vec-send _ CheckoutEntry_crossing.the_send), (u64_send, ((Option.the_send _ CodeContext_send), tt))))))))
 
 pub LockedNode_send : (B : RattleType) (g : NodeBrand.Ghosts B.Denot) → IsSend (LockedNode.the_row B g)
 LockedNode_send B g = declared_send (LockedNode.the_type B g) (Node_send B g, (QueueStates_crossing.the_send, (ScanState_crossing.the_send, tt)))

@@ -6,7 +6,7 @@ use Rattle.beam_machine.specs.declared.debug.DebugReply.{DebugReply}
 use Rattle.beam_machine.specs.Prelude.{IsLawful, replay, View}
 use Rattle.beam_debug.specs.declared.outcome.Outcome.{Outcome}
 use Rattle.beam_debug.specs.Prelude.{reply_of, DebugLoudly}
-use Rattle.beam_journal.specs.Entering.{Accepts, entry_of}
+use Rattle.beam_journal.specs.Entering.{Accepts, entry_of, in_memory}
 use Rattle.beam_receipts.specs.Receipts.{SeatHistory, of_seat}
 use Rattle.beam_receipts.specs.declared.refusal.Refusal.{Refusal}
 use Rattle.beam_shared.specs.Prelude.{Node, accepted, RefusesCommand, must_wait, with_refused, AddUp, AreOfSeats}
@@ -24,7 +24,7 @@ with_kept s event reply = record s { kept = s.kept ++ entry_of event (Some s.num
 pub record IsAccepted (n : Node) (s : SeatHistory) (event : DebugEvent Listing) (reply : DebugReply View) (new : Node) (t : SeatHistory) : Type 0 where
   pub accepts : Accepts n.state event reply
   pub loud : DebugLoudly n.state event (Ok reply) new.state
-  pub may : (length n.journal ≢ n.limit) × (must_wait n.checked_out event ≡ false)
+  pub may : (in_memory n.journal n.drained ≢ n.limit) × (must_wait n.checked_out event ≡ false)
   pub node : new ≡ accepted n event s.number reply
   pub seat : t ≡ with_kept s event reply
 

@@ -1,15 +1,15 @@
-//! How many entries the journal has, which thresholds it has reached, and which of them were reported.
+//! How many entries the journal has, which thresholds those in memory have reached, and which of these were reported.
 
 use crate::journal_threshold::{JournalThreshold, threshold_at, threshold_of};
 use beam_receipts::brand::NodeBrand;
 use beam_shared::node::Node;
-use std::sync::atomic::{AtomicU32, Ordering};
+use std::sync::atomic::{AtomicU32, AtomicU64, Ordering};
 
-/// How many entries a node's journal has, and the ranks of the greatest threshold that it has reached and of the greatest one that was
-/// reported. All three only grow.
+/// How many entries a node's journal has, and the ranks of the greatest threshold that those in memory have reached and of the greatest one
+/// that was reported. All three only grow.
 #[derive(Drop)]
 pub struct JournalUsage {
-    entered: AtomicU32,
+    entered: AtomicU64,
     reached: AtomicU32,
     reported: AtomicU32,
 }
@@ -18,7 +18,7 @@ impl JournalUsage {
     /// No entries are known, and no threshold is reached.
     pub fn new() -> JournalUsage {
         JournalUsage {
-            entered: AtomicU32::new(0),
+            entered: AtomicU64::new(0),
             reached: AtomicU32::new(0),
             reported: AtomicU32::new(0),
         }
@@ -27,9 +27,8 @@ impl JournalUsage {
     /// Notes how many entries the journal of a node has, and the threshold that it has reached. Tells whether that is greater than the one
     /// noted before. It is called under the node's lock.
     pub fn note<B: NodeBrand>(&self, node: &Node<B>) -> bool {
-        let entered = node.entered();
-        self.entered.store(entered, Ordering::Release);
-        let Some(threshold) = threshold_of(entered, node.limit()) else {
+        self.entered.store(node.entered(), Ordering::Release);
+        let Some(threshold) = threshold_of(node.in_memory(), node.limit()) else {
             return false;
         };
         let rank = threshold.rank();
@@ -37,7 +36,7 @@ impl JournalUsage {
     }
 
     /// How many entries the journal had when it was noted last.
-    pub fn entered(&self) -> u32 {
+    pub fn entered(&self) -> u64 {
         self.entered.load(Ordering::Acquire)
     }
 

@@ -1,5 +1,6 @@
 //! A node that threads share, and what they read of it without its lock.
-ghost use Rattle.std.specs.Prelude.{◌≡◌, IfOk, OnErr};
+ghost use Rattle.std.specs.Prelude.{◌≡◌, ◌++◌, map, IfErr, IfOk, OnErr};
+ghost use Rattle.beam_machine.specs.Journal.{sent_event_of};
 ghost use Rattle.beam_debug.specs.Answers.{reply_of};
 ghost use Rattle.beam_sched.specs.CommandAnswers.{CommandAnswered, answer_of, with_kept};
 
@@ -20,6 +21,7 @@ use beam_machine::debug::DebugEvent;
 use beam_machine::event::Event;
 use beam_queue::QueueBrand;
 use beam_receipts::brand::NodeBrand;
+use beam_receipts::drain::DrainReceipt;
 use beam_receipts::refusal::Refusal;
 use beam_shared::node::Node;
 use beam_term::Term;
@@ -45,19 +47,10 @@ fn time_set(event: &DebugEvent<Image>) -> Option<u64> {
     }
 }
 
-/// The clock of a node: the time to which the last `Clock` among its entries set it.
-fn clock_after(entries: &[Entry]) -> u64 {
-    entries
-        .iter()
-        .filter_map(|entry| time_set(entry.event()))
-        .last()
-        .unwrap_or(0)
-}
-
 impl<B: NodeBrand> Shared<B> {
-    /// A node of which no process is enqueued yet. It takes no memory, and time for the node's entries.
+    /// A node of which no process is enqueued yet. It takes no memory.
     pub fn new(alloc: Global, node: Node<B>) -> Shared<B> {
-        let node_clock = NodeClock::new(clock_after(node.entries()));
+        let node_clock = NodeClock::new(node.debugger().core().clock());
         let usage = JournalUsage::new();
         usage.note(&node);
         Shared {
@@ -96,8 +89,25 @@ impl<B: NodeBrand> Shared<B> {
 
     /// How many entries the journal has, as it was noted last: after each command, refused ones too, each commit and each scan. So to a
     /// thread whose command was answered it counts at least the entries that the journal had then. It takes no lock.
-    pub fn entered(&self) -> u32 {
+    pub fn entered(&self) -> u64 {
         self.usage.entered()
+    }
+
+    /// The journal's entries that are in memory leave it, for a list without entries, whose room is then there for the next ones: they follow
+    /// those that the receipt knew, and it knows all of them afterwards. The lock is held for one exchange of two lists. The list comes back
+    /// where `Node::drain` gives it back.
+    pub fn drain<R: Wait>(
+        &self,
+        rt: &R,
+        receipt: &mut DrainReceipt<B>,
+        room: Vec<Entry>,
+    ) -> Result<Vec<Entry>, Vec<Entry>>
+        ensures all { IfOk result (λ left. map sent_event_of receipt.new ≡ map sent_event_of receipt.old ++ left.items) }
+        ensures back { IfErr result (λ back. back ≡ room) }
+        ensures err { OnErr result (receipt.new ≡ receipt.old) }
+    {
+        let mut locked = self.node.lock(rt);
+        locked.node.drain(receipt, room)
     }
 
     /// Closes the queues: workers end once they find no work.

@@ -10,7 +10,7 @@ use Rattle.beam_machine.specs.declared.debug.DebugEvent.TheVariants.{Node as Nod
 use Rattle.beam_machine.specs.declared.debug.DebugReply.TheVariants.{Node as NodeReply}
 use Rattle.beam_model.specs.Prelude.{Listing}
 use Rattle.beam_laws.specs.Prelude.{AreSpotsLive, may_change, IsEarlierCode, Origin, IsOut}
-use Rattle.beam_journal.specs.Entering.{Journal, entry_of}
+use Rattle.beam_journal.specs.Entering.{NodeJournal, entry_of}
 use Rattle.beam_receipts.specs.Receipts.{History, AreOfGiven, moved_out}
 use Rattle.beam_receipts.proofs.Moves.{slice_get_end}
 use Rattle.beam_shared.specs.declared.checked_out.CheckoutEntry.{CheckoutEntry}
@@ -19,7 +19,7 @@ use Rattle.beam_shared.proofs.Handed.{still_all, known_all, and_one}
 use Rattle.beam_shared.proofs.HandedOut.{done_now}
 use Rattle.beam_shared.proofs.Unchanged.{context_stays}
 
-module _ (d x : Debugged) (j k : Journal) (known : History) (checked_out : List CheckoutEntry) (changes : ℕ) (shared : Option CodeContext)
+module _ (d x : Debugged) (j k : NodeJournal) (known : History) (checked_out : List CheckoutEntry) (changes : ℕ) (shared : Option CodeContext)
     (event : DebugEvent Listing) (seat : Option ℕ) (reply : DebugReply View) (kept : NodeInvariant d j known checked_out changes shared)
     (given : IfSome seat (λ n. n < known.given)) (live : AreSpotsLive d)
     (answers : DebugAnswers d event (Ok reply) x) (free : must_wait (map checked_out_of checked_out) event ≡ false)
@@ -76,13 +76,13 @@ module _ (d x : Debugged) (j k : Journal) (known : History) (checked_out : List 
     is_shared = shared_by (may_change event) refl shared kept.is_shared;
   }
 
--- ---- nothing changed
+-- ---- nothing changed, but that entries left memory
 
-pub kept_as : (d x : Debugged) (j k : Journal) (known later : History) (checked_out : List CheckoutEntry) (changes : ℕ) (shared : Option CodeContext) → NodeInvariant d j known checked_out changes shared
-    → x ≡ d → k.entries ≡ j.entries → later ≡ known → length checked_out ≤ k.capacity → NodeInvariant x k later checked_out changes shared
-kept_as d x j k known later checked_out changes shared kept same entries is capacity =
-    subst (λ y. NodeInvariant y k later checked_out changes shared) (sym same)
-    (subst (λ l. NodeInvariant d k l checked_out changes shared) (sym is) (record {
+pub kept_drained : (d : Debugged) (j k : NodeJournal) (known later : History) (drains : List ℕ) (checked_out : List CheckoutEntry) (changes : ℕ) (shared : Option CodeContext)
+    → NodeInvariant d j known checked_out changes shared → k.entries ≡ j.entries → later ≡ record known { drains = drains } → length checked_out ≤ k.capacity
+    → NodeInvariant d k later checked_out changes shared
+kept_drained d j k known later drains checked_out changes shared kept entries is capacity =
+    subst (λ l. NodeInvariant d k l checked_out changes shared) (sym is) (record {
       replays = ap replay entries ∙ kept.replays;
       known_is = kept.known_is ∙ sym entries;
       seats = kept.seats;
@@ -92,15 +92,22 @@ kept_as d x j k known later checked_out changes shared kept same entries is capa
       counted = subst (λ es. changes ≤ length es) (sym entries) kept.counted;
       handed = kept.handed;
       is_shared = kept.is_shared;
-    }))
+    })
 
-pub same_node : (d x : Debugged) (j k : Journal) (known later : History) (checked_out : List CheckoutEntry) → x ≡ d → k.entries ≡ j.entries → k.limit ≡ j.limit
+-- ---- nothing changed
+
+pub kept_as : (d x : Debugged) (j k : NodeJournal) (known later : History) (checked_out : List CheckoutEntry) (changes : ℕ) (shared : Option CodeContext) → NodeInvariant d j known checked_out changes shared
+    → x ≡ d → k.entries ≡ j.entries → later ≡ known → length checked_out ≤ k.capacity → NodeInvariant x k later checked_out changes shared
+kept_as d x j k known later checked_out changes shared kept same entries is capacity =
+    subst (λ y. NodeInvariant y k later checked_out changes shared) (sym same)
+    (kept_drained d j k known later known.drains checked_out changes shared kept entries is capacity)
+
+pub same_node : (d x : Debugged) (j k : NodeJournal) (known later : History) (checked_out : List CheckoutEntry) → x ≡ d → k.entries ≡ j.entries → k.drained ≡ j.drained → k.limit ≡ j.limit
     → later ≡ known → node_of x k later checked_out ≡ node_of d j known checked_out
-same_node d x j k known later checked_out same entries limit is =
+same_node d x j k known later checked_out same entries drained limit is =
     ap (λ y. node_of y k later checked_out) same
     ∙ (ap (λ (l : History). node_of d k l checked_out) is
-    ∙ (ap (λ es. record (node_of d k known checked_out) { journal = es }) entries
-    ∙ ap (λ n. record (node_of d j known checked_out) { limit = n }) limit))
+    ∙ (λ i. record (node_of d k known checked_out) { journal = entries i; drained = drained i; limit = limit i }))
 
 -- ---- a process is checked out
 
@@ -117,7 +124,7 @@ handed_entry x changes checkouts entry o serial own checked_out kin now context 
   context = λ e. context;
 }
 
-pub kept_with : (x : Debugged) (k : Journal) (known later : History) (checked_out : List CheckoutEntry) (entry : CheckoutEntry) (o : Origin) (changes : ℕ) (shared : Option CodeContext)
+pub kept_with : (x : Debugged) (k : NodeJournal) (known later : History) (checked_out : List CheckoutEntry) (entry : CheckoutEntry) (o : Origin) (changes : ℕ) (shared : Option CodeContext)
     → NodeInvariant x k known checked_out changes shared → later ≡ record known { checkouts = known.checkouts ++ o ∷ []; moves = known.moves ++ moved_out o.pid ∷ [] } → length known.checkouts < 2 ^ 64 - 1 → length checked_out + 1 ≤ k.capacity
     → IsHanded x changes (known.checkouts ++ o ∷ []) entry → NodeInvariant x k later (checked_out ++ entry ∷ []) changes shared
 kept_with x k known later checked_out entry o changes shared kept is fewer capacity handed = record {
@@ -140,7 +147,7 @@ kept_with x k known later checked_out entry o changes shared kept is fewer capac
 
 -- ---- the signals in transit to a process are delivered
 
-pub kept_delivered : (d x : Debugged) (j k : Journal) (known later : History) (checked_out : List CheckoutEntry) (changes : ℕ) (shared : Option CodeContext) (pid : ℕ) (b : Bool)
+pub kept_delivered : (d x : Debugged) (j k : NodeJournal) (known later : History) (checked_out : List CheckoutEntry) (changes : ℕ) (shared : Option CodeContext) (pid : ℕ) (b : Bool)
     → NodeInvariant d j known checked_out changes shared → AreSpotsLive d → process_has_incoming (live_process d.node.processes pid) ≡ b → must_wait (map checked_out_of checked_out) (NodeEvent (Deliver pid)) ≡ false
     → x ≡ delivered_if d pid b → k.entries ≡ j.entries ++ deliveries pid b → replay k.entries ≡ x
     → later ≡ record known { journal = known.journal ++ deliveries pid b } → length checked_out ≤ k.capacity → NodeInvariant x k later checked_out changes shared

@@ -1,3 +1,4 @@
+pub mod Drains
 pub mod Entries
 pub mod Handed
 pub mod HandedOut

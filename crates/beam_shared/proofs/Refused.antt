@@ -1,5 +1,6 @@
 -- Events that are refused change nothing, those of the debugger included.
-use Rattle.std.proofs.Common.{◌≡◌, ◌≢◌, ℕ, ◌&&◌, not, Bool, true, false, cond, Option, Some, None, Ok, Err, length, refl, sym, ap, ◌∙◌}
+use Rattle.std.proofs.Common.{◌≡◌, ◌≢◌, ℕ, ◌&&◌, not, Bool, true, false, cond, Option, Some, None, Ok, Err, refl, sym, ap, ◌∙◌}
+use Rattle.beam_journal.specs.Entering.{in_memory}
 use Rattle.beam_machine.specs.declared.debug.DebugEvent.{DebugEvent}
 use Rattle.beam_machine.specs.declared.debug.DebugEvent.TheVariants.{SetBreak, ClearBreak, Resume, StepOne, Inspect, Node as NodeEvent}
 use Rattle.beam_machine.specs.declared.debug.DebugReply.{DebugReply}
@@ -92,7 +93,7 @@ pub nothing_changed : (d new : Debugged) (e : DebugEvent Listing) (r : Refused) 
 nothing_changed d new e NoMemory h = h
 nothing_changed d new e r h = (its_own d new e r h).1
 
-pub it_refuses_command : (n : Node) (new : Debugged) (e : DebugEvent Listing) (r : Refused) → length n.journal ≢ n.limit → must_wait n.checked_out e ≡ false
+pub it_refuses_command : (n : Node) (new : Debugged) (e : DebugEvent Listing) (r : Refused) → in_memory n.journal n.drained ≢ n.limit → must_wait n.checked_out e ≡ false
     → DebugAnswers n.state e (Err r) new → RefusesCommand n e (OfNode r)
 it_refuses_command n new e NoMemory few free h = (few, free)
 it_refuses_command n new e r few free h = (few, free, (its_own n.state new e r h).0)

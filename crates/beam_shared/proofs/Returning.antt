@@ -5,7 +5,7 @@ use Rattle.std.specs.List.{list_any}
 use Rattle.beam_machine.specs.declared.debug.DebugReply.{DebugReply}
 use Rattle.beam_machine.specs.Prelude.{Debugged, DebugNext, debug_next, debug_after, debug_cut_event, DebugAnswers, replay, Private, View}
 use Rattle.beam_laws.specs.Prelude.{AreSpotsLive, Origin}
-use Rattle.beam_journal.specs.Entering.{Journal, entry_of as entry_by}
+use Rattle.beam_journal.specs.Entering.{NodeJournal, entry_of as entry_by}
 use Rattle.beam_receipts.specs.Receipts.{History, moved_in}
 use Rattle.beam_shared.specs.declared.checked_out.CheckoutEntry.{CheckoutEntry}
 use Rattle.beam_shared.specs.Prelude.{advanced, event_of, is_serial, checked_in, without_checkout, CodeContext, checked_out_of, entry_of, node_of, AreHanded, IsHanded, NodeInvariant, CheckedOut, serial_of, without_entry}
@@ -126,7 +126,7 @@ handed_still d changes handed pid [] h = tt
 handed_still d changes handed pid (entry ∷ rest) h =
     handed_by d changes handed entry (without_entry pid rest) (not (entry.pid == pid)) h.0 (handed_still d changes handed pid rest h.1)
 
-pub kept_without : (d : Debugged) (j : Journal) (known later : History) (checked_out : List CheckoutEntry) (changes : ℕ) (shared : Option CodeContext) (pid : ℕ)
+pub kept_without : (d : Debugged) (j : NodeJournal) (known later : History) (checked_out : List CheckoutEntry) (changes : ℕ) (shared : Option CodeContext) (pid : ℕ)
     → NodeInvariant d j known checked_out changes shared → later ≡ record known { moves = known.moves ++ moved_in pid ∷ [] } → NodeInvariant d j later (without_entry pid checked_out) changes shared
 kept_without d j known later checked_out changes shared pid kept same =
     subst (λ l. NodeInvariant d j l (without_entry pid checked_out) changes shared) (sym same) (record {
@@ -145,7 +145,7 @@ kept_without d j known later checked_out changes shared pid kept same =
 
 -- ---- the checkout of a process
 
-pub few_serial : (d : Debugged) (j : Journal) (known : History) (checked_out : List CheckoutEntry) (changes : ℕ) (shared : Option CodeContext) (pid : ℕ) (e : CheckoutEntry)
+pub few_serial : (d : Debugged) (j : NodeJournal) (known : History) (checked_out : List CheckoutEntry) (changes : ℕ) (shared : Option CodeContext) (pid : ℕ) (e : CheckoutEntry)
     → NodeInvariant d j known checked_out changes shared → entry_of pid checked_out ≡ Some e → e.serial < 2 ^ 64 - 1
 few_serial d j known checked_out changes shared pid e kept found =
     let own = own_entry d changes known.checkouts pid e checked_out kept.handed found in
@@ -166,19 +166,19 @@ not_open pid own entries none = sym (ap (is_serial own) (serial_found pid entrie
 
 -- ---- the node after it
 
-pub taken : (d x : Debugged) (j : Journal) (known later : History) (checked_out : List CheckoutEntry) (pid : ℕ) → x ≡ d → later ≡ record known { moves = known.moves ++ moved_in pid ∷ [] }
+pub taken : (d x : Debugged) (j : NodeJournal) (known later : History) (checked_out : List CheckoutEntry) (pid : ℕ) → x ≡ d → later ≡ record known { moves = known.moves ++ moved_in pid ∷ [] }
     → node_of x j later (without_entry pid checked_out) ≡ checked_in (node_of d j known checked_out) pid
 taken d x j known later checked_out pid same is =
     ap (λ y. node_of y j later (without_entry pid checked_out)) same
     ∙ (ap (λ (l : History). node_of d j l (without_entry pid checked_out)) is
     ∙ ap (λ checkouts. record (node_of d j known checked_out) { checked_out = checkouts; moves = known.moves ++ moved_in pid ∷ [] }) (mapped pid checked_out))
 
-pub advanced_is : (d x : Debugged) (j k : Journal) (known later : History) (checked_out : List CheckoutEntry) (pid : ℕ) (rows : Private) (reply : DebugReply View)
+pub advanced_is : (d x : Debugged) (j k : NodeJournal) (known later : History) (checked_out : List CheckoutEntry) (pid : ℕ) (rows : Private) (reply : DebugReply View)
     → debug_next d (event_of pid rows) ≡ record { answer = Ok reply; state = x } → debug_cut_event (event_of pid rows) (Ok reply) ≡ event_of pid rows
-    → k.entries ≡ j.entries ++ entry_by (event_of pid rows) None reply ∷ [] → k.limit ≡ j.limit
+    → k.entries ≡ j.entries ++ entry_by (event_of pid rows) None reply ∷ [] → k.drained ≡ j.drained → k.limit ≡ j.limit
     → later ≡ record known { journal = known.journal ++ entry_by (event_of pid rows) None reply ∷ []; moves = known.moves ++ moved_in pid ∷ [] }
     → node_of x k later (without_entry pid checked_out) ≡ advanced (node_of d j known checked_out) pid rows reply
-advanced_is d x j k known later checked_out pid rows reply next cut entered limit is =
+advanced_is d x j k known later checked_out pid rows reply next cut entered drained limit is =
     let event = event_of pid rows in
     let journal : k.entries ≡ j.entries ++ record { event = event; seat = None; reply = reply } ∷ []
     = entered ∙ ap (λ e. j.entries ++ record { event = e; seat = None; reply = reply } ∷ []) cut in
@@ -186,11 +186,11 @@ advanced_is d x j k known later checked_out pid rows reply next cut entered limi
     ap (λ y. node_of y k later (without_entry pid checked_out)) state
     ∙ (ap (λ (l : History). node_of (debug_next d event).state k l (without_entry pid checked_out)) is
     ∙ (ap (λ es. record (node_of (debug_next d event).state k known (without_entry pid checked_out)) { journal = es; moves = known.moves ++ moved_in pid ∷ [] }) journal
-    ∙ (ap (λ n. record (advanced (node_of d j known checked_out) pid rows reply) { checked_out = map checked_out_of (without_entry pid checked_out); limit = n }) limit
+    ∙ ((λ i. record (advanced (node_of d j known checked_out) pid rows reply) { checked_out = map checked_out_of (without_entry pid checked_out); drained = drained i; limit = limit i })
     ∙ ap (λ checkouts. record (advanced (node_of d j known checked_out) pid rows reply) { checked_out = checkouts }) (mapped pid checked_out))))
 
 -- rows took effect: what is known of the other processes that are checked out still agrees
-pub kept_on : (d x : Debugged) (j k : Journal) (known later : History) (checked_out : List CheckoutEntry) (changes : ℕ) (shared : Option CodeContext) (pid : ℕ) (rows : Private)
+pub kept_on : (d x : Debugged) (j k : NodeJournal) (known later : History) (checked_out : List CheckoutEntry) (changes : ℕ) (shared : Option CodeContext) (pid : ℕ) (rows : Private)
     (reply : DebugReply View) → NodeInvariant d j known checked_out changes shared → AreSpotsLive d → DebugAnswers d (event_of pid rows) (Ok reply) x
     → k.entries ≡ j.entries ++ entry_by (event_of pid rows) None reply ∷ []
     → replay k.entries ≡ debug_after (replay j.entries) (event_of pid rows) (Ok reply)

@@ -8,6 +8,7 @@ use Rattle.beam_machine.specs.declared.debug.DebugEvent.TheVariants.{Node as Nod
 use Rattle.beam_model.specs.Prelude.{Listing}
 use Rattle.beam_laws.specs.Prelude.{Origin, slice_of, rows_of_event}
 use Rattle.beam_core.specs.Installing.{AreQuiet}
+use Rattle.beam_journal.specs.Entering.{in_memory}
 use Rattle.beam_receipts.specs.Receipts.{moved_in}
 use Rattle.beam_shared.specs.declared.drop_reason.DropReason.{DropReason}
 use Rattle.beam_shared.specs.declared.drop_reason.DropReason.TheVariants.{Stranger, Gone, StaleCode, JournalFull, NoMemory}
@@ -44,8 +45,8 @@ MayCommit n pid serial context = (is_open n pid serial ≡ true) × (is_live n p
 
 -- why rows that may be committed can't be entered
 abbrev pub DropsEntry : Node → Private → DropReason → Type 0
-DropsEntry n rows JournalFull = length n.journal ≡ n.limit
-DropsEntry n rows NoMemory = (length n.journal ≢ n.limit) × (AreQuiet rows → ⊥)
+DropsEntry n rows JournalFull = in_memory n.journal n.drained ≡ n.limit
+DropsEntry n rows NoMemory = (in_memory n.journal n.drained ≢ n.limit) × (AreQuiet rows → ⊥)
 DropsEntry n rows _ = ⊥
 
 -- why rows don't take effect
@@ -82,7 +83,7 @@ advanced n pid rows reply = record n {
 abbrev pub Commits : Node → ℕ → Private → Option (DebugReply View) → Node → Type 0
 Commits n pid rows None new = (rows_of_event rows ≡ 0) × (new ≡ checked_in n pid)
 Commits n pid rows (Some reply) new =
-    (rows_of_event rows ≢ 0) × (length n.journal ≢ n.limit)
+    (rows_of_event rows ≢ 0) × (in_memory n.journal n.drained ≢ n.limit)
     × ((debug_next n.state (event_of pid rows)).answer ≡ Ok reply) × (new ≡ advanced n pid rows reply)
 
 -- rows that are to be committed to a node, of the checkout of number `serial`, executed over this code and these break spots

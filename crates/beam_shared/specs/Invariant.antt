@@ -1,9 +1,9 @@
 -- What a shared node keeps, and how its parts agree. (This node's own.)
-use Rattle.std.specs.Prelude.{◌≡◌, ◌<◌, ◌≤◌, ℕ, ◌==◌, List, [], ◌∷◌, length, map, slice_get, Option, Some, None, IfSome, if◌then◌else◌}
-use Rattle.std.specs.List.{AllByRecursion}
+use Rattle.std.specs.Prelude.{◌≡◌, ◌<◌, ◌≤◌, ℕ, ◌==◌, List, [], ◌∷◌, length, map, slice_get, All, Option, Some, None, IfSome, true, if◌then◌else◌}
+use Rattle.std.specs.List.{AllByRecursion, list_any}
 use Rattle.beam_machine.specs.Prelude.{Debugged, replay}
 use Rattle.beam_debug.specs.Prelude.{Debugger}
-use Rattle.beam_journal.specs.Entering.{Journal}
+use Rattle.beam_journal.specs.Entering.{NodeJournal}
 use Rattle.beam_laws.specs.Prelude.{IsEarlierCode, Origin, IsOut}
 use Rattle.beam_receipts.specs.Receipts.{History, Move, AreOfGiven, after_moves}
 use Rattle.beam_step.specs.Slices.{Work}
@@ -16,10 +16,12 @@ abbrev pub checked_out_of : CheckoutEntry → CheckedOut
 checked_out_of entry = record { pid = entry.pid; serial = entry.serial }
 
 -- what callers see of a node
-abbrev pub node_of : Debugged → Journal → History → List CheckoutEntry → Node
+abbrev pub node_of : Debugged → NodeJournal → History → List CheckoutEntry → Node
 node_of d j known checked_out = record {
   state = d;
   journal = j.entries;
+  drained = j.drained;
+  drains = known.drains;
   seats = known.given;
   handed = known.checkouts;
   checked_out = map checked_out_of checked_out;
@@ -51,7 +53,7 @@ AreHanded d changes handed entries = AllByRecursion (IsHanded d changes handed) 
 
 -- The journal replays to the state, the keeper knows the journal's entries, each of its commands is of a seat that was given, there is room
 -- in it for an entry of each process that is checked out, and the shared context has the node's code and break spots.
-pub record NodeInvariant (d : Debugged) (j : Journal) (known : History) (checked_out : List CheckoutEntry) (changes : ℕ) (shared : Option CodeContext) : Type 0 where
+pub record NodeInvariant (d : Debugged) (j : NodeJournal) (known : History) (checked_out : List CheckoutEntry) (changes : ℕ) (shared : Option CodeContext) : Type 0 where
   pub replays : replay j.entries ≡ d
   pub known_is : known.journal ≡ j.entries
   pub seats : known.given ≤ most_seats
@@ -69,6 +71,12 @@ HasCapacityFor d checked_out = AllByRecursion (λ (entry : CheckoutEntry). entry
 -- the processes that are checked out are those that the moves leave out
 abbrev pub AreThoseOut : List Move → List CheckoutEntry → Type 0
 AreThoseOut moves checked_out = map (λ (entry : CheckoutEntry). entry.pid) checked_out ≡ after_moves [] moves
+
+-- as many entries have left memory as when entries left it last, and no more than there are
+pub record AreDrained (drains : List ℕ) (j : NodeJournal) : Type 0 where
+  pub few : j.drained ≤ length j.entries
+  pub was : list_any (λ n. n == j.drained) (0 ∷ drains) ≡ true
+  pub last : All (λ n. n ≤ j.drained) drains
 
 -- ---- the list of the processes that are checked out
 

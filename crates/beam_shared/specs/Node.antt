@@ -21,15 +21,17 @@ pub record CheckedOut : Type 0 where
 pub record Node : Type 0 where
   pub state : Debugged
   pub journal : List Entry
+  pub drained : ℕ  -- how many of its entries have left memory: the first ones
+  pub drains : List ℕ  -- how many entries it had whenever its entries left memory, the last time first
   pub seats : ℕ  -- how many seats were given
   pub handed : List Origin  -- all that was handed out, in its order: checkout n is the one at position n
   pub checked_out : List CheckedOut
   pub moves : List Move  -- which processes were checked out and in, in this order
-  pub limit : ℕ  -- how many entries the journal can have
+  pub limit : ℕ  -- how many entries of the journal can be in memory
 
 -- the node with no code, no processes and no entries, and with this limit
 abbrev pub new_node : ℕ → Node
-new_node limit = record { state = undisturbed empty; journal = []; seats = 0; handed = []; checked_out = []; moves = []; limit = limit }
+new_node limit = record { state = undisturbed empty; journal = []; drained = 0; drains = []; seats = 0; handed = []; checked_out = []; moves = []; limit = limit }
 
 -- the most seats of a node
 abbrev pub most_seats : ℕ
@@ -110,3 +112,9 @@ accepted_without_seat n event reply = record n {
   state = debug_after n.state event (Ok reply);
   journal = n.journal ++ entry_of event None reply ∷ [];
 }
+
+-- ---- entries leave memory
+
+-- the node after all its entries have left memory
+abbrev pub without_entries : Node → Node
+without_entries n = record n { drained = length n.journal; drains = length n.journal ∷ n.drains }

@@ -6,6 +6,7 @@ use Rattle.beam_machine.specs.declared.debug.DebugEvent.{DebugEvent}
 use Rattle.beam_machine.specs.declared.event.Refused.TheVariants.{NoMemory, NoProcess, NotReady, Stopped, TooMany}
 use Rattle.beam_machine.specs.Prelude.{Debugged, debug_next, is_among, Process, is_running, live_process}
 use Rattle.beam_laws.specs.Prelude.{is_busy}
+use Rattle.beam_journal.specs.Entering.{in_memory}
 use Rattle.beam_receipts.specs.declared.refusal.Refusal.{Refusal}
 use Rattle.beam_receipts.specs.declared.refusal.Refusal.TheVariants.{Node as OfNode, Busy, JournalFull}
 use Rattle.beam_receipts.specs.Receipts.{History, RefusedCommand, SeatHistory}
@@ -36,7 +37,7 @@ why_not n pid = refusal_of n.state n.checked_out pid
 -- why a checkout is refused. A process that may be checked out isn't if a delivery is to be entered in a full journal, if memory is
 -- refused, or if all numbers of checkouts were given
 abbrev pub RefusesCheckout : Node → ℕ → Refusal → Type 0
-RefusesCheckout n pid JournalFull = (why_not n pid ≡ None) × (has_incoming n pid ≡ true) × (length n.journal ≡ n.limit)
+RefusesCheckout n pid JournalFull = (why_not n pid ≡ None) × (has_incoming n pid ≡ true) × (in_memory n.journal n.drained ≡ n.limit)
 RefusesCheckout n pid (OfNode NoMemory) = why_not n pid ≡ None
 RefusesCheckout n pid (OfNode TooMany) = (why_not n pid ≡ None) × (length n.handed ≡ most_checkouts)
 RefusesCheckout n pid refusal = why_not n pid ≡ Some refusal
@@ -49,23 +50,35 @@ must_wait checked_out event = list_any (λ o. is_busy o.pid event) checked_out
 
 -- why a command is refused; the answer may be `NoMemory` in place of the node's
 abbrev pub RefusesCommand : Node → DebugEvent Listing → Refusal → Type 0
-RefusesCommand n event JournalFull = length n.journal ≡ n.limit
-RefusesCommand n event Busy = (length n.journal ≢ n.limit) × (must_wait n.checked_out event ≡ true)
-RefusesCommand n event (OfNode NoMemory) = (length n.journal ≢ n.limit) × (must_wait n.checked_out event ≡ false)
+RefusesCommand n event JournalFull = in_memory n.journal n.drained ≡ n.limit
+RefusesCommand n event Busy = (in_memory n.journal n.drained ≢ n.limit) × (must_wait n.checked_out event ≡ true)
+RefusesCommand n event (OfNode NoMemory) = (in_memory n.journal n.drained ≢ n.limit) × (must_wait n.checked_out event ≡ false)
 RefusesCommand n event (OfNode refused) =
-    (length n.journal ≢ n.limit) × (must_wait n.checked_out event ≡ false) × ((debug_next n.state event).answer ≡ Err refused)
+    (in_memory n.journal n.drained ≢ n.limit) × (must_wait n.checked_out event ≡ false) × ((debug_next n.state event).answer ≡ Err refused)
 
 -- ---- what a seat notes of a refusal
 
--- a seat's command that is refused for this reason, after all that is known of the node
-abbrev pub refused_now : History → SeatHistory → DebugEvent Listing → Refusal → RefusedCommand
-refused_now known s event refusal =
-    record { event = event; refusal = refusal; entered = length known.journal; accepted = length s.kept; moves = length known.moves }
+-- a seat's command that is refused for this reason, after all that is known of the node, where the first `drained` entries have left memory
+abbrev pub refused_now : History → ℕ → SeatHistory → DebugEvent Listing → Refusal → RefusedCommand
+refused_now known drained s event refusal = record {
+  event = event;
+  refusal = refusal;
+  entered = length known.journal;
+  accepted = length s.kept;
+  moves = length known.moves;
+  drained = drained;
+}
 
 -- a seat's command that this node refuses for this reason
 abbrev pub refused_command : Node → SeatHistory → DebugEvent Listing → Refusal → RefusedCommand
-refused_command n s event refusal =
-    record { event = event; refusal = refusal; entered = length n.journal; accepted = length s.kept; moves = length n.moves }
+refused_command n s event refusal = record {
+  event = event;
+  refusal = refusal;
+  entered = length n.journal;
+  accepted = length s.kept;
+  moves = length n.moves;
+  drained = n.drained;
+}
 
 -- a seat whose command this node refused
 abbrev pub with_refused : Node → DebugEvent Listing → Refusal → SeatHistory → SeatHistory

@@ -21,13 +21,14 @@ AreBelow given seats = (i : ℕ) (s : SeatHistory) → slice_get seats i ≡ Som
 abbrev pub Agree : List Entry → List SeatHistory → Type 0
 Agree journal seats = (i : ℕ) (s : SeatHistory) → slice_get seats i ≡ Some s → s.kept ≡ of_seat s.number journal
 
--- each seat's refused commands could be refused so over this journal and these moves, `JournalFull` exactly at the limit
-abbrev pub WereEachRefused : List Entry → List Move → ℕ → List SeatHistory → Type 0
-WereEachRefused journal moves limit seats = (i : ℕ) (s : SeatHistory) → slice_get seats i ≡ Some s
-    → WereRefused journal moves s.number s.refused × AreFullAt limit s.refused
+-- each seat's refused commands could be refused so over this journal, these moves and these times at which entries left memory, `JournalFull`
+-- exactly at the limit
+abbrev pub WereEachRefused : List Entry → List Move → List ℕ → ℕ → List SeatHistory → Type 0
+WereEachRefused journal moves drains limit seats = (i : ℕ) (s : SeatHistory) → slice_get seats i ≡ Some s
+    → WereRefused journal moves drains s.number s.refused × AreFullAt limit s.refused
 
 abbrev pub WereAllRefused : Node → List SeatHistory → Type 0
-WereAllRefused n seats = WereEachRefused n.journal n.moves n.limit seats
+WereAllRefused n seats = WereEachRefused n.journal n.moves n.drains n.limit seats
 
 -- ---- counts
 

@@ -1,6 +1,7 @@
 //! Checkouts of processes.
 ghost use Rattle.std.specs.Prelude.{◌≡◌, ◌≢◌, ◌||◌, ◌++◌, ◌∷◌, [], ◌+◌, ◌≤◌, ◌<◌, true, false, length, map, Some, None, IfOk, IfErr, OnErr, OnOk};
 ghost use Rattle.std.specs.Option.{option_copied};
+ghost use Rattle.beam_journal.specs.Entering.{in_memory};
 ghost use Rattle.beam_machine.specs.declared.event.Refused.TheVariants.{NoMemory};
 ghost use Rattle.beam_machine.specs.Journal.{replay};
 ghost use Rattle.beam_machine.specs.Process.{is_ended, is_running};
@@ -18,7 +19,7 @@ use crate::code_context::CodeContext;
 use crate::entering::{enter_without_seat, make_room};
 use crate::node::Node;
 use beam_debug::debugger::Debugger;
-use beam_journal::journal::Journal;
+use beam_journal::node_journal::NodeJournal;
 use beam_machine::debug::DebugEvent;
 use beam_machine::event::{Event, Refused};
 use beam_proc::process::Process;
@@ -95,7 +96,7 @@ fn has_incoming(debugger: &Debugger, pid: u32) -> bool
 /// Delivers the signals in transit to a process, if there are any, by an event that no seat sent and for which there is room.
 fn deliver<B: NodeBrand>(
     debugger: &mut Debugger,
-    journal: &mut Journal,
+    journal: &mut NodeJournal,
     keeper: &mut Keeper<B>,
     pid: u32,
     has_incoming: bool,
@@ -103,12 +104,13 @@ fn deliver<B: NodeBrand>(
     requires replays { replay journal.old.entries ≡ debugger.old.state }
     requires incoming { process_has_incoming (live_process debugger.old.state.node.processes pid) ≡ has_incoming }
     requires capacity { 0 < journal.old.capacity }
-    requires few { has_incoming ≡ true → length journal.old.entries ≢ journal.old.limit }
+    requires few { has_incoming ≡ true → in_memory journal.old.entries journal.old.drained ≢ journal.old.limit }
     ensures state { OnOk result (debugger.new.state ≡ delivered_if debugger.old.state pid has_incoming) }
     ensures entered { OnOk result (journal.new.entries ≡ journal.old.entries ++ deliveries pid has_incoming) }
     ensures keeper { OnOk result (keeper.new ≡ record keeper.old { journal = keeper.old.journal ++ deliveries pid has_incoming }) }
     ensures replays { replay journal.new.entries ≡ debugger.new.state }
     ensures capacity { journal.old.capacity ≤ journal.new.capacity + 1 }
+    ensures drained { journal.new.drained ≡ journal.old.drained }
     ensures limit { journal.new.limit ≡ journal.old.limit }
     ensures held_capacity { debugger.old.capacity ≤ debugger.new.capacity }
     ensures refused { IfErr result (λ refusal. refusal ≡ OfNode NoMemory) }
@@ -159,7 +161,7 @@ impl<B: NodeBrand> Node<B> {
     fn work_of(&self, pid: u32) -> Result<Work, Refusal>
         ensures ok { IfOk result (λ work. origin self.now pid ≡ Some (origin_by pid work (context_in self.now.state))) }
         ensures may { OnOk result (why_not self.now pid ≡ None) }
-        ensures few { OnOk result (has_incoming self.now pid ≡ true → length self.now.journal ≢ self.now.limit) }
+        ensures few { OnOk result (has_incoming self.now pid ≡ true → in_memory self.now.journal self.now.drained ≢ self.now.limit) }
         ensures fewer { OnOk result (length self.now.handed < most_checkouts) }
         ensures refused { IfErr result (λ refusal. RefusesCheckout self.now pid refusal) }
     {
@@ -193,7 +195,7 @@ impl<B: NodeBrand> Node<B> {
     ) -> Result<Checkout<B>, Refusal>
         requires origin { origin self.old pid ≡ Some (origin_by pid work context) }
         requires may { why_not self.old pid ≡ None }
-        requires few { has_incoming self.old pid ≡ true → length self.old.journal ≢ self.old.limit }
+        requires few { has_incoming self.old pid ≡ true → in_memory self.old.journal self.old.drained ≢ self.old.limit }
         requires fewer { length self.old.handed < most_checkouts }
         requires context { context ≡ context_in self.old.state }
         requires finds { AlwaysFinds context.code work.process }

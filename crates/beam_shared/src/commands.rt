@@ -3,7 +3,7 @@ ghost use Rattle.std.specs.Prelude.{◌≡◌, ◌≢◌, ◌<◌, ◌-◌, ◌^
 ghost use Rattle.beam_laws.specs.Changes.{may_change};
 ghost use Rattle.beam_debug.specs.Answers.{reply_of};
 ghost use Rattle.beam_debug.specs.Loud.{DebugLoudly};
-ghost use Rattle.beam_journal.specs.Entering.{Accepts, entry_of};
+ghost use Rattle.beam_journal.specs.Entering.{Accepts, entry_of, in_memory};
 ghost use Rattle.beam_receipts.specs.Receipts.{of_seat};
 ghost use Rattle.beam_receipts.specs.Refused.{IsFullAt, WasRefused};
 ghost use Rattle.beam_shared.specs.Commands.{changes_after, context_after, is_of_code};
@@ -73,14 +73,15 @@ fn note_refused<B: NodeBrand, F: GhostRefusedCommand>(
     seat: &mut SeatReceipt<B>,
     event: &DebugEvent<Image>,
     refusal: Refusal,
+    drained: u64,
 )
-    requires command { F.refused ≡ refused_now keeper.old seat.old event.now refusal }
-    requires refused { WasRefused keeper.old.journal keeper.old.moves seat.old.number (refused_now keeper.old seat.old event.now refusal) }
-    requires full { IsFullAt B.limit (length keeper.old.journal) refusal }
+    requires command { F.refused ≡ refused_now keeper.old drained seat.old event.now refusal }
+    requires refused { WasRefused keeper.old.journal keeper.old.moves keeper.old.drains seat.old.number (refused_now keeper.old drained seat.old event.now refusal) }
+    requires full { IsFullAt B.limit (in_memory keeper.old.journal drained) refusal }
     ensures keeper { keeper.new ≡ keeper.old }
-    ensures seat { seat.new ≡ record seat.old { refused = seat.old.refused ++ refused_now keeper.old seat.old event.now refusal ∷ [] } }
+    ensures seat { seat.new ≡ record seat.old { refused = seat.old.refused ++ refused_now keeper.old drained seat.old event.now refusal ∷ [] } }
 {
-    let (_event, _refusal) = (event, refusal);
+    let (_event, _refusal, _drained) = (event, refusal, drained);
     keeper.note_refused::<F>(seat);
 }
 
@@ -92,11 +93,12 @@ impl<B: NodeBrand> Node<B> {
         ensures seat { seat.new ≡ with_refused self.old event.now refusal seat.old }
     {
         self.keeper.check_seat(seat);
-        note_refused::<B, Brand>(&mut self.keeper, seat, event, refusal);
+        let drained = self.journal.drained();
+        note_refused::<B, Brand>(&mut self.keeper, seat, event, refusal, drained);
     }
 
-    /// Gives the node an event, as a seat's command, and enters it with its reply. `JournalFull` at the journal's limit; then `Busy` for an
-    /// event of a process itself, which are rows, deliveries and timeouts, while the process is checked out; then as the node refuses it. A
+    /// Gives the node an event, as a seat's command, and enters it with its reply. `JournalFull` where as many
+    /// entries are in memory as can be; then `Busy` for an event of a process itself, which are rows, deliveries and timeouts, while the process is checked out; then as the node refuses it. A
     /// refusal changes nothing but what the seat knows: nothing is entered, and the seat notes the event, why it was refused, and how many
     /// entries the journal had. Where memory is refused in the middle of rows, the reply says so, and the rows that were executed are
     /// entered. The seat is the node's, and it kept exactly the journal's entries of its number.
@@ -112,7 +114,7 @@ impl<B: NodeBrand> Node<B> {
         ensures node { IfOk result (λ reply. self.new ≡ accepted self.old event seat.old.number (reply_of reply)) }
         ensures seat { IfOk result (λ reply. seat.new ≡ record seat.old { kept = seat.old.kept ++ entry_of event (Some seat.old.number) (reply_of reply) ∷ [] }) }
         ensures loud { IfOk result (λ reply. DebugLoudly self.old.state event (Ok (reply_of reply)) self.new.state) }
-        ensures may { OnOk result ((length self.old.journal ≢ self.old.limit) × (must_wait self.old.checked_out event ≡ false)) }
+        ensures may { OnOk result ((in_memory self.old.journal self.old.drained ≢ self.old.limit) × (must_wait self.old.checked_out event ≡ false)) }
         ensures refused { IfErr result (λ refusal. RefusesCommand self.old event refusal) }
         ensures err { OnErr result (self.new ≡ self.old) }
         ensures noted { IfErr result (λ refusal. seat.new ≡ with_refused self.old event refusal seat.old) }

@@ -209,8 +209,8 @@ impl<B: NodeBrand> Node<B> {
     /// names, starts and the clock stay as they became meanwhile. `None` if there were no rows: nothing is entered then.
     ///
     /// Rows are dropped for one of these reasons, in this order: `Stranger` if they are of no open checkout, and then they come back and
-    /// nothing changes; `Gone` if the process has ended; `StaleCode` if code or break spots aren't those of the checkout; `JournalFull` at
-    /// the journal's limit; `NoMemory` if memory is refused, which it isn't to rows that sent nothing, didn't end the process, and didn't
+    /// nothing changes; `Gone` if the process has ended; `StaleCode` if code or break spots aren't those of the checkout; `JournalFull`
+    /// where as many entries are in memory as can be; `NoMemory` if memory is refused, which it isn't to rows that sent nothing, didn't end the process, and didn't
     /// end before a row of the node. The process is then checked in as it is in the node, and nothing else changes.
     ///
     /// No row is run again, and neither code nor process is compared by value: it takes time for what the rows sent and for the row of the

@@ -8,6 +8,7 @@ mod closing;
 mod code_context;
 mod commands;
 mod committing;
+mod draining;
 pub mod drop_reason;
 mod entering;
 pub mod finished_slice;

@@ -1,6 +1,6 @@
 //! A node that threads share.
-ghost use Rattle.std.specs.Prelude.{◌≡◌, ◌+◌, ◌<◌, ◌≤◌, ◌↔◌, ℕ, [], length, map, IsErrOf, OnErr, IfOk, IfErr};
-ghost use Rattle.beam_journal.specs.Entering.{most_entries};
+ghost use Rattle.std.specs.Prelude.{◌≡◌, ◌+◌, ◌<◌, ◌≤◌, ◌↔◌, ℕ, [], drop, length, map, IsErrOf, OnErr, IfOk, IfErr};
+ghost use Rattle.beam_journal.specs.Entering.{in_memory, most_entries};
 ghost use Rattle.beam_machine.specs.Journal.{IsLawful, replay, sent_event_of};
 ghost use Rattle.beam_machine.specs.Ready.{ready_after, next_deadline};
 ghost use Rattle.beam_machine.specs.declared.event.Refused.TheVariants.{TooMany};
@@ -12,7 +12,8 @@ use crate::checked_out::CheckoutEntry;
 use crate::code_context::CodeContext;
 use beam_debug::debugger::Debugger;
 use beam_journal::entry::Entry;
-use beam_journal::journal::{Journal, MOST_ENTRIES};
+use beam_journal::journal::MOST_ENTRIES;
+use beam_journal::node_journal::NodeJournal;
 use beam_machine::event::Refused;
 use beam_receipts::brand::NodeBrand;
 use beam_receipts::keeper::{Keeper, UnbrandedKeeper};
@@ -29,7 +30,7 @@ pub const MOST_SEATS: u32 = 4_096;
 pub struct Node<B: NodeBrand> {
     pub(crate) alloc: Global,
     pub(crate) debugger: Debugger,
-    pub(crate) journal: Journal,
+    pub(crate) journal: NodeJournal,
     pub(crate) keeper: Keeper<B>,
     pub(crate) checked_out: Vec<CheckoutEntry>,
     // how often code or break spots changed
@@ -57,7 +58,7 @@ impl<B: NodeBrand> Model for Node<B> {
     ghost use Rattle.std.specs.Coded.{codes};
     ghost use Rattle.beam_term.specs.Coding.{term_code};
     ghost use Rattle.beam_shared.specs.Node.{Node as TheNode};
-    ghost use Rattle.beam_shared.specs.Invariant.{node_of, AreThoseOut, HasCapacityFor, NodeInvariant};
+    ghost use Rattle.beam_shared.specs.Invariant.{node_of, AreDrained, AreThoseOut, HasCapacityFor, NodeInvariant};
 
     ghost Value = { TheNode };
 
@@ -66,11 +67,11 @@ impl<B: NodeBrand> Model for Node<B> {
     ghost view = { λ n. node_of n.debugger.state n.journal n.keeper n.checked_out.items };
 
     ghost invariant = { λ n. NodeInvariant n.debugger.state n.journal n.keeper n.checked_out.items n.changes n.context × HasCapacityFor n.debugger n.checked_out.items
-        × (n.journal.limit ≡ B.limit) × AreThoseOut n.keeper.moves n.checked_out.items };
+        × (n.journal.limit ≡ B.limit) × AreThoseOut n.keeper.moves n.checked_out.items × AreDrained n.keeper.drains n.journal };
 }
 
 impl<B: NodeBrand> Node<B> {
-    /// A node with no code, no processes and an empty journal, which can have 16,777,216 entries. It takes no memory.
+    /// A node with no code, no processes and an empty journal, of which 16,777,216 entries can be in memory. It takes no memory.
     pub fn new(alloc: Global, unbranded: UnbrandedKeeper) -> Node<B>
         requires unbranded { unbranded ≡ B.table }
         requires limit { B.limit ≡ most_entries }
@@ -79,7 +80,8 @@ impl<B: NodeBrand> Node<B> {
         Node::with_limit(alloc, unbranded, MOST_ENTRIES)
     }
 
-    /// A node with no code, no processes and an empty journal, which can have `limit` entries, at most 16,777,216. It takes no memory.
+    /// A node with no code, no processes and an empty journal, of which `limit` entries can be in memory, at most 16,777,216. It takes no
+    /// memory.
     pub fn with_limit(alloc: Global, unbranded: UnbrandedKeeper, limit: u32) -> Node<B>
         requires unbranded { unbranded ≡ B.table }
         requires limit { limit ≤ most_entries }
@@ -89,7 +91,7 @@ impl<B: NodeBrand> Node<B> {
         Node {
             alloc,
             debugger: Debugger::new(alloc),
-            journal: Journal::with_limit(alloc, limit),
+            journal: NodeJournal::with_limit(alloc, limit),
             keeper: unbranded.branded::<B>(),
             checked_out: Vec::new(alloc),
             changes: 0,
@@ -115,8 +117,8 @@ impl<B: NodeBrand> Node<B> {
         self.checked_out.len()
     }
 
-    pub(crate) fn into_journal(self) -> Journal
-        ensures { result.entries ≡ self.journal }
+    pub(crate) fn into_journal(self) -> NodeJournal
+        ensures { (result.entries ≡ self.journal) × (result.drained ≡ self.drained) }
     {
         let Node {
             alloc: _alloc,
@@ -128,6 +130,23 @@ impl<B: NodeBrand> Node<B> {
             context: _context,
         } = self;
         journal
+    }
+
+    /// The node with its debugger alone, in the state that it has. The journal goes, with the entries that are in memory, and what is checked out
+    /// can't be committed any more.
+    pub fn into_debugger(self) -> Debugger
+        ensures { result.state ≡ self.state }
+    {
+        let Node {
+            alloc: _alloc,
+            debugger,
+            journal: _journal,
+            keeper: _keeper,
+            checked_out: _checked_out,
+            changes: _changes,
+            context: _context,
+        } = self;
+        debugger
     }
 
     /// Gives a seat to a sender of commands. `TooMany` where 4,096 were given. It takes no memory.
@@ -143,22 +162,29 @@ impl<B: NodeBrand> Node<B> {
         Ok(self.keeper.seat())
     }
 
-    /// The entries of the journal, in their order, without the replies.
+    /// The journal's entries that are in memory, in their order, without the replies.
     pub fn entries(&self) -> &[Entry]
-        ensures { result.now ≡ map sent_event_of self.now.journal }
+        ensures { result.now ≡ drop self.now.drained (map sent_event_of self.now.journal) }
     {
         self.journal.entries()
     }
 
     /// How many entries the journal has.
-    pub fn entered(&self) -> u32
-        ensures count { result ≡ length self.now.journal }
-        ensures few { result ≤ self.now.limit }
+    pub fn entered(&self) -> u64
+        ensures { result ≡ length self.now.journal }
     {
-        self.journal.len() as u32
+        self.journal.len()
     }
 
-    /// How many entries the journal can have.
+    /// How many entries of the journal are in memory.
+    pub fn in_memory(&self) -> u32
+        ensures count { result ≡ in_memory self.now.journal self.now.drained }
+        ensures few { result ≤ self.now.limit }
+    {
+        self.journal.in_memory()
+    }
+
+    /// How many entries of the journal can be in memory.
     pub fn limit(&self) -> u32
         ensures is { result ≡ self.now.limit }
         ensures most { result ≤ most_entries }

@@ -1,8 +1,8 @@
 //! Events that no seat sent, as another node's journal has them.
-ghost use Rattle.std.specs.Prelude.{◌≡◌, ◌≢◌, false, length, IfOk, IfErr, OnErr, OnOk};
+ghost use Rattle.std.specs.Prelude.{◌≡◌, ◌≢◌, false, IfOk, IfErr, OnErr, OnOk};
 ghost use Rattle.beam_debug.specs.Answers.{reply_of};
 ghost use Rattle.beam_debug.specs.Loud.{DebugLoudly};
-ghost use Rattle.beam_journal.specs.Entering.{Accepts};
+ghost use Rattle.beam_journal.specs.Entering.{Accepts, in_memory};
 ghost use Rattle.beam_shared.specs.Node.{accepted_without_seat};
 ghost use Rattle.beam_shared.specs.Refusals.{RefusesCommand, must_wait};
 
@@ -19,14 +19,14 @@ use std::marker::Brand;
 
 impl<B: NodeBrand> Node<B> {
     /// Gives the node an event that no seat sent, as a journal has it, and enters it with its reply: a delivery, or rows of a process that
-    /// had been checked out. `JournalFull` at the journal's limit; then `Busy` for an event of a process itself, which are rows, deliveries
+    /// had been checked out. `JournalFull` where as many entries are in memory as can be; then `Busy` for an event of a process itself, which are rows, deliveries
     /// and timeouts, while the process is checked out; then as the node refuses it. A refusal changes nothing. Where memory is refused in
     /// the middle of rows, the reply says so, and the rows that were executed are entered.
     pub fn replay_event(&mut self, event: DebugEvent<Image>) -> Result<Outcome, Refusal>
         ensures reply { IfOk result (λ reply. Accepts self.old.state event (reply_of reply)) }
         ensures node { IfOk result (λ reply. self.new ≡ accepted_without_seat self.old event (reply_of reply)) }
         ensures loud { IfOk result (λ reply. DebugLoudly self.old.state event (Ok (reply_of reply)) self.new.state) }
-        ensures may { OnOk result ((length self.old.journal ≢ self.old.limit) × (must_wait self.old.checked_out event ≡ false)) }
+        ensures may { OnOk result ((in_memory self.old.journal self.old.drained ≢ self.old.limit) × (must_wait self.old.checked_out event ≡ false)) }
         ensures refused { IfErr result (λ refusal. RefusesCommand self.old event refusal) }
         ensures err { OnErr result (self.new ≡ self.old) }
     {

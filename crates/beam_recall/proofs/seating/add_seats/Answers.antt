@@ -10,7 +10,7 @@ returns-in_default-clause-err g c = λ sent own.
     let l = c.loop-seats in
     let all : l.node.seats ≡ 4096 = c.in_default.ensures.refused.1 in
     let many : length l.seats.items ≡ l.node.seats = as_many l.node.seats l.seats.items l.invariant.0 in
-    (c.entered.ensures.count, (c.args.number, own, omega (arith, all, many, c.len.ensures, l.seats.ok, c.loop-seats-test.true)))
+    (c.entered.ensures, (c.args.number, own, omega (arith, all, many, c.len.ensures, l.seats.ok, c.loop-seats-test.true)))
 
 pub loop-seats-preserved : goal.loop-seats-preserved
 loop-seats-preserved g c =

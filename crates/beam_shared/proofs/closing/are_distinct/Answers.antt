@@ -61,13 +61,13 @@ loop-at-preserved g c =
     let more = one_more c.args.keeper.now.given c.args.keeper.now.journal c.args.seats.now.items l.seen l.at s l.invariant.noted here few free kept below in
     let limit : s.limit ≡ g.B.NodeBrand.limit = c.check_seat.ensures.limit in
     let full : AreFullAt g.B.NodeBrand.limit s.refused = subst (λ n. AreFullAt n s.refused) limit c.check_seat.ensures.full in
-    let were : WereRefused c.args.keeper.now.journal c.args.keeper.now.moves s.number s.refused
-    = subst (λ (k : History). WereRefused k.journal k.moves s.number s.refused) l.invariant.keeper c.check_seat.ensures.refused in
+    let were : WereRefused c.args.keeper.now.journal c.args.keeper.now.moves c.args.keeper.now.drains s.number s.refused
+    = subst (λ (k : History). WereRefused k.journal k.moves k.drains s.number s.refused) l.invariant.keeper c.check_seat.ensures.refused in
     let back : set l.seats.items l.at c.check_seat.new.seat ≡ l.seats.items = written_back l.seats.items l.at s c.check_seat.new.seat c.index.result.now within c.index_mut.ensures.value c.check_seat.ensures.seat c.index.ensures in
     record {
       keeper = c.check_seat.ensures.keeper ∙ l.invariant.keeper;
       seats = back ∙ l.invariant.seats;
-      refused = each_more (λ t. WereRefused c.args.keeper.now.journal c.args.keeper.now.moves t.number t.refused × AreFullAt g.B.NodeBrand.limit t.refused)
+      refused = each_more (λ t. WereRefused c.args.keeper.now.journal c.args.keeper.now.moves c.args.keeper.now.drains t.number t.refused × AreFullAt g.B.NodeBrand.limit t.refused)
           c.args.seats.now.items l.at s here (were, full) l.invariant.refused;
       noted = subst (λ n. AreNoted c.args.keeper.now.given c.args.keeper.now.journal c.args.seats.now.items (set l.seen n true) (l.at + 1)) (sym number) more;
     }

@@ -9,6 +9,6 @@ invariant-loop-at g l = record {
   keeper : l.keeper ≡ l.fn.keeper;
   seats : l.seats.items ≡ l.fn.seats.items;
   refused : (i : ℕ) (s : SeatHistory) → i < l.at → slice_get l.fn.seats.items i ≡ Some s
-      → WereRefused l.fn.keeper.journal l.fn.keeper.moves s.number s.refused × AreFullAt g.B.NodeBrand.limit s.refused;
+      → WereRefused l.fn.keeper.journal l.fn.keeper.moves l.fn.keeper.drains s.number s.refused × AreFullAt g.B.NodeBrand.limit s.refused;
   noted : AreNoted l.fn.keeper.given l.fn.keeper.journal l.fn.seats.items l.seen l.at;
 }

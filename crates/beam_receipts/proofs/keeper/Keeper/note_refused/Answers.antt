@@ -27,7 +27,7 @@ split_seat-pass-requires g c =
     let table = c.join_seat.ensures.0 ∙ i.1 ∙ sym i.0 in
     let words = subst (λ t. 0 < t.words) (sym i.0) i.2 in
     let k = history_of p.me.0 in
-    let refused : WasRefused k.journal k.moves seat_history.number g.F.GhostRefusedCommand.refused
-    = subst (λ (n : ℕ). WasRefused k.journal k.moves n g.F.GhostRefusedCommand.refused) (sym (ap (λ (s : SeatHistory). s.number) c.seat.view_is))
-    (subst (λ (h : History). WasRefused h.journal h.moves c.args.seat.now.number g.F.GhostRefusedCommand.refused) (sym c.self.view_is) c.requires.refused) in
+    let refused : WasRefused k.journal k.moves k.drains seat_history.number g.F.GhostRefusedCommand.refused
+    = subst (λ (n : ℕ). WasRefused k.journal k.moves k.drains n g.F.GhostRefusedCommand.refused) (sym (ap (λ (s : SeatHistory). s.number) c.seat.view_is))
+    (subst (λ (h : History). WasRefused h.journal h.moves h.drains c.args.seat.now.number g.F.GhostRefusedCommand.refused) (sym c.self.view_is) c.requires.refused) in
     (table, words, λ s h at. notes_as x.id x.me.0 (history_of p.me.0) seat_history g.F.GhostRefusedCommand.refused is refused s.views h at)

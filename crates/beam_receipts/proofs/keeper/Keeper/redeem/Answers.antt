@@ -23,7 +23,7 @@ load-requires g c =
     let is = with_checkout p.me.0 w x.me.0 (history_of p.me.0) (checkout_of w) joined i.3 has in
     let table = c.join_seat.ensures.0 ∙ i.1 ∙ sym i.0 in
     let words = subst (λ t. 0 < t.words) (sym i.0) i.2 in
-    (table, words, λ s h count at bound. let r = compares_as s.views x.id x.me.0 (history_of p.me.0) None (Some (checkout_of w)) is h at in (x.me.0, keeps, tt, r.0, (refl, r.1)))
+    (table, words, λ s h count at bound. let r = compares_as s.views x.id x.me.0 (history_of p.me.0) None (Some (checkout_of w)) None is h at in (x.me.0, keeps, tt, r.0, (refl, r.1)))
 
 pub split_seat-requires : goal.split_seat-requires
 split_seat-requires g c =
@@ -37,4 +37,4 @@ split_seat-requires g c =
     let table = c.join_seat.ensures.0 ∙ i.1 ∙ sym i.0 in
     let words = subst (λ t. 0 < t.words) (sym i.0) i.2 in
     let y = c.load.new.seat in
-    (c.load.ensures.0 ∙ table, words, λ s h at. gives_back_as y.id y.me.0 (history_of p.me.0) None (Some (checkout_of w)) (c.load.ensures.2.0 ∙ is) s.views h at)
+    (c.load.ensures.0 ∙ table, words, λ s h at. gives_back_as y.id y.me.0 (history_of p.me.0) None (Some (checkout_of w)) None (c.load.ensures.2.0 ∙ is) s.views h at)

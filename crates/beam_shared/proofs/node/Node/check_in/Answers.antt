@@ -1,6 +1,7 @@
 use Rattle.std.proofs.Common.{[], ◌∷◌, ◌++◌, refl, sym, ap, subst, ◌∙◌}
 use Rattle.beam_receipts.specs.Receipts.{History, moved_in}
 use Rattle.beam_shared.specs.Prelude.{AreThoseOut, HasCapacityFor, NodeInvariant, node_of, checked_in}
+use Rattle.beam_shared.proofs.Drains.{drained_as}
 use Rattle.beam_shared.proofs.Returning.{kept_without, taken}
 use Rattle.beam_shared.proofs.ThoseOut.{those_in}
 use Rattle.beam_shared.proofs.Capacities.{capacity_without}
@@ -15,6 +16,7 @@ invariant_of-self g c =
       c.self.invariant.2,
       subst (λ moves. AreThoseOut moves c.check_in.new.checked_out.items) (sym (ap (λ (k : History). k.moves) c.check_in.ensures.keeper))
           (subst (AreThoseOut (i.keeper.moves ++ moved_in c.args.pid ∷ [])) (sym c.check_in.ensures.checked_out) (those_in i.keeper.moves c.args.pid i.checked_out.items c.self.invariant.3)),
+      drained_as i.keeper.drains c.check_in.new.keeper.drains i.journal i.journal c.self.invariant.4 (ap (λ (k : History). k.drains) c.check_in.ensures.keeper) refl refl,
     )
 
 pub returns : goal.returns

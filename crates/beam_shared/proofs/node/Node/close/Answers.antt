@@ -36,9 +36,9 @@ returns-then-are_distinct-clause-counts g c =
 pub returns-then-are_distinct-clause-refused : goal.returns-then-are_distinct-clause-refused
 returns-then-are_distinct-clause-refused g c =
     let i = c.node.inside in
-    let were : WereEachRefused i.keeper.journal i.keeper.moves g.B.NodeBrand.limit c.args.seats.items = c.are_distinct.ensures.refused c.if-are_distinct.true in
-    let of_journal : WereEachRefused i.journal.entries i.keeper.moves g.B.NodeBrand.limit c.args.seats.items
-    = subst (λ journal. WereEachRefused journal i.keeper.moves g.B.NodeBrand.limit c.args.seats.items) c.node.invariant.0.known_is were in
-    let at_limit : WereEachRefused i.journal.entries i.keeper.moves i.journal.limit c.args.seats.items
-    = subst (λ limit. WereEachRefused i.journal.entries i.keeper.moves limit c.args.seats.items) (sym c.node.invariant.2) of_journal in
+    let were : WereEachRefused i.keeper.journal i.keeper.moves i.keeper.drains g.B.NodeBrand.limit c.args.seats.items = c.are_distinct.ensures.refused c.if-are_distinct.true in
+    let of_journal : WereEachRefused i.journal.entries i.keeper.moves i.keeper.drains g.B.NodeBrand.limit c.args.seats.items
+    = subst (λ journal. WereEachRefused journal i.keeper.moves i.keeper.drains g.B.NodeBrand.limit c.args.seats.items) c.node.invariant.0.known_is were in
+    let at_limit : WereEachRefused i.journal.entries i.keeper.moves i.keeper.drains i.journal.limit c.args.seats.items
+    = subst (λ limit. WereEachRefused i.journal.entries i.keeper.moves i.keeper.drains limit c.args.seats.items) (sym c.node.invariant.2) of_journal in
     subst (λ (n : Node). WereAllRefused n c.args.seats.items) c.node.view_is at_limit

@@ -1,9 +1,11 @@
-use Rattle.std.proofs.Common.{◌≡◌, ◌≢◌, ◌<◌, ◌≤◌, false, length, map, Some, Ok, Err, refl, sym, ap, subst, ◌∙◌, arith}
+use Rattle.std.proofs.Common.{◌≡◌, ◌≢◌, ◌<◌, ◌≤◌, [], ◌∷◌, false, length, map, Some, Ok, Err, refl, sym, ap, subst, ◌∙◌, arith}
 use Rattle.beam_machine.specs.Prelude.{DebugAnswers}
 use Rattle.beam_debug.specs.Prelude.{reply_of}
+use Rattle.beam_journal.specs.Entering.{entry_of, in_memory}
 use Rattle.beam_receipts.specs.Receipts.{History, SeatHistory}
 use Rattle.beam_receipts.specs.declared.refusal.Refusal.TheVariants.{Node as OfNode}
 use Rattle.beam_shared.specs.Prelude.{AreThoseOut, context_after, checked_out_of, node_of, NodeInvariant, must_wait, RefusesCommand}
+use Rattle.beam_shared.proofs.Drains.{drained_as, drained_on}
 use Rattle.beam_shared.proofs.Keeping.{kept_after, kept_as, same_node}
 use Rattle.beam_shared.proofs.Refused.{nothing_changed, it_refuses_command}
 use Rattle.beam_shared.proofs.Capacities.{more_capacity}
@@ -20,23 +22,25 @@ invariant_of-self-in-Err g c =
       more_capacity i.debugger c.apply.new.self i.checked_out.items c.apply.ensures.capacity c.self.invariant.1,
       c.make_room.ensures.limit ∙ c.self.invariant.2,
       subst (λ (k : History). AreThoseOut k.moves i.checked_out.items) (sym c.check_seat.ensures.keeper) c.self.invariant.3,
+      drained_as i.keeper.drains c.check_seat.new.self.drains i.journal c.make_room.new.journal c.self.invariant.4 (ap (λ (k : History). k.drains) c.check_seat.ensures.keeper)
+          c.make_room.ensures.entries c.make_room.ensures.drained,
     )
 
 pub refuse-requires-in-Err : goal.refuse-requires-in-Err
 refuse-requires-in-Err g c =
     let i = c.self.inside in
-    let few : length i.journal.entries ≢ i.journal.limit = λ full. absurd (cc (c.is_full.ensures.1 full, c.if-is_full.false)) in
+    let few : in_memory i.journal.entries i.journal.drained ≢ i.journal.limit = λ full. absurd (cc (c.is_full.ensures.1 full, c.if-is_full.false)) in
     let free : must_wait (map checked_out_of i.checked_out.items) c.args.event ≡ false = ap (λ entries. must_wait (map checked_out_of entries) c.args.event) (sym c.deref.ensures.value) ∙ (sym c.must_wait.ensures ∙ c.if-must_wait.false) in
     let next : DebugAnswers i.debugger.state c.args.event (Err c.in-Err.refused) c.apply.new.self.state = c.in-Err.ensures.next in
     subst (λ n. RefusesCommand n c.args.event (OfNode c.in-Err.refused))
     (sym (same_node i.debugger.state c.apply.new.self.state i.journal c.make_room.new.journal i.keeper c.check_seat.new.self i.checked_out.items
-    (nothing_changed i.debugger.state c.apply.new.self.state c.args.event c.in-Err.refused next) c.make_room.ensures.entries c.make_room.ensures.limit c.check_seat.ensures.keeper))
+    (nothing_changed i.debugger.state c.apply.new.self.state c.args.event c.in-Err.refused next) c.make_room.ensures.entries c.make_room.ensures.drained c.make_room.ensures.limit c.check_seat.ensures.keeper))
     (it_refuses_command (node_of i.debugger.state i.journal i.keeper i.checked_out.items) c.apply.new.self.state c.args.event c.in-Err.refused few free next)
 
 pub returns-in-Err-clause-refused : goal.returns-in-Err-clause-refused
 returns-in-Err-clause-refused g c =
     let i = c.self.inside in
-    let few : length i.journal.entries ≢ i.journal.limit = λ full. absurd (cc (c.is_full.ensures.1 full, c.if-is_full.false)) in
+    let few : in_memory i.journal.entries i.journal.drained ≢ i.journal.limit = λ full. absurd (cc (c.is_full.ensures.1 full, c.if-is_full.false)) in
     let free : must_wait (map checked_out_of i.checked_out.items) c.args.event ≡ false = ap (λ entries. must_wait (map checked_out_of entries) c.args.event) (sym c.deref.ensures.value) ∙ (sym c.must_wait.ensures ∙ c.if-must_wait.false) in
     let next : DebugAnswers i.debugger.state c.args.event (Err c.in-Err.refused) c.apply.new.self.state = c.in-Err.ensures.next in
     subst (λ n. RefusesCommand n c.args.event (OfNode c.in-Err.refused)) c.self.view_is
@@ -48,7 +52,7 @@ returns-in-Err-clause-err g c =
     let next : DebugAnswers i.debugger.state c.args.event (Err c.in-Err.refused) c.apply.new.self.state = c.in-Err.ensures.next in
     c.refuse-in-Err.ensures.node
     ∙ (same_node i.debugger.state c.apply.new.self.state i.journal c.make_room.new.journal i.keeper c.check_seat.new.self i.checked_out.items
-    (nothing_changed i.debugger.state c.apply.new.self.state c.args.event c.in-Err.refused next) c.make_room.ensures.entries c.make_room.ensures.limit c.check_seat.ensures.keeper
+    (nothing_changed i.debugger.state c.apply.new.self.state c.args.event c.in-Err.refused next) c.make_room.ensures.entries c.make_room.ensures.drained c.make_room.ensures.limit c.check_seat.ensures.keeper
     ∙ c.self.view_is)
 
 pub invariant_of-self-2 : goal.invariant_of-self-2
@@ -73,4 +77,9 @@ invariant_of-self-2 g c =
       c.enter_for_seat.ensures.limit ∙ (c.make_room.ensures.limit ∙ c.self.invariant.2),
       subst (λ moves. AreThoseOut moves i.checked_out.items) (sym (ap (λ (l : History). l.moves) (c.enter_for_seat.ensures.keeper)
           ∙ ap (λ (l : History). l.moves) c.check_seat.ensures.keeper)) c.self.invariant.3,
+      drained_on i.keeper.drains c.enter_for_seat.new.keeper.drains c.make_room.new.journal c.enter_for_seat.new.journal
+          (entry_of c.args.event (Some c.check_seat.new.seat.number) (reply_of c.in-Ok-apply.reply) ∷ [])
+          (drained_as i.keeper.drains i.keeper.drains i.journal c.make_room.new.journal c.self.invariant.4 refl c.make_room.ensures.entries c.make_room.ensures.drained)
+          (ap (λ (l : History). l.drains) c.enter_for_seat.ensures.keeper ∙ ap (λ (l : History). l.drains) c.check_seat.ensures.keeper)
+          c.enter_for_seat.ensures.entered c.enter_for_seat.ensures.drained,
     )

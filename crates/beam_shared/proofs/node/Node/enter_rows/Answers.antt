@@ -3,10 +3,11 @@ use Rattle.beam_machine.specs.declared.debug.DebugEvent.TheVariants.{Node as Nod
 use Rattle.beam_machine.specs.declared.event.Event.TheVariants.{Steps}
 use Rattle.beam_machine.specs.Prelude.{DebugNext, debug_next, debug_after, debug_cut_event, replay}
 use Rattle.beam_debug.specs.Prelude.{reply_of, AreSlices}
-use Rattle.beam_journal.specs.Entering.{Accepts, entry_of}
+use Rattle.beam_journal.specs.Entering.{Accepts, entry_of, in_memory}
 use Rattle.beam_receipts.specs.Receipts.{History, moved_in}
 use Rattle.beam_shared.specs.Prelude.{advanced, event_of, checked_in, checked_out_of, AreThoseOut, HasCapacityFor, NodeInvariant, node_of, Node, serial_of, without_entry}
 use Rattle.beam_shared.proofs.CommittedRows.{not_cut, rows_answer}
+use Rattle.beam_shared.proofs.Drains.{drained_as, drained_on}
 use Rattle.beam_shared.proofs.Returning.{advanced_is, fewer, kept_on, kept_without, taken}
 use Rattle.beam_shared.proofs.ThoseOut.{those_in}
 use Rattle.beam_shared.proofs.Capacities.{more_capacity, capacity_for, capacity_without}
@@ -21,6 +22,7 @@ invariant_of-self g c =
       c.self.invariant.2,
       subst (λ moves. AreThoseOut moves c.check_in.new.checked_out.items) (sym (ap (λ (k : History). k.moves) c.check_in.ensures.keeper))
           (subst (AreThoseOut (i.keeper.moves ++ moved_in c.args.pid ∷ [])) (sym c.check_in.ensures.checked_out) (those_in i.keeper.moves c.args.pid i.checked_out.items c.self.invariant.3)),
+      drained_as i.keeper.drains c.check_in.new.keeper.drains i.journal i.journal c.self.invariant.4 (ap (λ (k : History). k.drains) c.check_in.ensures.keeper) refl refl,
     )
 
 pub returns-then-is_full-clause-back : goal.returns-then-is_full-clause-back
@@ -81,6 +83,8 @@ invariant_of-self-in-Ok g c =
       c.enter_without_seat.ensures.limit ∙ c.self.invariant.2,
       subst (λ moves. AreThoseOut moves c.check_in-2.new.checked_out.items) (sym (ap (λ (l : History). l.moves) is))
           (subst (AreThoseOut (known.moves ++ moved_in pid ∷ [])) (sym c.check_in-2.ensures.checked_out) (those_in known.moves pid i.checked_out.items c.self.invariant.3)),
+      drained_on known.drains later.drains j k (entry_of (event_of pid rows) None reply ∷ []) c.self.invariant.4 (ap (λ (l : History). l.drains) is) entered
+          c.enter_without_seat.ensures.drained,
     )
 
 pub invariant_of-self-in-Err : goal.invariant_of-self-in-Err
@@ -95,6 +99,7 @@ invariant_of-self-in-Err g c =
       c.self.invariant.2,
       subst (λ moves. AreThoseOut moves c.check_in-2.new.checked_out.items) (sym (ap (λ (k : History). k.moves) c.check_in-2.ensures.keeper))
           (subst (AreThoseOut (i.keeper.moves ++ moved_in c.args.pid ∷ [])) (sym c.check_in-2.ensures.checked_out) (those_in i.keeper.moves c.args.pid i.checked_out.items c.self.invariant.3)),
+      drained_as i.keeper.drains c.check_in-2.new.keeper.drains i.journal i.journal c.self.invariant.4 (ap (λ (k : History). k.drains) c.check_in-2.ensures.keeper) refl refl,
     )
 
 -- the process can be held without memory, since it is checked out
@@ -104,7 +109,7 @@ returns-in-Err-clause-dropped g c =
     let there : is_some (serial_of c.args.pid (map checked_out_of i.checked_out.items)) ≡ true = subst (λ (n : Node). is_some (serial_of c.args.pid n.checked_out) ≡ true) (sym c.self.view_is) c.requires.checked_out in
     let less : c.args.pid < i.debugger.capacity = capacity_for i.debugger c.args.pid i.checked_out.items c.self.invariant.1 there in (
       λ full.
-          let was : length i.journal.entries ≡ i.journal.limit = subst (λ (n : Node). length n.journal ≡ n.limit) (sym c.self.view_is) full in
+          let was : in_memory i.journal.entries i.journal.drained ≡ i.journal.limit = subst (λ (n : Node). in_memory n.journal n.drained ≡ n.limit) (sym c.self.view_is) full in
           absurd (cc (c.is_full.ensures.1 was, c.if-is_full.false)),
       λ quiet. c.in-Err.ensures.quiet (quiet, less),
     )
@@ -133,11 +138,11 @@ returns-in-Ok-clause-commits g c =
     ∙ ap (λ (l : History). record l { journal = l.journal ++ entry_of (NodeEvent (Steps pid c.rows_asked-asked.result)) None reply ∷ [] }) noted) in (
       c.requires.some,
       λ full.
-          let was : length j.entries ≡ j.limit = subst (λ (n : Node). length n.journal ≡ n.limit) (sym c.self.view_is) full in
+          let was : in_memory j.entries j.drained ≡ j.limit = subst (λ (n : Node). in_memory n.journal n.drained ≡ n.limit) (sym c.self.view_is) full in
           absurd (cc (c.is_full.ensures.1 was, c.if-is_full.false)),
       ap (λ (n : Node). (debug_next n.state (event_of pid rows)).answer) (sym c.self.view_is) ∙ says,
       ap (node_of x k later) c.check_in-2.ensures.checked_out
-          ∙ (advanced_is d x j k known later i.checked_out.items pid rows reply c.in-Ok.ensures.next (not_cut d pid rows reply slices says) entered c.enter_without_seat.ensures.limit is
+          ∙ (advanced_is d x j k known later i.checked_out.items pid rows reply c.in-Ok.ensures.next (not_cut d pid rows reply slices says) entered c.enter_without_seat.ensures.drained c.enter_without_seat.ensures.limit is
           ∙ ap (λ n. advanced n pid rows reply) c.self.view_is),
     )
 

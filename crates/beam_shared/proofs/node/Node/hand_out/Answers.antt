@@ -2,11 +2,13 @@ use Rattle.std.proofs.Common.{◌≡◌, ◌≤◌, ◌<◌, ◌+◌, ◌-◌, �
 use Rattle.beam_machine.specs.Prelude.{live_process}
 use Rattle.beam_machine.specs.declared.event.Event.TheVariants.{Deliver}
 use Rattle.beam_machine.specs.declared.debug.DebugEvent.TheVariants.{Node as NodeEvent}
+use Rattle.beam_journal.specs.Entering.{NodeJournal}
 use Rattle.beam_laws.specs.Prelude.{IsEarlierCode, Origin, IsOut}
 use Rattle.beam_receipts.specs.Receipts.{Checkout, History, moved_out}
 use Rattle.beam_rows.specs.Prelude.{AlwaysFinds}
 use Rattle.beam_shared.specs.declared.checked_out.CheckoutEntry.{CheckoutEntry}
-use Rattle.beam_shared.specs.Prelude.{CodeContext, process_has_incoming, delivered_if, origin, origin_in, checked_out_of, origin_by, context_in, AreThoseOut, HasCapacityFor, NodeInvariant, must_wait, refusal_of, why_not}
+use Rattle.beam_shared.specs.Prelude.{CodeContext, process_has_incoming, deliveries, delivered_if, origin, origin_in, checked_out_of, origin_by, context_in, AreThoseOut, HasCapacityFor, NodeInvariant, must_wait, refusal_of, why_not}
+use Rattle.beam_shared.proofs.Drains.{drained_as, drained_on}
 use Rattle.beam_shared.proofs.Entries.{is_free}
 use Rattle.beam_shared.proofs.HandedOut.{handed_out, not_out}
 use Rattle.beam_shared.proofs.Keeping.{context_delivered, handed_entry, kept_as, kept_delivered, kept_with, min_is}
@@ -62,6 +64,10 @@ invariant_of-self-2 g c =
       subst (λ moves. AreThoseOut moves c.push_reserved.new.self.items) (sym (ap (λ (l : History). l.moves) c.hand_out-ticket.ensures.keeper))
           (subst (AreThoseOut (later.moves ++ moved_out pid ∷ [])) (sym entries)
           (those_out later.moves i.checked_out.items entry (subst (λ moves. AreThoseOut moves i.checked_out.items) (sym (ap (λ (l : History). l.moves) c.in_ok-deliver.ensures.keeper)) c.self.invariant.3))),
+      drained_on i.keeper.drains c.hand_out-ticket.new.keeper.drains c.make_room.new.journal k (deliveries pid b)
+          (drained_as i.keeper.drains i.keeper.drains i.journal c.make_room.new.journal c.self.invariant.4 refl c.make_room.ensures.entries c.make_room.ensures.drained)
+          (ap (λ (l : History). l.drains) c.hand_out-ticket.ensures.keeper ∙ ap (λ (l : History). l.drains) c.in_ok-deliver.ensures.keeper)
+          c.in_ok-deliver.ensures.entered c.deliver.ensures.drained,
     )
 
 pub invariant_of-result : goal.invariant_of-result
@@ -69,3 +75,39 @@ invariant_of-result g c =
     let o : Origin = origin_by c.args.pid c.args.work c.args.context in
     let is : c.hand_out-ticket.result.origin ≡ o = ap (λ (t : Checkout). t.origin) c.hand_out-ticket.ensures.ticket in
     (search rules, search rules, search rules, subst (λ (z : Origin). AlwaysFinds z.code z.process) (sym is) c.requires.finds)
+
+pub invariant_of-self-in_err-make_room : goal.invariant_of-self-in_err-make_room
+invariant_of-self-in_err-make_room g c =
+    let i = c.self.inside in
+    let items : c.reserve.new.self.items ≡ i.checked_out.items = c.in_ok-reserve.ensures.items in
+    let roomy : length i.checked_out.items ≤ c.make_room.new.journal.capacity = omega (arith, c.self.invariant.0.capacity, c.make_room.ensures.kept) in
+    let kept = kept_as i.debugger.state c.reserve-2.new.self.state i.journal c.make_room.new.journal i.keeper i.keeper i.checked_out.items i.changes i.context c.self.invariant.0
+    c.reserve-2.ensures.state c.make_room.ensures.entries refl roomy in (
+      subst (λ entries. NodeInvariant c.reserve-2.new.self.state c.make_room.new.journal i.keeper entries i.changes i.context) (sym items) kept,
+      subst (λ entries. HasCapacityFor c.reserve-2.new.self entries) (sym items)
+          (more_capacity i.debugger c.reserve-2.new.self i.checked_out.items c.reserve-2.ensures.kept c.self.invariant.1),
+      c.make_room.ensures.limit ∙ c.self.invariant.2,
+      subst (λ entries. AreThoseOut i.keeper.moves entries) (sym items) c.self.invariant.3,
+      drained_as i.keeper.drains i.keeper.drains i.journal c.make_room.new.journal c.self.invariant.4 refl c.make_room.ensures.entries c.make_room.ensures.drained,
+    )
+
+pub invariant_of-self-in_err-deliver : goal.invariant_of-self-in_err-deliver
+invariant_of-self-in_err-deliver g c =
+    let i = c.self.inside in
+    let items : c.reserve.new.self.items ≡ i.checked_out.items = c.in_ok-reserve.ensures.items in
+    let same : c.deliver.new.journal ≡ c.make_room.new.journal = c.in_err-deliver.ensures.err.1 in
+    let keeper : c.deliver.new.keeper ≡ i.keeper = c.in_err-deliver.ensures.err.2 in
+    let entries : c.deliver.new.journal.entries ≡ i.journal.entries = ap (λ (j : NodeJournal). j.entries) same ∙ c.make_room.ensures.entries in
+    let drained : c.deliver.new.journal.drained ≡ i.journal.drained = ap (λ (j : NodeJournal). j.drained) same ∙ c.make_room.ensures.drained in
+    let limit : c.deliver.new.journal.limit ≡ i.journal.limit = ap (λ (j : NodeJournal). j.limit) same ∙ c.make_room.ensures.limit in
+    let capacity : c.deliver.new.journal.capacity ≡ c.make_room.new.journal.capacity = ap (λ (j : NodeJournal). j.capacity) same in
+    let roomy : length i.checked_out.items ≤ c.deliver.new.journal.capacity = omega (arith, c.self.invariant.0.capacity, c.make_room.ensures.kept, capacity) in
+    let more : i.debugger.capacity ≤ c.deliver.new.debugger.capacity = omega (arith, c.reserve-2.ensures.kept, c.deliver.ensures.held_capacity) in
+    let kept = kept_as i.debugger.state c.deliver.new.debugger.state i.journal c.deliver.new.journal i.keeper c.deliver.new.keeper i.checked_out.items i.changes i.context
+    c.self.invariant.0 (c.in_err-deliver.ensures.err.0 ∙ c.reserve-2.ensures.state) entries keeper roomy in (
+      subst (λ entries. NodeInvariant c.deliver.new.debugger.state c.deliver.new.journal c.deliver.new.keeper entries i.changes i.context) (sym items) kept,
+      subst (λ entries. HasCapacityFor c.deliver.new.debugger entries) (sym items) (more_capacity i.debugger c.deliver.new.debugger i.checked_out.items more c.self.invariant.1),
+      limit ∙ c.self.invariant.2,
+      subst (λ (k : History). AreThoseOut k.moves c.reserve.new.self.items) (sym keeper) (subst (λ entries. AreThoseOut i.keeper.moves entries) (sym items) c.self.invariant.3),
+      drained_as i.keeper.drains c.deliver.new.keeper.drains i.journal c.deliver.new.journal c.self.invariant.4 (ap (λ (k : History). k.drains) keeper) entries drained,
+    )
