@@ -3,3 +3,4 @@ pub mod Keeping
 pub mod Ports
 pub mod Crossing
 pub mod WrittenEntries
+pub mod Pieces

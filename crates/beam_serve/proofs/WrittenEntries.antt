@@ -1,31 +1,8 @@
--- The entries that a journal's file doesn't have yet.
-use Rattle.std.proofs.Common.{◌≡◌, ◌∙◌, ◌+◌, ◌-◌, ◌^◌, ◌<◌, ◌≤◌, ◌++◌, ◌∷◌, [], ℕ, List, ap, arith, drop, length, min, subst, sym, append_assoc}
-use Rattle.std.specs.List.{IsSplitAt}
-use Rattle.std.proofs.Math.Nat.{min-eq_left}
-use Rattle.std.proofs.Math.Seq.{drop-append_seam}
-use Rattle.std.proofs.lemmas.List.{length-append}
+-- Entries that left a node's memory, on their way to its journal's file.
+use Rattle.std.proofs.Common.{◌≡◌, ◌∙◌, ◌+◌, ◌++◌, ◌∷◌, [], List, OnErr, OnOk, Result, Ok, Err, ap, arith, subst, sym, append_assoc, append-nil}
 use Rattle.beam_journal_file.specs.WrittenJournal.{HasTaken, HasWritten, WrittenJournal}
 use Rattle.beam_machine.specs.Prelude.{SentEvent}
-use Rattle.beam_serve.specs.WrittenEntries.{HasAllBut, HasFirst}
-
--- those are the events after as many as stand in the file and in its page
-pub those_after : (sent : List SentEvent) (j : WrittenJournal) → HasFirst sent j → HasAllBut sent j (drop (j.written + j.taken) sent)
-those_after sent j (end, (written, taken, w, t, is)) =
-    let count : length (written ++ taken) ≡ j.written + j.taken = length-append written taken ∙ ap (λ n. n + length taken) w.0 ∙ ap (λ n. j.written + n) t.0 in
-    let rest : drop (j.written + j.taken) sent ≡ end =
-    ap (λ n. drop n sent) (sym count) ∙ ap (λ (l : List SentEvent). drop (length (written ++ taken)) l) is ∙ drop-append_seam (written ++ taken) end in
-    (written, taken, w, t, is ∙ ap (λ (l : List SentEvent). (written ++ taken) ++ l) (sym rest))
-
--- those are the events after the first ones, as many as the writer says that it has
-pub those_behind : (sent first end : List SentEvent) (j : WrittenJournal) (count : ℕ) → IsSplitAt sent count first end
-    → count ≡ min (j.written + j.taken) (2 ^ 64 - 1) → length sent < 2 ^ 64 → HasFirst sent j → HasAllBut sent j end
-those_behind sent first end j count split least short has =
-    let (rest, (written, taken, w, t, is)) = has in
-    let all : length sent ≡ (length written + length taken) + length rest = ap length is ∙ length-append (written ++ taken) rest ∙ ap (λ n. n + length rest) (length-append written taken) in
-    let fits : j.written + j.taken ≤ 2 ^ 64 - 1 = omega (arith, w.0, t.0, all, short) in
-    subst (λ (l : List SentEvent). HasAllBut sent j l)
-    (ap (λ n. drop n sent) (sym (min-eq_left fits) ∙ sym least) ∙ sym split.2)
-    (those_after sent j has)
+use Rattle.beam_serve.specs.WrittenEntries.{HasAllBut}
 
 -- a writer with the same file has what the other one had written
 same_written : (j k : WrittenJournal) (ss : List SentEvent) → k.file ≡ j.file → k.written ≡ j.written → HasWritten j ss → HasWritten k ss
@@ -47,3 +24,46 @@ one_more sent j k s end file count more (written, taken, w, t, is) = (
 pub no_more : (sent : List SentEvent) (j k : WrittenJournal) (end : List SentEvent) → k.file ≡ j.file → k.written ≡ j.written
     → ((ss : List SentEvent) → HasTaken j ss → HasTaken k ss) → HasAllBut sent j end → HasAllBut sent k end
 no_more sent j k end file count more (written, taken, w, t, is) = (written, taken, same_written j k written file count w, more taken t, is)
+
+-- more entries leave memory, where the file and its page have all that left it before
+pub more_left : (old new more : List SentEvent) (j : WrittenJournal) (end : List SentEvent) → end ≡ [] → new ≡ old ++ more → HasAllBut old j end → HasAllBut new j more
+more_left old new more j end over is (written, taken, w, t, was) = (
+  written,
+  taken,
+  w,
+  t,
+  is ∙ ap (λ (l : List SentEvent). l ++ more) (was ∙ (ap (λ (l : List SentEvent). (written ++ taken) ++ l) over ∙ append-nil (written ++ taken))),
+)
+
+-- a page without entries
+none_taken : (k : WrittenJournal) → k.taken ≡ 0 → HasTaken k []
+none_taken k none = (sym none, λ some. absurd (omega (arith, none, some)))
+
+-- a writer with the same page, in the same place, has taken what the other one had
+same_taken : (j k : WrittenJournal) (ss : List SentEvent) → k.page ≡ j.page → k.taken ≡ j.taken → k.written ≡ j.written → HasTaken j ss → HasTaken k ss
+same_taken j k ss page number place t =
+    subst (λ p. HasTaken (record k { page = p }) ss) (sym page)
+    (subst (λ n. HasTaken (record k { page = j.page; taken = n }) ss) (sym number)
+    (subst (λ n. HasTaken (record k { page = j.page; taken = j.taken; written = n }) ss) (sym place) t))
+
+-- the page is written, or it stays
+pub page_written : {A F : Type 0} (result : Result A F) (sent : List SentEvent) (j k : WrittenJournal) (end : List SentEvent)
+    → OnOk result ((kept taken : List SentEvent) → HasWritten j kept → HasTaken j taken → HasWritten k (kept ++ taken))
+    → OnOk result ((k.written ≡ j.written + j.taken) × (k.taken ≡ 0))
+    → OnErr result ((kept : List SentEvent) → HasWritten j kept → HasWritten k kept)
+    → OnErr result ((k.page ≡ j.page) × (k.taken ≡ j.taken) × (k.written ≡ j.written))
+    → HasAllBut sent j end → HasAllBut sent k end
+page_written (Ok a) sent j k end more counts kept same (written, taken, w, t, is) = (
+  written ++ taken,
+  [],
+  more written taken w t,
+  none_taken k counts.1,
+  is ∙ ap (λ (l : List SentEvent). l ++ end) (sym (append-nil (written ++ taken))),
+)
+page_written (Err f) sent j k end more counts kept (page, number, place) (written, taken, w, t, is) = (
+  written,
+  taken,
+  kept written w,
+  same_taken j k taken page number place t,
+  is,
+)

@@ -43,10 +43,18 @@ impl Accepting {
 
 /// Hands out the connections to a listening endpoint. One thread at a time waits for the next connection, and the others for their turn, so
 /// that none is left waiting once no more are accepted.
-#[derive(Drop)]
 pub struct Acceptor<'a> {
     endpoint: Endpoint<'a>,
     accepting: Mutex<Accepting>,
+}
+
+impl<'a> Drop for Acceptor<'a> {
+    fn drop(self) {
+        let Acceptor {
+            endpoint: _endpoint,
+            accepting: _accepting,
+        } = self;
+    }
 }
 
 impl<'a> Acceptor<'a> {

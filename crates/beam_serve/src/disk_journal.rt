@@ -1,18 +1,28 @@
 //! A node's journal on disk: which entries stand there, and the thread that writes more.
 
-use crate::journal_page::take_entries;
+use crate::node_file::NodeFile;
 use beam_block_file::Shelf;
-use beam_journal_file::{JournalWriter, WriteFailed};
+use beam_journal_file::WriteFailed;
 use beam_receipts::brand::NodeBrand;
 use beam_sched::shared::Shared;
 use beam_tools::line::SyncMode;
+use std::sync::atomic::{AtomicU64, Ordering};
 use std::sync::{Condvar, CondvarTimeouts, Mutex, Wait};
 use std::time::{Clock, Duration};
+
+/// What a thread waits for.
+#[derive(Clone, Copy, Debug, PartialEq, Eq)]
+pub(crate) enum Awaited {
+    /// The first entries of the journal, this many, are kept as the command line asks for, so that answers may be told.
+    Kept(u64),
+    /// Of the first entries of the journal, this many, the file lacks no more than it may.
+    Near(u64),
+}
 
 /// What became of a thread's turn at the file.
 #[derive(Clone, Copy, Debug, PartialEq, Eq)]
 pub(crate) enum Turn {
-    /// The answer may be told.
+    /// The thread needn't wait.
     Kept,
     /// The file has more than before, or another thread has written.
     GoesOn,
@@ -23,14 +33,21 @@ pub(crate) enum Turn {
 }
 
 /// How far the file is.
-#[derive(Drop)]
-struct Progress<S: Shelf + Drop> {
-    /// The file, unless a thread writes to it.
-    writer: Option<JournalWriter<S>>,
+#[derive(Clone, Copy, Debug, PartialEq, Eq)]
+pub(crate) struct FileCounts {
     /// How many entries stand in the file.
-    written: u64,
-    /// How many of them are on the device.
-    synced: u64,
+    pub written: u64,
+    /// How many of them are known to be on the device.
+    pub synced: u64,
+    /// How many bytes the file has.
+    pub bytes: u64,
+}
+
+/// The file, and how far it is.
+struct Progress<B: NodeBrand, S: Shelf + Drop> {
+    /// The file, unless a thread writes to it.
+    file: Option<NodeFile<B, S>>,
+    counts: FileCounts,
     /// Whether the last try to write was refused.
     is_refused: bool,
     /// Whether a thread writes from time to time, and tries again what was refused.
@@ -43,7 +60,21 @@ struct Progress<S: Shelf + Drop> {
     left: usize,
 }
 
-impl<S: Shelf + Drop> Progress<S> {
+impl<B: NodeBrand, S: Shelf + Drop> Drop for Progress<B, S> {
+    fn drop(self) {
+        let Progress {
+            file: _file,
+            counts: _counts,
+            is_refused: _is_refused,
+            has_thread: _has_thread,
+            failure: _failure,
+            senders: _senders,
+            left: _left,
+        } = self;
+    }
+}
+
+impl<B: NodeBrand, S: Shelf + Drop> Progress<B, S> {
     /// Whether no thread gives commands any more.
     fn is_left(&self) -> bool {
         match self.senders {
@@ -54,26 +85,46 @@ impl<S: Shelf + Drop> Progress<S> {
 }
 
 /// The file of a node's journal, which threads write in turn: a thread that needs entries to stand there writes all that there are, unless
-/// another one is writing. The lock is held only to see how far the file is.
-#[derive(Drop)]
-pub(crate) struct DiskJournal<S: Shelf + Drop> {
-    progress: Mutex<Progress<S>>,
+/// another one is writing. The lock is held only to see how far the file is. Entries that are written leave memory.
+pub(crate) struct DiskJournal<B: NodeBrand, S: Shelf + Drop> {
+    progress: Mutex<Progress<B, S>>,
     /// The file has more than before, or it failed.
     advanced: Condvar,
     /// A thread gives no more commands.
     has_left: Condvar,
+    /// How many entries stand in the file, for threads that look without the lock.
+    written: AtomicU64,
     sync: SyncMode,
+    /// How many entries of the journal the file may lack before those that enter further ones wait.
+    most_behind: u64,
 }
 
-impl<S: Shelf + Drop> DiskJournal<S> {
-    /// The file of a writer, all of which is on the device.
-    pub(crate) fn new(writer: JournalWriter<S>, sync: SyncMode) -> DiskJournal<S> {
-        let written = writer.written();
+impl<B: NodeBrand, S: Shelf + Drop> Drop for DiskJournal<B, S> {
+    fn drop(self) {
+        let DiskJournal {
+            progress: _progress,
+            advanced: _advanced,
+            has_left: _has_left,
+            written: _written,
+            sync: _sync,
+            most_behind: _most_behind,
+        } = self;
+    }
+}
+
+impl<B: NodeBrand, S: Shelf + Drop> DiskJournal<B, S> {
+    /// A file, all of which is on the device.
+    pub(crate) fn new(file: NodeFile<B, S>, sync: SyncMode, most_behind: u64) -> DiskJournal<B, S> {
+        let written = file.written();
+        let counts = FileCounts {
+            written,
+            synced: written,
+            bytes: file.bytes(),
+        };
         DiskJournal {
             progress: Mutex::new(Progress {
-                writer: Some(writer),
-                written,
-                synced: written,
+                file: Some(file),
+                counts,
                 is_refused: false,
                 has_thread: false,
                 failure: None,
@@ -82,17 +133,32 @@ impl<S: Shelf + Drop> DiskJournal<S> {
             }),
             advanced: Condvar::new(),
             has_left: Condvar::new(),
+            written: AtomicU64::new(written),
             sync,
+            most_behind,
         }
     }
 
-    /// How many entries may be told.
-    fn kept(&self, progress: &Progress<S>) -> u64 {
-        match self.sync {
-            SyncMode::No => u64::MAX,
-            SyncMode::Second => progress.written,
-            SyncMode::Always => progress.synced,
+    /// Whether the file lacks no more of that many entries than it may, where this many stand in it.
+    fn is_near(&self, written: u64, count: u64) -> bool {
+        written.saturating_add(self.most_behind) >= count
+    }
+
+    /// Whether a thread needn't wait, where this many entries stand in the file and this many of them are on the device.
+    fn has(&self, written: u64, synced: u64, awaited: Awaited) -> bool {
+        match awaited {
+            Awaited::Near(count) => self.is_near(written, count),
+            Awaited::Kept(count) => match self.sync {
+                SyncMode::No => self.is_near(written, count),
+                SyncMode::Second => written >= count,
+                SyncMode::Always => synced >= count,
+            },
         }
+    }
+
+    /// Whether a thread needn't wait, as far as that is seen without the lock.
+    pub(crate) fn has_by_now(&self, awaited: Awaited) -> bool {
+        self.has(self.written.load(Ordering::Acquire), 0, awaited)
     }
 
     /// Whether all written entries are to be on the device before a thread lets the file go.
@@ -105,18 +171,19 @@ impl<S: Shelf + Drop> DiskJournal<S> {
     fn give_back<R: Wait>(
         &self,
         rt: &R,
-        writer: JournalWriter<S>,
+        file: NodeFile<B, S>,
         outcome: Result<(), WriteFailed>,
     ) -> Turn {
         let mut progress = self.progress.lock(rt);
-        progress.written = writer.written();
-        progress.writer = Some(writer);
+        progress.counts.written = file.written();
+        progress.counts.bytes = file.bytes();
+        progress.file = Some(file);
         let is_first = !progress.is_refused;
         progress.is_refused = outcome.is_err();
         let turn = match outcome {
             Ok(()) => {
                 if self.syncs_always() {
-                    progress.synced = progress.written;
+                    progress.counts.synced = progress.counts.written;
                 }
                 Turn::GoesOn
             }
@@ -130,78 +197,72 @@ impl<S: Shelf + Drop> DiskJournal<S> {
         turn
     }
 
-    /// Writes the entries that the journal has, with a writer that no other thread has.
-    fn write_all<B: NodeBrand, R: Wait>(
+    /// Writes the entries that the journal has when it is called, with a file that no other thread has. They leave memory; no lock is held
+    /// while they are spelled, written and dropped.
+    fn write_all<R: Wait>(
         &self,
         rt: &R,
         shared: &Shared<B>,
-        writer: &mut JournalWriter<S>,
+        file: &mut NodeFile<B, S>,
     ) -> Result<(), WriteFailed> {
-        let wanted = u64::from(shared.entered());
+        let wanted = shared.entered();
         for _ in rt.forever() {
-            if writer.written() >= wanted {
+            if file.written() >= wanted {
                 break;
             }
-            let locked = shared.node().lock(rt);
-            let taken = take_entries(locked.node().entries(), writer);
-            drop(locked);
-            taken?;
-            writer.write()?;
+            file.take(rt, shared)?;
+            file.fill()?;
+            file.write()?;
+            self.written.store(file.written(), Ordering::Release);
         }
         if self.syncs_always() {
-            writer.sync()?;
+            file.sync()?;
         }
         Ok(())
     }
 
-    /// Takes a turn at the file, for a thread whose answer may be told once the first `count` entries are kept: writes what there is, or
-    /// waits until another thread has written. A write that was refused is left to the thread that tries it again.
-    pub(crate) fn take_turn<B: NodeBrand, R: Wait>(
-        &self,
-        rt: &R,
-        shared: &Shared<B>,
-        count: u64,
-    ) -> Turn {
+    /// Takes a turn at the file, for a thread that waits for this: writes what there is, or waits until another thread has written. A write
+    /// that was refused is left to the thread that tries it again.
+    pub(crate) fn take_turn<R: Wait>(&self, rt: &R, shared: &Shared<B>, awaited: Awaited) -> Turn {
         let mut progress = self.progress.lock(rt);
-        if self.kept(&progress) >= count {
+        if self.has(progress.counts.written, progress.counts.synced, awaited) {
             return Turn::Kept;
         }
         if progress.failure.is_some() {
             return Turn::Failed;
         }
-        if !progress.is_refused
-            && let Some(mut writer) = progress.writer.take()
-        {
+        let may_write = !progress.is_refused || !progress.has_thread;
+        if may_write && let Some(mut file) = progress.file.take() {
             drop(progress);
-            let outcome = self.write_all(rt, shared, &mut writer);
-            return self.give_back(rt, writer, outcome);
+            let outcome = self.write_all(rt, shared, &mut file);
+            return self.give_back(rt, file, outcome);
         }
         self.advanced.wait(rt, progress);
         Turn::GoesOn
     }
 
     /// Writes what there is, unless another thread is writing.
-    pub(crate) fn write_new<B: NodeBrand, R: Wait>(&self, rt: &R, shared: &Shared<B>) -> Turn {
+    pub(crate) fn write_new<R: Wait>(&self, rt: &R, shared: &Shared<B>) -> Turn {
         let mut progress = self.progress.lock(rt);
         if progress.failure.is_some() {
             return Turn::Failed;
         }
-        if progress.written >= u64::from(shared.entered()) {
+        if progress.counts.written >= shared.entered() {
             return Turn::Kept;
         }
-        let Some(mut writer) = progress.writer.take() else {
+        let Some(mut file) = progress.file.take() else {
             return Turn::GoesOn;
         };
         drop(progress);
-        let outcome = self.write_all(rt, shared, &mut writer);
-        self.give_back(rt, writer, outcome)
+        let outcome = self.write_all(rt, shared, &mut file);
+        self.give_back(rt, file, outcome)
     }
 
     /// Puts what was written on the device, by another handle of the file, so that threads go on writing. `Failed` where that fails.
     pub(crate) fn sync_written<R: Wait>(&self, rt: &R, handle: &mut S) -> Turn {
         let progress = self.progress.lock(rt);
-        let written = progress.written;
-        let is_synced = progress.synced >= written;
+        let written = progress.counts.written;
+        let is_synced = progress.counts.synced >= written;
         drop(progress);
         if is_synced {
             return Turn::Kept;
@@ -210,7 +271,7 @@ impl<S: Shelf + Drop> DiskJournal<S> {
         let mut progress = self.progress.lock(rt);
         let turn = match outcome {
             Ok(()) => {
-                progress.synced = progress.synced.max(written);
+                progress.counts.synced = progress.counts.synced.max(written);
                 Turn::GoesOn
             }
             Err(failed) => {
@@ -234,10 +295,9 @@ impl<S: Shelf + Drop> DiskJournal<S> {
         self.advanced.notify_all();
     }
 
-    /// How many entries stand in the file, and how many of them are known to be on the device.
-    pub(crate) fn counts<R: Wait>(&self, rt: &R) -> (u64, u64) {
-        let progress = self.progress.lock(rt);
-        (progress.written, progress.synced)
+    /// How far the file is.
+    pub(crate) fn counts<R: Wait>(&self, rt: &R) -> FileCounts {
+        self.progress.lock(rt).counts
     }
 
     /// Why nothing is written any more.
@@ -248,6 +308,13 @@ impl<S: Shelf + Drop> DiskJournal<S> {
     /// A thread writes from time to time from now on.
     pub(crate) fn begin_thread<R: Wait>(&self, rt: &R) {
         self.progress.lock(rt).has_thread = true;
+    }
+
+    /// No thread writes from time to time any more. What was refused is tried again by those that wait for it, once.
+    pub(crate) fn end_thread<R: Wait>(&self, rt: &R) {
+        let mut progress = self.progress.lock(rt);
+        progress.has_thread = false;
+        self.advanced.notify_all();
     }
 
     /// Notes how many threads give commands, those that have left already among them.
@@ -274,20 +341,16 @@ impl<S: Shelf + Drop> DiskJournal<S> {
     }
 
     /// Writes what is left once no thread gives commands any more, and puts all on the device.
-    pub(crate) fn finish<B: NodeBrand, R: Wait>(
-        &self,
-        rt: &R,
-        shared: &Shared<B>,
-    ) -> Result<(), WriteFailed> {
+    pub(crate) fn finish<R: Wait>(&self, rt: &R, shared: &Shared<B>) -> Result<(), WriteFailed> {
         let mut progress = self.progress.lock(rt);
         if let Some(why) = progress.failure {
             return Err(why);
         }
-        let Some(mut writer) = progress.writer.take() else {
+        let Some(mut file) = progress.file.take() else {
             return Ok(());
         };
         drop(progress);
-        self.write_all(rt, shared, &mut writer)?;
-        writer.sync()
+        self.write_all(rt, shared, &mut file)?;
+        file.sync()
     }
 }

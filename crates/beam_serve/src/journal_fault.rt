@@ -86,6 +86,13 @@ pub(crate) fn write_fault<'l>(name: &'l str, why: WriteFailed) -> JobFault<'l>
     }
 }
 
+/// The fault of a file that has more entries than a node can have.
+pub(crate) fn full_fault<'l>(name: &'l str) -> JobFault<'l>
+    ensures { (port : ℕ) → IsOfPort port result }
+{
+    fault(name, JournalFaultKind::Full)
+}
+
 /// The fault of a file whose entries the node doesn't enter again.
 pub(crate) fn recall_fault<'l>(
     name: &'l str,
@@ -98,12 +105,12 @@ pub(crate) fn recall_fault<'l>(
         RecallError::Refused {
             refusal: Refusal::JournalFull,
             ..
-        } => fault(name, JournalFaultKind::Full),
+        } => full_fault(name),
         RecallError::Refused { number, .. } | RecallError::TooManySeats { number } => fault(
             name,
             JournalFaultKind::Bad {
                 at: place.byte,
-                entry: u64::from(number),
+                entry: number,
             },
         ),
         RecallError::Unread(why) => read_fault(name, why, place),

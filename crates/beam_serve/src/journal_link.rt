@@ -1,6 +1,7 @@
-//! What a desk needs to keep its answers back until the journal's file has them.
+//! What threads need to wait for the journal's file: desks, so that answers are told once the file has them, and workers, so that the file
+//! keeps up.
 
-use crate::disk_journal::{DiskJournal, Turn};
+use crate::disk_journal::{Awaited, DiskJournal, Turn};
 use crate::open_sockets::OpenSockets;
 use beam_block_file::FileShelf;
 use beam_journal_file::WriteFailed;
@@ -10,9 +11,9 @@ use log::{Log, warn};
 use std::sync::Wait;
 
 /// The file of the node's journal, and the sockets that are cut off where it can't be written.
-#[derive(Clone, Copy)]
-pub(crate) struct JournalLink<'a> {
-    pub journal: &'a DiskJournal<FileShelf>,
+#[derive_where(Clone, Copy)]
+pub(crate) struct JournalLink<'a, B: NodeBrand> {
+    pub journal: &'a DiskJournal<B, FileShelf>,
     pub sockets: &'a OpenSockets,
 }
 
@@ -23,13 +24,14 @@ pub(crate) fn log_refusal<R: Log>(rt: &R, why: WriteFailed, is_first: bool) {
     }
 }
 
-impl JournalLink<'_> {
-    /// Waits until what the node has answered may be told: until the entries that its journal has now stand in the file, or are on the
-    /// device, as the command line asks for. Where they never will, connections and workers are stopped first, so that nothing is told.
-    pub(crate) fn wait_until_kept<B: NodeBrand, R: Wait + Log>(&self, rt: &R, shared: &Shared<B>) {
-        let count = u64::from(shared.entered());
+impl<B: NodeBrand> JournalLink<'_, B> {
+    /// Waits for this. Where it never comes, since the file can't be written any more, connections and workers are stopped first.
+    fn wait_for<R: Wait + Log>(&self, rt: &R, shared: &Shared<B>, awaited: Awaited) {
+        if self.journal.has_by_now(awaited) {
+            return;
+        }
         for _ in rt.forever() {
-            match self.journal.take_turn(rt, shared, count) {
+            match self.journal.take_turn(rt, shared, awaited) {
                 Turn::Kept => return,
                 Turn::GoesOn => {}
                 Turn::Refused { why, is_first } => log_refusal(rt, why, is_first),
@@ -41,8 +43,21 @@ impl JournalLink<'_> {
         }
     }
 
+    /// Waits until what the node has answered may be told: until the entries that its journal has now stand in the file, or are on the
+    /// device, or the file lacks no more of them than it may, as the command line asks for. Where they never will, connections and workers
+    /// are stopped first, so that nothing is told.
+    pub(crate) fn wait_until_kept<R: Wait + Log>(&self, rt: &R, shared: &Shared<B>) {
+        self.wait_for(rt, shared, Awaited::Kept(shared.entered()));
+    }
+
+    /// Waits until the file lacks no more of the entries that the journal has now than it may. Where it can't be written any more,
+    /// connections and workers are stopped.
+    pub(crate) fn wait_until_near<R: Wait + Log>(&self, rt: &R, shared: &Shared<B>) {
+        self.wait_for(rt, shared, Awaited::Near(shared.entered()));
+    }
+
     /// Cuts off the connections, and lets workers end after their slices.
-    pub(crate) fn stop<B: NodeBrand, R: Wait>(&self, rt: &R, shared: &Shared<B>) {
+    pub(crate) fn stop<R: Wait>(&self, rt: &R, shared: &Shared<B>) {
         self.sockets.cut_off(rt);
         shared.stop(rt);
     }

@@ -18,6 +18,8 @@ use std::{fs, rt};
 pub(crate) struct OpenJournal {
     pub reader: JournalReader<FileShelf>,
     pub handle: FileShelf,
+    /// How many bytes the file has.
+    pub size: u64,
 }
 
 /// The folder of a path.
@@ -86,6 +88,14 @@ fn create<'l, R: rt::Files<File = File> + Clock>(
     }
 }
 
+/// How many bytes a file has: 0 where the system doesn't tell.
+pub(crate) fn size_of<R: rt::Files>(rt: &R, path: &str) -> u64 {
+    match rt.metadata(path) {
+        Ok(found) => found.len(),
+        Err(_) => 0,
+    }
+}
+
 /// Whether a file has no bytes.
 fn is_empty(shelf: &mut FileShelf) -> Result<bool, ShelfFailed> {
     let mut first = [0u8; 1];
@@ -147,5 +157,9 @@ pub(crate) fn open_journal<'l, R: rt::Files<File = File> + Clock>(
         Err(failed) => return Err(unread_fault(path, failed)),
     };
     let reader = read_head(alloc, path, shelf, u64::MAX)?;
-    Ok(OpenJournal { reader, handle })
+    Ok(OpenJournal {
+        reader,
+        handle,
+        size: size_of(rt, path),
+    })
 }

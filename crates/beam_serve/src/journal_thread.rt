@@ -1,6 +1,6 @@
 //! The thread that writes entries that nobody waits for, and puts the file on the device.
 
-use crate::disk_journal::Turn;
+use crate::disk_journal::{FileCounts, Turn};
 use crate::journal_link::{JournalLink, log_refusal};
 use beam_block_file::FileShelf;
 use beam_journal_file::WriteFailed;
@@ -24,11 +24,10 @@ const SYNC_PERIOD: u64 = 1;
 const REPORT_PERIOD: u64 = 60;
 
 /// The thread of a journal's file. It has a handle of its own of the file.
-#[derive(Drop)]
 pub(crate) struct JournalThread<'a, B: NodeBrand, R> {
     rt: &'a R,
     shared: &'a Shared<B>,
-    link: JournalLink<'a>,
+    link: JournalLink<'a, B>,
     handle: FileShelf,
     /// Whether the last write was refused.
     is_refused: bool,
@@ -38,11 +37,25 @@ pub(crate) struct JournalThread<'a, B: NodeBrand, R> {
     reported_at: Duration,
 }
 
+impl<'a, B: NodeBrand, R> Drop for JournalThread<'a, B, R> {
+    fn drop(self) {
+        let JournalThread {
+            rt: _rt,
+            shared: _shared,
+            link: _link,
+            handle: _handle,
+            is_refused: _is_refused,
+            synced_at: _synced_at,
+            reported_at: _reported_at,
+        } = self;
+    }
+}
+
 impl<'a, B: NodeBrand, R> JournalThread<'a, B, R> {
     pub(crate) fn new(
         rt: &'a R,
         shared: &'a Shared<B>,
-        link: JournalLink<'a>,
+        link: JournalLink<'a, B>,
         handle: FileShelf,
     ) -> JournalThread<'a, B, R> {
         JournalThread {
@@ -105,8 +118,12 @@ impl<B: NodeBrand, R: Wait + Clock + Log> JournalThread<'_, B, R> {
         }
         self.reported_at = now;
         let entered = self.shared.entered();
-        let (written, synced) = self.link.journal.counts(self.rt);
-        info!(self.rt; "journal: {entered} entries, {written} in the file, {synced} on the device");
+        let FileCounts {
+            written,
+            synced,
+            bytes,
+        } = self.link.journal.counts(self.rt);
+        info!(self.rt; "journal: {entered} entries, {written} in the file, {synced} on the device, {bytes} bytes");
     }
 
     /// Puts the file on the device, if that is asked for and due.
@@ -130,6 +147,7 @@ impl<B: NodeBrand, R: Wait + Clock + Log> Helper for JournalThread<'_, B, R> {
         self.reported_at = self.synced_at;
         for _ in rt.forever() {
             if self.link.journal.pause(rt, self.period()) {
+                self.link.journal.end_thread(rt);
                 return;
             }
             if self.write() == Turn::Failed || self.sync() == Turn::Failed {

@@ -1,6 +1,7 @@
 //! What the entries of a journal are, and where its file ends.
 
 use beam_image::Image;
+use beam_journal::entry::Entry;
 use beam_journal_file::TornEnd;
 use beam_machine::debug::DebugEvent;
 use beam_machine::event::Event;
@@ -57,11 +58,33 @@ fn kind_of(event: &DebugEvent<Image>) -> usize {
     }
 }
 
+/// How many entries of each kind there are.
+#[derive(Clone, Copy)]
+pub(crate) struct EntryCounts {
+    kinds: [u64; 18],
+}
+
+impl EntryCounts {
+    /// The counts of no entries.
+    pub(crate) fn none() -> EntryCounts {
+        EntryCounts { kinds: [0; 18] }
+    }
+
+    /// Counts these entries too.
+    pub(crate) fn add(&mut self, entries: &[Entry]) {
+        for entry in entries {
+            if let Some(count) = self.kinds.get_mut(kind_of(entry.event())) {
+                *count = count.saturating_add(1);
+            }
+        }
+    }
+}
+
 /// How many entries of each kind a journal has, and the state to which they lead.
 #[derive(Clone, Copy)]
 pub(crate) struct ReplayReport {
-    entries: u32,
-    kinds: [u32; 18],
+    entries: u64,
+    counts: EntryCounts,
     seats: usize,
     /// In milliseconds.
     clock: u64,
@@ -86,28 +109,20 @@ fn processes_of<B: NodeBrand>(node: &Node<B>) -> (u32, u32) {
 }
 
 impl ReplayReport {
-    /// The report of a node that entered the entries of a file, with its count of seats, and of the file's torn end, if it has one.
+    /// The report of a node that entered the entries of a file, of which there are this many of each kind, with its count of seats, and of
+    /// the file's torn end, if it has one.
     pub(crate) fn of<B: NodeBrand>(
         node: &Node<B>,
+        counts: EntryCounts,
         seats: usize,
         torn: Option<TornEnd>,
     ) -> ReplayReport {
-        let mut kinds = [0u32; 18];
-        let mut clock = 0;
-        for entry in node.entries() {
-            if let Some(count) = kinds.get_mut(kind_of(entry.event())) {
-                *count = count.saturating_add(1);
-            }
-            if let DebugEvent::Node(Event::Clock { now }) = entry.event() {
-                clock = *now;
-            }
-        }
         let (started, ended) = processes_of(node);
         ReplayReport {
             entries: node.entered(),
-            kinds,
+            counts,
             seats,
-            clock,
+            clock: node.debugger().core().clock(),
             started,
             ended,
             torn,
@@ -118,7 +133,7 @@ impl ReplayReport {
 impl Display for ReplayReport {
     fn fmt<W: fmt::Write>(&self, f: &mut Formatter<W>) -> fmt::Result {
         writeln!(f, "entries: {}", self.entries)?;
-        for (name, count) in KINDS.iter().zip(self.kinds.iter()) {
+        for (name, count) in KINDS.iter().zip(self.counts.kinds.iter()) {
             if *count > 0 {
                 writeln!(f, "  {name}: {count}")?;
             }

@@ -30,7 +30,7 @@ pub struct SeatDesk<'a, B: NodeBrand + QueueBrand, R> {
     shared: &'a Shared<B>,
     context: ThreadContext<B>,
     reserve: Option<&'a MemoryReserve>,
-    journal: Option<JournalLink<'a>>,
+    journal: Option<JournalLink<'a, B>>,
 }
 
 impl<'a, B: NodeBrand + QueueBrand, R> Drop for SeatDesk<'a, B, R> {
@@ -92,7 +92,7 @@ impl<'a, B: NodeBrand + QueueBrand, R> SeatDesk<'a, B, R> {
     }
 
     /// The desk, which keeps its answers back until the journal's file has them, where the node has such a file.
-    pub(crate) fn with_journal(self, journal: Option<JournalLink<'a>>) -> SeatDesk<'a, B, R>
+    pub(crate) fn with_journal(self, journal: Option<JournalLink<'a, B>>) -> SeatDesk<'a, B, R>
         ensures { result ≡ self.entry }
     {
         let SeatDesk {
@@ -112,7 +112,7 @@ impl<'a, B: NodeBrand + QueueBrand, R> SeatDesk<'a, B, R> {
     }
 
     /// The journal's file, where the node has one.
-    pub(crate) fn journal(&self) -> Option<JournalLink<'a>> {
+    pub(crate) fn journal(&self) -> Option<JournalLink<'a, B>> {
         self.journal
     }
 

@@ -1,48 +1,63 @@
 //! What the node logs of the processes that workers run, and what it does as the journal fills.
 
+use crate::endpoint::Endpoint;
 use crate::exit_log::{log_exit, log_rows};
+use crate::journal_link::JournalLink;
 use crate::memory_reserve::MemoryReserve;
 use crate::open_sockets::OpenSockets;
 use beam_debug::outcome::Outcome;
+use beam_receipts::brand::NodeBrand;
 use beam_sched::gate::Gate;
 use beam_sched::journal_threshold::JournalThreshold;
+use beam_sched::shared::Shared;
 use beam_term::Term;
 use log::{Log, warn};
 use std::sync::Wait;
 use std::time::Clock;
 
-/// Logs at info which processes are held and which end other than normally, warns as the journal fills and where memory is refused to a
-/// process, and shuts the sockets once the journal is full, if that is asked for. What was read from them is answered, also the command that
-/// filled the journal.
-#[derive(Clone, Copy, Drop)]
-pub struct ServeGate<'a, R> {
+/// Logs at info which processes are held and which end other than normally, warns as the journal in memory fills and where memory is
+/// refused to a process, and shuts the sockets once the journal is full, if that is asked for. What was read from them is answered, also
+/// the command that filled the journal. Where the node keeps its journal in a file, a worker whose rows took effect waits while the file
+/// lacks more than it may, so the journal in memory isn't filled.
+#[derive(Drop)]
+pub struct ServeGate<'a, B: NodeBrand, R> {
     rt: &'a R,
+    shared: &'a Shared<B>,
     sockets: &'a OpenSockets,
     reserve: &'a MemoryReserve,
+    journal: Option<JournalLink<'a, B>>,
     limit: u32,
     stops_when_full: bool,
 }
 
-impl<'a, R> ServeGate<'a, R> {
-    /// A gate over a journal that can have `limit` entries.
+impl<'a, B: NodeBrand, R> ServeGate<'a, B, R> {
+    /// A gate of a node, of whose journal `limit` entries can be in memory, and which may keep it in a file.
     pub fn new(
         rt: &'a R,
-        sockets: &'a OpenSockets,
-        reserve: &'a MemoryReserve,
+        shared: &'a Shared<B>,
+        endpoint: Endpoint<'a>,
+        journal: Option<JournalLink<'a, B>>,
         limit: u32,
         stops_when_full: bool,
-    ) -> ServeGate<'a, R> {
-        ServeGate {
-            rt,
+    ) -> ServeGate<'a, B, R> {
+        let Endpoint {
             sockets,
             reserve,
+            ..
+        } = endpoint;
+        ServeGate {
+            rt,
+            shared,
+            sockets,
+            reserve,
+            journal,
             limit,
             stops_when_full,
         }
     }
 }
 
-impl<R: Wait + Clock + Log + AllocGlobal> Gate for ServeGate<'_, R> {
+impl<B: NodeBrand, R: Wait + Clock + Log + AllocGlobal> Gate for ServeGate<'_, B, R> {
     fn out(&self, pid: u32) {
         self.reserve.note_run(pid);
     }
@@ -55,6 +70,9 @@ impl<R: Wait + Clock + Log + AllocGlobal> Gate for ServeGate<'_, R> {
 
     fn ran(&self, pid: u32, outcome: &Outcome) {
         log_rows(self.rt, pid, outcome);
+        if let Some(journal) = self.journal {
+            journal.wait_until_near(self.rt, self.shared);
+        }
     }
 
     fn ended(&self, pid: u32, reason: &Term) {

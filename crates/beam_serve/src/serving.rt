@@ -1,8 +1,8 @@
 //! A node that serves a port: its scheduler threads, and the connections beside them.
-ghost use Rattle.std.specs.Prelude.{◌≡◌, ◌≢◌, ◌≤◌, ◌*◌, [], min, MatchOption, IfErr, IfOk, IfSome, OnOk};
+ghost use Rattle.std.specs.Prelude.{◌≡◌, ◌≢◌, ◌*◌, [], MatchOption, IfErr, IfOk, IfSome, OnOk};
 ghost use Rattle.std.specs.Duration.{as_nanos};
-ghost use Rattle.beam_journal.specs.Entering.{most_entries};
 ghost use Rattle.beam_journal_file.specs.JournalRead.{HasRead};
+ghost use Rattle.beam_serve.specs.WrittenEntries.{limit_for};
 ghost use Rattle.beam_tools.specs.Job.{IsOfPort};
 
 use crate::acceptor::{Acceptor, Ended};
@@ -15,16 +15,17 @@ use crate::journal_link::JournalLink;
 use crate::journal_opening::{OpenJournal, open_journal};
 use crate::journal_recovery::{Recovered, recover};
 use crate::journal_thread::JournalThread;
+use crate::limits::{limit_of, most_behind_of};
 use crate::loading::load_and_start;
 use crate::log_lines::LogLines;
 use crate::logging::logged;
 use crate::memory_reserve::MemoryReserve;
 use crate::open_sockets::{OpenSockets, ServedConnections};
+use crate::read_progress::ReadProgress;
 use crate::seat_desk::SeatDesk;
 use crate::serve_gate::ServeGate;
 use crate::serve_helper::ServeHelper;
 use beam_block_file::FileShelf;
-use beam_journal::journal::MOST_ENTRIES;
 use beam_queue as queue;
 use beam_queue::{NotMade, QueueBrand};
 use beam_receipts::brand::NodeBrand;
@@ -95,14 +96,15 @@ fn contexts_of<'l, B: NodeBrand + QueueBrand>(
 #[derive(Drop)]
 struct Beginning<B: NodeBrand> {
     seats: Vec<SeatReceipt<B>>,
-    journal: Option<DiskJournal<FileShelf>>,
+    journal: Option<DiskJournal<B, FileShelf>>,
     handle: Option<FileShelf>,
 }
 
-/// Brings a new node back from its journal's file, if it has one.
-fn begin<'l, B: NodeBrand, R: Log>(
+/// Brings a new node back from its journal's file, if it has one. The terminal is shown how far it is.
+fn begin<'l, B: NodeBrand, R: Log, T: Eprint + Clock>(
     rt: &R,
     alloc: Global,
+    terminal: Option<&T>,
     node: &mut Node<B>,
     opened: Option<OpenJournal>,
     line: &Serve<'l>,
@@ -112,20 +114,26 @@ fn begin<'l, B: NodeBrand, R: Log>(
     requires at_first { IfSome opened (λ o. HasRead o.reader []) }
     ensures fault { IfErr result (IsOfPort line.now.port) }
 {
-    let (Some(OpenJournal { reader, handle }), Some(name)) = (opened, line.journal) else {
+    let (Some(opened), Some(name)) = (opened, line.journal) else {
         return Ok(Beginning {
             seats: Vec::new(alloc),
             journal: None,
             handle: None,
         });
     };
-    let Recovered { seats, writer } = match recover(rt, alloc, node, reader, name) {
+    let OpenJournal {
+        reader,
+        handle,
+        size,
+    } = opened;
+    let progress = ReadProgress::new(terminal, size);
+    let Recovered { seats, file } = match recover(rt, alloc, node, reader, progress, name) {
         Ok(recovered) => recovered,
         Err(fault) => return Err(fault),
     };
     Ok(Beginning {
         seats,
-        journal: Some(DiskJournal::new(writer, line.sync)),
+        journal: Some(DiskJournal::new(file, line.sync, most_behind_of(line))),
         handle: Some(handle),
     })
 }
@@ -165,18 +173,6 @@ fn port_of(line: &Serve, address: SocketAddr) -> u16
     }
 }
 
-/// How many entries the journal can have.
-fn limit_of(line: &Serve) -> u32
-    ensures most { result ≤ most_entries }
-    ensures limit { result ≡ min line.now.journal_limit most_entries }
-{
-    if line.journal_limit < MOST_ENTRIES {
-        line.journal_limit
-    } else {
-        MOST_ENTRIES
-    }
-}
-
 /// The settings that the line asks for.
 fn options_of(line: &Serve) -> ServeOptions
     ensures idle { MatchOption result.idle (line.now.idle ≡ 0) (λ limit. as_nanos limit ≡ line.now.idle * 1_000_000_000) }
@@ -213,7 +209,7 @@ fn helpers_of<'a, B: NodeBrand + QueueBrand, R>(
     alloc: Global,
     shared: &'a Shared<B>,
     acceptor: &'a Acceptor<'a>,
-    link: Option<JournalLink<'a>>,
+    link: Option<JournalLink<'a, B>>,
     options: ServeOptions,
     contexts: &mut Vec<ThreadContext<B>>,
 ) -> Vec<ServeHelper<'a, B, R>> {
@@ -240,7 +236,7 @@ fn helpers_of<'a, B: NodeBrand + QueueBrand, R>(
 fn with_journal_thread<'a, B: NodeBrand + QueueBrand, R>(
     rt: &'a R,
     shared: &'a Shared<B>,
-    link: Option<JournalLink<'a>>,
+    link: Option<JournalLink<'a, B>>,
     handle: Option<FileShelf>,
     helpers: Vec<ServeHelper<'a, B, R>>,
 ) -> Vec<ServeHelper<'a, B, R>> {
@@ -289,20 +285,16 @@ fn serve_connections<
         mut clients,
     } = contexts;
     let options = options_of(line);
-    let Endpoint {
-        sockets,
-        reserve,
-        ..
-    } = acceptor.endpoint();
     let clock = SteadyClock::new(rt);
+    let link = desk.journal();
     let gate = ServeGate::new(
         rt,
-        sockets,
-        reserve,
-        line.journal_limit,
+        shared,
+        acceptor.endpoint(),
+        link,
+        limit_of(line),
         line.stop_when_full,
     );
-    let link = desk.journal();
     let mut first = ConnectionThread::new(rt, alloc, shared, acceptor, 0, desk, options);
     let helpers = helpers_of(rt, alloc, shared, acceptor, link, options, &mut clients);
     let helpers = with_journal_thread(rt, shared, link, handle, helpers);
@@ -343,7 +335,7 @@ fn run<
     files: &mut F,
     is_new: bool,
     line: &Serve<'l>,
-    link: Option<JournalLink<'a>>,
+    link: Option<JournalLink<'a, B>>,
     handle: Option<FileShelf>,
     contexts: ThreadContexts<B>,
     parts: &mut SeatsAndQueues<B>,
@@ -383,10 +375,10 @@ fn run<
 }
 
 /// The link of desks to a journal's file, if the node has one.
-fn link_of<'a>(
-    journal: &'a Option<DiskJournal<FileShelf>>,
+fn link_of<'a, B: NodeBrand>(
+    journal: &'a Option<DiskJournal<B, FileShelf>>,
     acceptor: &'a Acceptor<'a>,
-) -> Option<JournalLink<'a>> {
+) -> Option<JournalLink<'a, B>> {
     match journal {
         Some(journal) => Some(JournalLink {
             journal,
@@ -400,7 +392,7 @@ fn link_of<'a>(
 fn finish<'l, B: NodeBrand, R: Wait>(
     rt: &R,
     shared: &Shared<B>,
-    journal: &Option<DiskJournal<FileShelf>>,
+    journal: &Option<DiskJournal<B, FileShelf>>,
     line: &Serve<'l>,
 ) -> Result<(), JobFault<'l>>
     ensures fault { IfErr result (IsOfPort line.now.port) }
@@ -441,18 +433,20 @@ fn queues_of(line: &Serve) -> usize {
     usize::from(line.schedulers) + usize::from(line.clients)
 }
 
-/// Serves the connections to a listener with a node, which is new or comes back from its journal's file, and closes the node. `Mismatch` where the thread contexts aren't all of the
-/// node's, `ProcessesOut` where a worker didn't commit a process that it had checked out, `NoMemory` where memory is refused for the pids
-/// that are left in the queues. The closed node, which is given back if all went well, shows that it was closed.
+/// Serves the connections to a listener with a node, which is new or comes back from its journal's file, and closes the node. `Mismatch`
+/// where the thread contexts aren't all of the node's, `ProcessesOut` where a worker didn't commit a process that it had checked out,
+/// `NoMemory` where memory is refused for the pids that are left in the queues. The closed node, which is given back if all went well,
+/// shows that it was closed.
 fn serve_node<
     'l,
     F: Files,
     B: NodeBrand + QueueBrand + Send + Sync,
     R: Threads + Wait + Clock + Log + AllocGlobal + Sync,
-    C: Print,
+    C: Print + Eprint + Clock,
 >(
     rt: &R,
     console: &C,
+    terminal: Option<&C>,
     alloc: Global,
     unbranded: UnbrandedKeeper,
     queues: queue::UnbrandedQueues,
@@ -463,7 +457,7 @@ fn serve_node<
 ) -> Result<ClosedNode<B>, JobFault<'l>>
     requires node { unbranded ≡ B.table }
     requires queues { queues ≡ B.deques }
-    requires limit { B.limit ≡ min line.now.journal_limit most_entries }
+    requires limit { B.limit ≡ limit_for line.now.journal line.now.journal_limit }
     requires at_first { IfSome opened (λ o. HasRead o.reader []) }
     ensures fault { IfErr result (IsOfPort line.now.port) }
 {
@@ -472,7 +466,7 @@ fn serve_node<
         seats,
         journal,
         handle,
-    } = begin(rt, alloc, &mut node, opened, line)?;
+    } = begin(rt, alloc, terminal, &mut node, opened, line)?;
     let (contexts, mut parts) = contexts_of(alloc, &mut node, queues, seats, line)?;
     let is_new = node.entered() == 0;
     let shared = Shared::new(alloc, node);
@@ -527,6 +521,7 @@ fn net_failed<'l>(line: &Serve<'l>, error: &Error) -> JobFault<'l>
 /// A line that names a file for the journal has a node that comes back: the file is opened before all else, and locked; its entries are
 /// entered before the address is printed, and the files and the process of the line are left out where there were any. An answer is told
 /// once the file has what it tells of, on the device or not, as the line says; where it can't be written the connections are cut off first.
+/// A terminal, if there is one, is shown how far the file was read where that takes longer than a second.
 ///
 /// - `Journal` where the journal's file isn't opened, read or written;
 /// - `File` where a file isn't loaded, `Start` and `LongName` where the process isn't started: no connection is accepted then;
@@ -542,8 +537,14 @@ pub fn serve<
         + rt::Files<File = File>
         + AllocGlobal
         + Sync,
-    C: Print + Clock + Sync,
->(rt: &R, console: &C, lines: &LogLines, line: &Serve<'l>) -> Result<(), JobFault<'l>>
+    C: Print + Eprint + Clock + Sync,
+>(
+    rt: &R,
+    console: &C,
+    terminal: Option<&C>,
+    lines: &LogLines,
+    line: &Serve<'l>,
+) -> Result<(), JobFault<'l>>
     ensures fault { IfErr result (IsOfPort line.now.port) }
 {
     let opened = opened(rt, rt.alloc(), line)?;
@@ -579,6 +580,7 @@ pub fn serve<
     match serve_node::<FileSystem<'_, R>, Brand, _, _>(
         &log,
         console,
+        terminal,
         rt.alloc(),
         unbranded,
         queues,

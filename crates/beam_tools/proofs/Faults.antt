@@ -102,6 +102,8 @@ wrong_call words line (wrong.NoLevel text) is h = absurd h
 wrong_call words line (wrong.NoStart text) is h = absurd h
 wrong_call words line (wrong.NoSync text) is h = absurd h
 wrong_call words line wrong.StopsWithJournal is h = absurd h
+wrong_call words line (wrong.NoRange text) is h = absurd h
+wrong_call words line wrong.PipesAndPrints is h = absurd h
 
 -- a fault that holds of the call of a run holds of the words that ask for that call
 pub run_says : (files : Contents) (words : List Text) (line : CallLine) (f : RunFault) → line_of words ≡ Some (call line)

@@ -3,7 +3,7 @@ use Rattle.std.proofs.Common.{◌≡◌, ◌∙◌, ◌⊎◌, ap, codes, inl, i
 use Rattle.clap.specs.Words.{App, IsAmong, Row, Text, fault_of, matches_of, subcommand_of}
 use Rattle.clap.specs.declared.error.kind.ErrorKind.{ErrorKind}
 use Rattle.clap.specs.declared.error.kind.ErrorKind.TheVariants as kind
-use Rattle.beam_tools.specs.Prelude.{IsNoLine, NamesStop, OptionsStop, ServeStops, StopSays, StopsBy, call_in, line_in, node_app, replay_in}
+use Rattle.beam_tools.specs.Prelude.{IsNoLine, NamesStop, OptionsStop, ReplayStops, ServeStops, StopSays, StopsBy, call_in, line_in, node_app}
 use Rattle.beam_tools.specs.declared.early_exit.EarlyExit.{EarlyExit}
 use Rattle.beam_tools.specs.declared.early_exit.EarlyExit.TheVariants as stop
 use Rattle.beam_tools.specs.declared.early_exit.Wrong.TheVariants as wrong
@@ -36,6 +36,8 @@ stop_said app words k (stop.Wrong (wrong.NoLevel text)) h is = absurd is
 stop_said app words k (stop.Wrong (wrong.NoStart text)) h is = absurd is
 stop_said app words k (stop.Wrong (wrong.NoSync text)) h is = absurd is
 stop_said app words k (stop.Wrong wrong.StopsWithJournal) h is = absurd is
+stop_said app words k (stop.Wrong (wrong.NoRange text)) h is = absurd is
+stop_said app words k (stop.Wrong wrong.PipesAndPrints) h is = absurd is
 stop_said app words k stop.NoMemory h is = tt
 
 -- `call` was entered with matches that make no line
@@ -49,6 +51,8 @@ call_stops entered rows (stop.Wrong (wrong.NoLevel text)) is h = absurd h
 call_stops entered rows (stop.Wrong (wrong.NoStart text)) is h = absurd h
 call_stops entered rows (stop.Wrong (wrong.NoSync text)) is h = absurd h
 call_stops entered rows (stop.Wrong wrong.StopsWithJournal) is h = absurd h
+call_stops entered rows (stop.Wrong (wrong.NoRange text)) is h = absurd h
+call_stops entered rows (stop.Wrong wrong.PipesAndPrints) is h = absurd h
 call_stops entered rows (stop.Wrong (wrong.Words text)) is h = absurd h
 call_stops entered rows (stop.Wrong wrong.NoText) is h = absurd h
 call_stops entered rows (stop.Wrong wrong.NoFile) is h = absurd h
@@ -68,6 +72,8 @@ serve_stops entered rows (stop.Wrong (wrong.NoLevel text)) is h = (rows, is, h)
 serve_stops entered rows (stop.Wrong (wrong.NoStart text)) is h = (rows, is, h)
 serve_stops entered rows (stop.Wrong (wrong.NoSync text)) is h = (rows, is, h)
 serve_stops entered rows (stop.Wrong wrong.StopsWithJournal) is h = (rows, is, h)
+serve_stops entered rows (stop.Wrong (wrong.NoRange text)) is h = absurd h
+serve_stops entered rows (stop.Wrong wrong.PipesAndPrints) is h = absurd h
 serve_stops entered rows (stop.Wrong (wrong.Words text)) is h = absurd h
 serve_stops entered rows (stop.Wrong wrong.NoText) is h = absurd h
 serve_stops entered rows (stop.Wrong wrong.NoFile) is h = absurd h
@@ -77,16 +83,18 @@ serve_stops entered rows (stop.Wrong (wrong.LongFunction name)) is h = absurd h
 serve_stops entered rows (stop.Wrong (wrong.NoList text)) is h = absurd h
 
 -- `replay` was entered with matches that make no line
-pub replay_stops : (entered : Option (Text × List Row)) (rows : List Row) (s : EarlyExit) → entered ≡ Some (codes "replay", rows) → IsNoLine (replay_in rows) s
+pub replay_stops : (entered : Option (Text × List Row)) (rows : List Row) (s : EarlyExit) → entered ≡ Some (codes "replay", rows) → ReplayStops rows s
     → OptionsStop entered s
 replay_stops entered rows stop.Help is h = absurd h
 replay_stops entered rows stop.Version is h = absurd h
-replay_stops entered rows stop.NoMemory is h = tt
+replay_stops entered rows stop.NoMemory is h = absurd h
 replay_stops entered rows (stop.Wrong wrong.NoCommand) is h = ap (option_and_then line_in) is ∙ h
 replay_stops entered rows (stop.Wrong (wrong.NoLevel text)) is h = absurd h
 replay_stops entered rows (stop.Wrong (wrong.NoStart text)) is h = absurd h
 replay_stops entered rows (stop.Wrong (wrong.NoSync text)) is h = absurd h
 replay_stops entered rows (stop.Wrong wrong.StopsWithJournal) is h = absurd h
+replay_stops entered rows (stop.Wrong (wrong.NoRange text)) is h = (rows, is, h)
+replay_stops entered rows (stop.Wrong wrong.PipesAndPrints) is h = (rows, is, h)
 replay_stops entered rows (stop.Wrong (wrong.Words text)) is h = absurd h
 replay_stops entered rows (stop.Wrong wrong.NoText) is h = absurd h
 replay_stops entered rows (stop.Wrong wrong.NoFile) is h = absurd h
@@ -106,6 +114,8 @@ options_say words entered (stop.Wrong (wrong.NoLevel text)) is h = (h.0, sym is 
 options_say words entered (stop.Wrong (wrong.NoStart text)) is h = (h.0, sym is ∙ h.1, h.2)
 options_say words entered (stop.Wrong (wrong.NoSync text)) is h = (h.0, sym is ∙ h.1, h.2)
 options_say words entered (stop.Wrong wrong.StopsWithJournal) is h = (h.0, sym is ∙ h.1, h.2)
+options_say words entered (stop.Wrong (wrong.NoRange text)) is h = (h.0, sym is ∙ h.1, h.2)
+options_say words entered (stop.Wrong wrong.PipesAndPrints) is h = (h.0, sym is ∙ h.1, h.2)
 options_say words entered (stop.Wrong (wrong.Words text)) is h = absurd h
 options_say words entered (stop.Wrong wrong.NoText) is h = absurd h
 options_say words entered (stop.Wrong wrong.NoFile) is h = absurd h
@@ -126,6 +136,8 @@ names_say app words rows (stop.Wrong (wrong.NoLevel text)) is h = absurd h
 names_say app words rows (stop.Wrong (wrong.NoStart text)) is h = absurd h
 names_say app words rows (stop.Wrong (wrong.NoSync text)) is h = absurd h
 names_say app words rows (stop.Wrong wrong.StopsWithJournal) is h = absurd h
+names_say app words rows (stop.Wrong (wrong.NoRange text)) is h = absurd h
+names_say app words rows (stop.Wrong wrong.PipesAndPrints) is h = absurd h
 names_say app words rows (stop.Wrong (wrong.Words text)) is h = absurd h
 names_say app words rows (stop.Wrong wrong.NoText) is h = absurd h
 names_say app words rows (stop.Wrong (wrong.LongModule name)) is h = absurd h

@@ -35,6 +35,8 @@ before_word (wrong.NoLevel text) = codes "--log "
 before_word (wrong.NoStart text) = codes "--start "
 before_word (wrong.NoSync text) = codes "--sync "
 before_word wrong.StopsWithJournal = codes "--stop-when-full and --journal exclude each other"
+before_word (wrong.NoRange text) = codes "--print "
+before_word wrong.PipesAndPrints = codes "--pipe excludes --print and --inspect"
 
 abbrev pub word_of : WrongLine → List ℕ
 word_of (wrong.Words text) = text.items
@@ -49,6 +51,8 @@ word_of (wrong.NoLevel text) = text.now
 word_of (wrong.NoStart text) = text.now
 word_of (wrong.NoSync text) = text.now
 word_of wrong.StopsWithJournal = []
+word_of (wrong.NoRange text) = text.now
+word_of wrong.PipesAndPrints = []
 
 abbrev pub after_word : WrongLine → List ℕ
 after_word (wrong.LongModule name) = codes " has more than 255 characters"
@@ -57,6 +61,7 @@ after_word (wrong.NoList text) = codes " is no list of at most 255 terms"
 after_word (wrong.NoLevel text) = codes " is none of error, warn and info"
 after_word (wrong.NoStart text) = codes " is no M:F"
 after_word (wrong.NoSync text) = codes " is none of always, second and no"
+after_word (wrong.NoRange text) = codes " is no FROM..TO"
 after_word _ = []
 
 -- the message of a fault: `PROGRAM: WHAT`, and the usage after a wrong command line; or how process 1 ended

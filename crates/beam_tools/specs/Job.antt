@@ -65,6 +65,8 @@ job_message fault.ProcessesOut = codes "beamnode: serve: ProcessesOut\n"
 job_message fault.Unwritten = codes "beamnode: output: WriteFailed\n"
 job_message fault.NoMemory = codes "beamnode: NoMemory\n"
 job_message (fault.Journal f) = journal_message f
+job_message (fault.NoProcess name) = codes "beamnode: " ++ name.now ++ codes ": NoProcess\n"
+job_message (fault.LongView name) = codes "beamnode: " ++ name.now ++ codes ": TooLong\n"
 
 -- more about the fault: the operating system's error, or where the fault of a file or of a journal's file lies
 abbrev pub job_place : JobFault → List ℕ

@@ -7,7 +7,7 @@ use Rattle.clap.specs.declared.error.kind.ErrorKind.{ErrorKind}
 use Rattle.clap.specs.declared.error.kind.ErrorKind.TheVariants as kind
 use Rattle.beam_term.specs.Prelude.{TermValue}
 use Rattle.beam_tools.specs.Call.{AreArguments}
-use Rattle.beam_tools.specs.Options.{CallLine, Line, call, is_stop_set, level_of, line_in, line_of, node_app, serve_in, start_of, sync_of}
+use Rattle.beam_tools.specs.Options.{CallLine, Line, call, inspect_in, is_pipe_set, is_stop_set, level_of, line_in, line_of, node_app, range_of, replay_in, serve_in, start_of, sync_of}
 use Rattle.beam_tools.specs.Program.{help_of, version_of}
 use Rattle.beam_tools.specs.declared.fault.RunFault.{RunFault}
 use Rattle.beam_tools.specs.declared.fault.RunFault.TheVariants as fault
@@ -64,6 +64,25 @@ EntersWrongly entered w = (rows : List Row) × (entered ≡ Some (codes "serve",
 abbrev pub AskToServeWrongly : List Text → Wrong → Type 0
 AskToServeWrongly words w = EntersWrongly (subcommand_of node_app words) w
 
+-- the matches of `replay` name entries or a process to print
+abbrev pub NameSomeToPrint : List Row → Type 0
+NameSomeToPrint rows = ((text : Text) × (first_of (codes "print") rows ≡ Some text)) ⊎ ((pid : ℕ) × (inspect_in rows ≡ Some pid))
+
+-- what is wrong with the matches of `replay`
+abbrev pub ReplayIsWrong : List Row → Wrong → Type 0
+ReplayIsWrong rows (wrong.NoRange text) = (first_of (codes "print") rows ≡ Some text.now) × (range_of text.now ≡ None)
+ReplayIsWrong rows wrong.PipesAndPrints = (is_pipe_set rows ≡ true) × NameSomeToPrint rows
+ReplayIsWrong rows wrong.NoCommand = replay_in rows ≡ None
+ReplayIsWrong rows _ = ⊥
+
+-- `replay` was entered with matches with which this is wrong
+abbrev pub EntersReplayWrongly : Option (Text × List Row) → Wrong → Type 0
+EntersReplayWrongly entered w = (rows : List Row) × (entered ≡ Some (codes "replay", rows)) × ReplayIsWrong rows w
+
+-- the words ask for a replay with which this is wrong
+abbrev pub AskToReplayWrongly : List Text → Wrong → Type 0
+AskToReplayWrongly words w = EntersReplayWrongly (subcommand_of node_app words) w
+
 -- what a wrong line implies for the words
 abbrev pub WrongSays : App → List Text → Wrong → Type 0
 WrongSays app words (wrong.Words text) = AreWrong app words
@@ -78,6 +97,8 @@ WrongSays app words (wrong.NoLevel text) = AskToServeWrongly words (wrong.NoLeve
 WrongSays app words (wrong.NoStart text) = AskToServeWrongly words (wrong.NoStart text)
 WrongSays app words (wrong.NoSync text) = AskToServeWrongly words (wrong.NoSync text)
 WrongSays app words wrong.StopsWithJournal = AskToServeWrongly words wrong.StopsWithJournal
+WrongSays app words (wrong.NoRange text) = AskToReplayWrongly words (wrong.NoRange text)
+WrongSays app words wrong.PipesAndPrints = AskToReplayWrongly words wrong.PipesAndPrints
 
 -- what an early exit implies for the words; an allocation failure implies nothing
 abbrev pub StopSays : App → List Text → EarlyExit → Type 0
@@ -106,6 +127,11 @@ ServeStops rows (stop.Wrong w) = ServeIsWrong rows w
 ServeStops rows stop.NoMemory = ⊤
 ServeStops rows _ = ⊥
 
+-- the matches of `replay` make no replay
+abbrev pub ReplayStops : List Row → EarlyExit → Type 0
+ReplayStops rows (stop.Wrong w) = ReplayIsWrong rows w
+ReplayStops rows _ = ⊥
+
 -- the subcommand that was entered makes no line: there is none, or its matches make none
 abbrev pub OptionsStop : Option (Text × List Row) → EarlyExit → Type 0
 OptionsStop entered (stop.Wrong wrong.NoCommand) = option_and_then line_in entered ≡ None
@@ -113,6 +139,8 @@ OptionsStop entered (stop.Wrong (wrong.NoLevel text)) = EntersWrongly entered (w
 OptionsStop entered (stop.Wrong (wrong.NoStart text)) = EntersWrongly entered (wrong.NoStart text)
 OptionsStop entered (stop.Wrong (wrong.NoSync text)) = EntersWrongly entered (wrong.NoSync text)
 OptionsStop entered (stop.Wrong wrong.StopsWithJournal) = EntersWrongly entered wrong.StopsWithJournal
+OptionsStop entered (stop.Wrong (wrong.NoRange text)) = EntersReplayWrongly entered (wrong.NoRange text)
+OptionsStop entered (stop.Wrong wrong.PipesAndPrints) = EntersReplayWrongly entered wrong.PipesAndPrints
 OptionsStop entered stop.NoMemory = ⊤
 OptionsStop entered _ = ⊥
 

@@ -1,7 +1,8 @@
 -- The command line of `beamnode`: the command, and what a line asks for.
-use Rattle.std.specs.Prelude.{◌∷◌, ◌==◌, ℕ, Bool, List, [], Option, Some, None, if◌then◌else◌, codes, false, map, option_and_then, option_map, pos, true, unwrap_or}
+use Rattle.std.specs.Prelude.{◌∷◌, ◌==◌, ◌&&◌, ℕ, Bool, List, [], Option, Some, None, if◌then◌else◌, codes, false, length, map, nat_le, nat_lt, option_and_then, option_map, pos, true, unwrap_or}
+use Rattle.std.specs.Borrow.{Bor}
 use Rattle.std.specs.Str.{bytes_eq}
-use Rattle.std.specs.List.{after_first, before_first}
+use Rattle.std.specs.List.{after_first, before_first, position_or_len}
 use Rattle.std.specs.Option.{option_map_or}
 use Rattle.std.specs.Str.Parse.{digits_value, without_leading_plus}
 use Rattle.clap.specs.ValueTests.{is_unsigned_in}
@@ -9,11 +10,14 @@ use Rattle.clap.specs.Words.{App, Row, Rule, Text, all_of, first_of, new_app, ne
 use Rattle.clap.specs.declared.builder.ArgAction.TheVariants.{Append, Set, SetTrue}
 use Rattle.clap.specs.declared.builder.value_parser.ValueParser.TheVariants as vp
 use Rattle.beam_tools.specs.Rules.{positional_rule, verbose_rule, with_version}
+use Rattle.beam_tools.specs.declared.entry_range.EntryRange.{EntryRange}
 use Rattle.beam_tools.specs.declared.line.Call.{Call as CallOptions}
 use Rattle.beam_tools.specs.declared.line.LogLevel.{LogLevel}
 use Rattle.beam_tools.specs.declared.line.LogLevel.TheVariants.{Error, Info, Warn}
 use Rattle.beam_tools.specs.declared.line.Options.{Options}
 use Rattle.beam_tools.specs.declared.line.Replay.{Replay as ReplayOptions}
+use Rattle.beam_tools.specs.declared.line.ReplayGoal.{ReplayGoal}
+use Rattle.beam_tools.specs.declared.line.ReplayGoal.TheVariants as goal
 use Rattle.beam_tools.specs.declared.line.Serve.{Serve as ServeOptions}
 use Rattle.beam_tools.specs.declared.line.Start.{Start}
 use Rattle.beam_tools.specs.declared.line.SyncMode.{SyncMode}
@@ -142,8 +146,22 @@ upto_rule = record (option_rule (codes "upto")) {
   parser = Some (vp.Signed (pos 0) (pos 4294967295));
 }
 
+-- `--print FROM..TO`
+abbrev pub print_rule : Rule
+print_rule = option_rule (codes "print")
+
+-- `--inspect PID`, a number of 32 bits above 0
+abbrev pub inspect_rule : Rule
+inspect_rule = record (option_rule (codes "inspect")) { parser = Some (vp.Signed (pos 1) (pos 4294967295)) }
+
+-- `--pipe`
+abbrev pub pipe_rule : Rule
+pipe_rule = record (new_rule (codes "pipe")) { long = Some (codes "pipe"); action = Some SetTrue }
+
 abbrev pub replay_app : App
-replay_app = with_rule (with_rule (with_rule (new_app (codes "replay")) verbose_rule) upto_rule) (positional_rule (codes "file"))
+replay_app =
+    with_rule (with_rule (with_rule (with_rule (with_rule (with_rule (new_app (codes "replay")) verbose_rule) upto_rule) print_rule) inspect_rule) pipe_rule)
+    (positional_rule (codes "file"))
 
 -- the command `beamnode` without its subcommands
 abbrev pub top_app : App
@@ -186,10 +204,11 @@ pub record ServeLine : Type 0 where
   pub journal : Option Text
   pub sync : SyncMode
 
--- the arguments of `replay`: the journal's file, and the number of the entry before which the replay ends
+-- the arguments of `replay`: the journal's file, the number of the entry before which the replay ends, and what is done with the entries
 pub record ReplayLine : Type 0 where
   pub file : Text
   pub upto : ℕ
+  pub goal : ReplayGoal
 
 pub data Line : Type 0 where
   call : CallLine → Line
@@ -321,14 +340,88 @@ serve_with _ _ _ _ _ _ _ = None
 abbrev pub serve_in : List Row → Option Line
 serve_in rows = serve_with (numbers_in rows) (log_in rows) (start_in rows) (journal_in rows) (sync_in rows) (is_stop_set rows) (files_in rows)
 
+-- a number is less than the end of a range, if there is one
+abbrev pub is_before : ℕ → Option ℕ → Bool
+is_before number None = true
+is_before number (Some to) = nat_lt number to
+
+-- the entry of this number is in the range
+abbrev pub has_number : EntryRange → ℕ → Bool
+has_number range number = nat_le range.from number && is_before number range.to
+
+-- a full stop
+abbrev pub is_dot : ℕ → Bool
+is_dot c = c == 46
+
+abbrev pub two_texts : Bor Text × Bor Text → Text × Text
+two_texts parts = (parts.0.now, parts.1.now)
+
+-- what stands before and after the first full stop, if there is one
+abbrev pub split_at_dot : Text → Option (Text × Text)
+split_at_dot text = if nat_lt (position_or_len is_dot text) (length text) then Some (before_first is_dot text, after_first is_dot text) else None
+
+abbrev pub around_with : Text → Text × Text → Option (Text × Text)
+around_with before ([], after) = Some (before, after)
+around_with before (c ∷ cs, after) = None
+
+-- what stands before and after two full stops, where the first full stop is followed by another one
+abbrev pub around_dots : Text → Option (Text × Text)
+around_dots text = option_and_then (λ parts. option_and_then (around_with parts.0) (split_at_dot parts.1)) (split_at_dot text)
+
+-- the number at which a range begins: 0 where it is left out
+abbrev pub lower_end : Text → Option ℕ
+lower_end [] = Some 0
+lower_end (c ∷ cs) = number_of (c ∷ cs)
+
+-- the number before which a range ends; none where it is left out
+abbrev pub upper_end : Text → Option (Option ℕ)
+upper_end [] = Some None
+upper_end (c ∷ cs) = option_map Some (number_of (c ∷ cs))
+
+-- a range that begins and ends there, unless its end is less than its beginning
+abbrev pub range_between : ℕ → Option ℕ → Option EntryRange
+range_between from None = Some (record { from = from; to = None })
+range_between from (Some to) = if nat_lt to from then None else Some (record { from = from; to = Some to })
+
+abbrev pub range_with : Text × Text → Option EntryRange
+range_with (first, last) = option_and_then (λ from. option_and_then (range_between from) (upper_end last)) (lower_end first)
+
+-- the range that a text spells: FROM..TO, where FROM is at most TO and each of them may be left out
+abbrev pub range_of : Text → Option EntryRange
+range_of text = option_and_then range_with (around_dots text)
+
+abbrev pub is_pipe_set : List Row → Bool
+is_pipe_set rows = option_map_or (λ text. bytes_eq text (codes "true")) (first_of (codes "pipe") rows) false
+
+-- the entries that are printed, where some are asked for
+abbrev pub print_given : Option Text → Option (Option EntryRange)
+print_given None = Some None
+print_given (Some text) = option_map Some (range_of text)
+
+abbrev pub print_in : List Row → Option (Option EntryRange)
+print_in rows = print_given (first_of (codes "print") rows)
+
+-- the process that is printed, where one is asked for
+abbrev pub inspect_in : List Row → Option ℕ
+inspect_in rows = option_and_then number_of (one_of (codes "inspect") rows)
+
+-- what is done with the entries; no replay that answers commands prints entries or a process
+abbrev pub goal_with : Bool → Option (Option EntryRange) → Option ℕ → Option ReplayGoal
+goal_with false (Some print) inspect = Some (goal.Report print inspect)
+goal_with true (Some None) None = Some goal.Pipe
+goal_with _ _ _ = None
+
+abbrev pub goal_in : List Row → Option ReplayGoal
+goal_in rows = goal_with (is_pipe_set rows) (print_in rows) (inspect_in rows)
+
 -- a replay with these parts, if each of them is there
-abbrev pub replay_with : Option Text → Option ℕ → Option Line
-replay_with (Some file) (Some upto) = Some (replay (record { file = file; upto = upto }))
-replay_with _ _ = None
+abbrev pub replay_with : Option Text → Option ℕ → Option ReplayGoal → Option Line
+replay_with (Some file) (Some upto) (Some goal) = Some (replay (record { file = file; upto = upto; goal = goal }))
+replay_with _ _ _ = None
 
 -- the replay in the matches of `replay`
 abbrev pub replay_in : List Row → Option Line
-replay_in rows = replay_with (first_of (codes "file") rows) (option_and_then number_of (one_of (codes "upto") rows))
+replay_in rows = replay_with (first_of (codes "file") rows) (option_and_then number_of (one_of (codes "upto") rows)) (goal_in rows)
 
 -- the line in the matches of a subcommand
 abbrev pub line_in : Text × List Row → Option Line
@@ -371,7 +464,7 @@ serve_line s = record {
 }
 
 abbrev pub replay_line : ReplayOptions → ReplayLine
-replay_line r = record { file = r.file.now; upto = r.upto }
+replay_line r = record { file = r.file.now; upto = r.upto; goal = r.goal }
 
 abbrev pub as_line : Options → Line
 as_line (options.Call c) = call (call_line c)

@@ -26,6 +26,10 @@ pub enum Wrong<'a> {
     NoSync(&'a str),
     /// A node that ends when its journal is full is to keep the journal in a file.
     StopsWithJournal,
+    /// Text that isn't two numbers with two full stops between, of which the first is at most the second.
+    NoRange(&'a str),
+    /// A replay that answers commands is to print entries or a process.
+    PipesAndPrints,
 }
 
 impl Drop for Wrong<'_> {
@@ -42,7 +46,9 @@ impl Drop for Wrong<'_> {
             | Wrong::NoLevel(_)
             | Wrong::NoStart(_)
             | Wrong::NoSync(_)
-            | Wrong::StopsWithJournal => {}
+            | Wrong::StopsWithJournal
+            | Wrong::NoRange(_)
+            | Wrong::PipesAndPrints => {}
         }
     }
 }

@@ -1,5 +1,5 @@
 //! What a command line of `beamnode` leaves to be done, and the messages about its end.
-ghost use Rattle.std.specs.Prelude.{◌≡◌, IfErr, IfOk, OnOk, []};
+ghost use Rattle.std.specs.Prelude.{◌≡◌, ◌++◌, IfErr, IfOk, OnOk, [], codes};
 ghost use Rattle.std.specs.Io.KnownBytes.{append_known};
 ghost use Rattle.clap.specs.Walk.{texts};
 ghost use Rattle.beam_machine.specs.declared.event.Event.TheVariants.{Spawn};
@@ -60,6 +60,10 @@ pub enum JobFault<'a> {
     NoMemory,
     /// The journal's file can't be read or written.
     Journal(JournalFault<'a>),
+    /// In the state to which the entries of the journal's file of this name lead, the process that is to be printed was never started.
+    NoProcess(&'a str),
+    /// The text of the process that is to be printed is too long, in the state to which the entries of this file lead.
+    LongView(&'a str),
 }
 
 fn session_name(why: SessionFailure) -> &'static str
@@ -111,6 +115,12 @@ fn tell_journal<E: Errors>(fault: &JournalFault<'_>, errors: &mut E)
     tell_two(fault.why.name().as_bytes(), b"\n", errors);
 }
 
+fn tell_file_end<E: Errors>(name: &str, end: &[u8], errors: &mut E)
+    ensures { E.told errors.new ≡ append_known (E.told errors.old) (codes "beamnode: " ++ name.now ++ end.now) }
+{
+    tell_three(b"beamnode: ", name.as_bytes(), end, errors);
+}
+
 fn tell_fault<E: Errors>(fault: &JobFault<'_>, errors: &mut E)
     ensures { E.told errors.new ≡ append_known (E.told errors.old) (job_message fault.now) }
 {
@@ -126,6 +136,8 @@ fn tell_fault<E: Errors>(fault: &JobFault<'_>, errors: &mut E)
         JobFault::Unwritten => errors.tell(b"beamnode: output: WriteFailed\n"),
         JobFault::NoMemory => errors.tell(b"beamnode: NoMemory\n"),
         JobFault::Journal(journal) => tell_journal(journal, errors),
+        JobFault::NoProcess(name) => tell_file_end(name, b": NoProcess\n", errors),
+        JobFault::LongView(name) => tell_file_end(name, b": TooLong\n", errors),
     }
 }
 

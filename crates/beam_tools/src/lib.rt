@@ -10,6 +10,7 @@ pub mod dis;
 pub mod dis_options;
 pub mod early_exit;
 pub mod end_place;
+pub mod entry_range;
 pub mod errors;
 pub mod fault;
 pub mod files;

@@ -1,5 +1,7 @@
 //! What a command line of `beamnode` asks for.
 
+use crate::entry_range::EntryRange;
+
 /// A subcommand, with its options.
 #[derive(Drop)]
 pub enum Options<'a> {
@@ -117,6 +119,20 @@ impl Drop for Serve<'_> {
     }
 }
 
+/// What is done with the entries of a journal's file and with the state to which they lead.
+#[derive(Clone, Copy)]
+pub enum ReplayGoal {
+    /// A report of them is printed.
+    Report {
+        /// The entries that are printed before it, if any.
+        print: Option<EntryRange>,
+        /// The process whose state is printed after it, if any.
+        inspect: Option<u32>,
+    },
+    /// The commands on standard input are answered, from that state on.
+    Pipe,
+}
+
 /// The options of `beamnode replay`.
 #[derive(Clone, Copy)]
 pub struct Replay<'a> {
@@ -124,4 +140,6 @@ pub struct Replay<'a> {
     pub file: &'a str,
     /// The number of the entry before which the replay ends.
     pub upto: u32,
+    /// What is done with its entries.
+    pub goal: ReplayGoal,
 }

@@ -45,7 +45,8 @@ usage: beamnode [-v] call --module M --function F [--args LIST] [--steps N] FILE
                 [--schedulers N] [--log LEVEL] [--idle SECONDS]
                 [--stop-when-full] [--journal-limit N] [--journal FILE]
                 [--sync WHEN] [--start M:F] [FILE..]
-       beamnode [-v] replay [--upto N] FILE
+       beamnode [-v] replay [--upto N] [--print FROM..TO] [--inspect PID] FILE
+       beamnode [-v] replay [--upto N] --pipe FILE
 
 call loads the files in order and prints the value of a function.
 pipe answers the commands on standard input.
@@ -70,12 +71,15 @@ replay runs the entries of a journal's file again, and says what they are.
                      each second, or no (default: second)
   --start M:F        a function without arguments that a process starts with
   --upto N           ends before entry N
+  --print FROM..TO   prints a line for each entry n with FROM <= n < TO
+  --inspect PID      prints process PID, as it is after the last entry
+  --pipe             answers the commands on standard input from there on
   -v, --verbose      after a fault, a second line tells where
   -h, --help         prints this text
   -V, --version      prints name and version
 
-status: 0 success; 1 a file, a stream, the output or memory is refused;
-  2 a wrong command line; 3 process 1 ended with another reason;
+status: 0 success; 1 a file, a process, a stream, the output or memory is
+  refused; 2 a wrong command line; 3 process 1 ended with another reason;
   4 no process can run; 5 the rows are spent
 ";
 
@@ -86,7 +90,8 @@ const NODE_USAGE: &str =
                 [--schedulers N] [--log LEVEL] [--idle SECONDS]
                 [--stop-when-full] [--journal-limit N] [--journal FILE]
                 [--sync WHEN] [--start M:F] [FILE..]
-       beamnode [-v] replay [--upto N] FILE
+       beamnode [-v] replay [--upto N] [--print FROM..TO] [--inspect PID] FILE
+       beamnode [-v] replay [--upto N] --pipe FILE
 ";
 
 /// A program.

@@ -29,6 +29,8 @@ impl Wrong<'_> {
             Wrong::NoStart(_) => "--start ",
             Wrong::NoSync(_) => "--sync ",
             Wrong::StopsWithJournal => "--stop-when-full and --journal exclude each other",
+            Wrong::NoRange(_) => "--print ",
+            Wrong::PipesAndPrints => "--pipe excludes --print and --inspect",
         }
     }
 
@@ -38,14 +40,19 @@ impl Wrong<'_> {
     {
         match self {
             Wrong::Words(text) => text,
-            Wrong::NoText | Wrong::NoCommand | Wrong::NoFile | Wrong::StopsWithJournal => &[],
+            Wrong::NoText
+            | Wrong::NoCommand
+            | Wrong::NoFile
+            | Wrong::StopsWithJournal
+            | Wrong::PipesAndPrints => &[],
             Wrong::Same(word)
             | Wrong::LongModule(word)
             | Wrong::LongFunction(word)
             | Wrong::NoList(word)
             | Wrong::NoLevel(word)
             | Wrong::NoStart(word)
-            | Wrong::NoSync(word) => word.as_bytes(),
+            | Wrong::NoSync(word)
+            | Wrong::NoRange(word) => word.as_bytes(),
         }
     }
 
@@ -59,6 +66,7 @@ impl Wrong<'_> {
             Wrong::NoLevel(_) => " is none of error, warn and info",
             Wrong::NoStart(_) => " is no M:F",
             Wrong::NoSync(_) => " is none of always, second and no",
+            Wrong::NoRange(_) => " is no FROM..TO",
             _ => "",
         }
     }

@@ -10,6 +10,7 @@ use beam_tools::program::Program;
 use beam_tools::report::report;
 use beam_tools::thread::{AnyStatus, on_thread};
 use beam_tools::words::words;
+use std::io::IsTerminal;
 use std::process::ExitCode;
 
 /// For how many bytes of what a node says at its end memory is taken before it begins.
@@ -34,6 +35,15 @@ fn job<'a>(rt: &HostRuntime, words: &'a [&'a str]) -> Job<'a> {
     )
 }
 
+// Where it is told how far a file was read: standard error, if that is a terminal.
+fn terminal_of(rt: &HostRuntime) -> Option<&HostRuntime> {
+    if rt.stderr().is_terminal() {
+        Some(rt)
+    } else {
+        None
+    }
+}
+
 fn fails(rt: &HostRuntime, fault: &RunFault<'_>) -> u8 {
     report(Program::Node, &[], fault, &[], &mut rt.stderr())
 }
@@ -52,7 +62,10 @@ fn main(rt: HostRuntime) -> ExitCode {
         match job(&rt, &words) {
             Job::Done(status) => status,
             Job::Pipe => job_status(&words, pipe(&rt), &mut rt.stderr()),
-            Job::Replay(line) => job_status(&words, replay(&rt, &rt, &line), &mut rt.stderr()),
+            Job::Replay(line) => {
+                let done = replay(&rt, &rt, terminal_of(&rt), &line);
+                job_status(&words, done, &mut rt.stderr())
+            }
             Job::Serve(line) => {
                 // What the node says at its end is written after the lines of the log, and by the same thread.
                 let mut last = Vec::new(rt.alloc());
@@ -60,7 +73,8 @@ fn main(rt: HostRuntime) -> ExitCode {
                 let (Ok(()), Ok(lines)) = (room, start_log(rt)) else {
                     return job_status(&words, Err(JobFault::NoMemory), &mut rt.stderr());
                 };
-                let status = job_status(&words, serve(&rt, &rt, &lines, &line), &mut last);
+                let done = serve(&rt, &rt, terminal_of(&rt), &lines, &line);
+                let status = job_status(&words, done, &mut last);
                 lines.close(&rt, last);
                 status
             }

@@ -10,7 +10,7 @@ use beam_tools::dis::dis_run;
 use beam_tools::files::Files;
 use beam_tools::job::{Job, JobFault, job_status, start_event};
 use beam_tools::journal_fault::{JournalFault, JournalFaultKind};
-use beam_tools::line::{Replay, Serve};
+use beam_tools::line::{Replay, ReplayGoal, Serve};
 use beam_tools::load::load_files;
 use beam_tools::node::node_run;
 use beam_tools::os_error::OsError;
@@ -97,13 +97,30 @@ fn unserved<'a, F: Files>(
     ))
 }
 
-// Replays a journal's file in which the entry is bad before which the replay ends.
-fn replayed<'a>(line: &Replay<'a>) -> Result<(), JobFault<'a>> {
+// Replays a journal's file. For a session it has no entries. Else process 1 has a text that is too long in it, there is no other process,
+// and where no process is to be printed an entry is bad: the first one that is to be printed, or else the one before which the replay ends.
+fn replayed<'a>(alloc: Global, line: &Replay<'a>, device: &mut Memory) -> Result<(), JobFault<'a>> {
+    let print = match line.goal {
+        ReplayGoal::Pipe => return piped(alloc, device),
+        ReplayGoal::Report {
+            inspect: Some(1),
+            ..
+        } => return Err(JobFault::LongView(line.file)),
+        ReplayGoal::Report {
+            inspect: Some(_),
+            ..
+        } => return Err(JobFault::NoProcess(line.file)),
+        ReplayGoal::Report { print, .. } => print,
+    };
+    let (entry, end) = match print {
+        Some(range) => (range.from, range.to),
+        None => (line.upto, None),
+    };
     Err(JobFault::Journal(JournalFault {
         name: line.file,
         why: JournalFaultKind::Bad {
-            at: 16,
-            entry: u64::from(line.upto),
+            at: u64::from(end.unwrap_or(16)),
+            entry: u64::from(entry),
         },
     }))
 }
@@ -121,7 +138,7 @@ fn run_node<F: Files>(
         Job::Done(status) => status,
         Job::Pipe => job_status(words, piped(alloc, device), errors),
         Job::Serve(line) => job_status(words, unserved(alloc, &line, desk), errors),
-        Job::Replay(line) => job_status(words, replayed(&line), errors),
+        Job::Replay(line) => job_status(words, replayed(alloc, &line, device), errors),
     }
 }
 

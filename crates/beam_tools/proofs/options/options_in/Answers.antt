@@ -1,7 +1,7 @@
 use Rattle.std.proofs.Common.{codes, ap, ◌≡◌, ◌∙◌, List, Some, option_and_then}
 use Rattle.std.proofs.lemmas.Result.{IfErr-weaker, IfOk-weaker}
 use Rattle.clap.specs.Words.{Row, found_of, rows_of, subcommand_rows_of}
-use Rattle.beam_tools.specs.Prelude.{IsNoLine, OptionsStop, ServeStops, call_in, line_in, replay_in}
+use Rattle.beam_tools.specs.Prelude.{IsNoLine, OptionsStop, ReplayStops, ServeStops, call_in, line_in}
 use Rattle.beam_tools.proofs.Entered.{entered_as}
 use Rattle.beam_tools.proofs.Stops.{call_stops, replay_stops, serve_stops}
 use Rattle.beam_tools.proofs.options.options_in.Goals as goal
@@ -54,5 +54,5 @@ returns-in-Some-replay-default-clause-stop c =
     let rows : List Row = rows_of (found_of here.inner.now) in
     let is : subcommand_rows_of c.args.matches.now ≡ Some (codes "replay", rows) =
     entered_as c.args.matches.now here.field-0-0.now (codes "replay") rows here.is-replay here.ensures.name here.ensures.rows in
-    IfErr-weaker c.replay_in.result (IsNoLine (replay_in rows)) (OptionsStop (subcommand_rows_of c.args.matches.now))
+    IfErr-weaker c.replay_in.result (ReplayStops rows) (OptionsStop (subcommand_rows_of c.args.matches.now))
     (λ s h. replay_stops _ rows s is h) c.replay_in.ensures.stop
