@@ -1,7 +1,8 @@
 //! What a node prints and logs, kept for the test that runs it.
 
+use std::alloc::Allocator;
 use std::fmt::Display;
-use std::io::{Error, ErrorKind};
+use std::io::{BufRead, Empty, Error, ErrorKind, Lines};
 use std::sync::{Mutex, Wait};
 use std::time::{Clock, Duration};
 use std::{io, str};
@@ -88,6 +89,23 @@ impl<R: Wait + AllocGlobal> Print for TestConsole<'_, R> {
             Ok(text) => self.print_text(text),
             Err(_) => Err(Error::from(ErrorKind::InvalidData)),
         }
+    }
+}
+
+// It has no input.
+impl<R> Input for TestConsole<'_, R> {
+    type Reader = Empty;
+
+    fn read_line<A: Allocator + Clone>(&self, _buf: &mut String<A>) -> io::Result<usize> {
+        Ok(0)
+    }
+
+    fn lines<A: Allocator>(&self, alloc: A) -> Lines<Empty, A> {
+        io::empty().lines(alloc)
+    }
+
+    fn reader(&self) -> Empty {
+        io::empty()
     }
 }
 

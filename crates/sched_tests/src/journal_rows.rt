@@ -77,7 +77,7 @@ const ENDED: &str = "0000001404 706964203120656E646564206E6F726D616C0A";
 /// No instance of a module.
 const NONE: &str = "00000009050000000000000000";
 
-const LIVES: [NodeRow; 11] = [
+const LIVES: [NodeRow; 15] = [
     NodeRow {
         title: "a node with a new file",
         words: "beamnode serve --port 0 --connections 1 --journal n.journal",
@@ -91,15 +91,14 @@ const LIVES: [NodeRow; 11] = [
         ],
         wanted: "listens\nstatus 0\n",
     },
-    // The two schedulers have seats 0 and 1, and the client has seat 2.
+    // The two schedulers have seats 0 and 1, and the client has seat 2. After the load a scheduler may have entered the time.
     NodeRow {
-        title: "what its file has",
-        words: "beamnode replay n.journal",
+        title: "what its file begins with",
+        words: "beamnode replay --upto 1 n.journal",
         is_closed: false,
         steps: &[],
-        wanted: "entries: 2
+        wanted: "entries: 1
   Load: 1
-  Versions: 1
 seats: 3
 clock: 0 ms
 processes: 0, 0 of them ended
@@ -196,11 +195,44 @@ status 0
 ",
     },
     NodeRow {
-        title: "more entries than the node may have",
-        words: "beamnode serve --port 0 --connections 1 --journal-limit 1 --journal torn.journal",
+        title: "the lines of its entries, and a process that was never started",
+        words: "beamnode replay --print .. --inspect 1 torn.journal",
         is_closed: false,
         steps: &[],
-        wanted: "beamnode: torn.journal: JournalFull\nstatus 1\n",
+        wanted: "0 seat 0 Versions t
+1 seat 0 Clock 1000
+entries: 2
+  Clock: 1
+  Versions: 1
+seats: 1
+clock: 1000 ms
+processes: 0, 0 of them ended
+CutJournal at byte 94: 7 bytes
+beamnode: torn.journal: NoProcess
+status 1
+",
+    },
+    NodeRow {
+        title: "one of its lines",
+        words: "beamnode replay --print 1..2 --upto 2 torn.journal",
+        is_closed: false,
+        steps: &[],
+        wanted: "1 seat 0 Clock 1000
+entries: 2
+  Clock: 1
+  Versions: 1
+seats: 1
+clock: 1000 ms
+processes: 0, 0 of them ended
+status 0
+",
+    },
+    NodeRow {
+        title: "a session without commands from there on",
+        words: "beamnode replay --pipe torn.journal",
+        is_closed: false,
+        steps: &[],
+        wanted: "status 0\n",
     },
     NodeRow {
         title: "a torn end, cut off",
@@ -232,6 +264,35 @@ processes: 0, 0 of them ended
 status 0
 ",
     },
+    // The limit is of the entries that the file may lack, and not of those that it has.
+    NodeRow {
+        title: "more entries in the file than the limit",
+        words: "beamnode serve --port 0 --connections 1 --journal-limit 1 --journal torn.journal",
+        is_closed: false,
+        steps: &[
+            Connect,
+            Send(0, "VERSIONS VERSIONS"),
+            Receive(0, NONE),
+            Receive(0, NONE),
+            Finish(0),
+            End(0),
+        ],
+        wanted: "listens\nstatus 0\n",
+    },
+    NodeRow {
+        title: "the file has these too",
+        words: "beamnode replay torn.journal",
+        is_closed: false,
+        steps: &[],
+        wanted: "entries: 5
+  Clock: 1
+  Versions: 4
+seats: 3
+clock: 1000 ms
+processes: 0, 0 of them ended
+status 0
+",
+    },
 ];
 
 /// Lives of nodes, one after another.
@@ -239,7 +300,118 @@ pub fn lives() -> &'static [NodeRow] {
     &LIVES
 }
 
-const REFUSALS: [NodeRow; 8] = [
+/// Ten commands. They only read something, so no scheduler is woken that enters the time.
+const TEN: &str =
+    "VERSIONS VERSIONS VERSIONS VERSIONS VERSIONS VERSIONS VERSIONS VERSIONS VERSIONS VERSIONS";
+
+/// The replies to them, where the module isn't there.
+const TEN_REPLIES: &str = "NONE NONE NONE NONE NONE NONE NONE NONE NONE NONE";
+
+/// The start of a process of `t:sum(100000)`: more than 400,000 rows, so more than 100 slices.
+const LONG_SUM: &str = "0000001706836803770174770373756D6C0000000162000186A06A";
+
+const LONG_LIVES: [NodeRow; 6] = [
+    NodeRow {
+        title: "ten times as many commands as the file may lack",
+        words: "beamnode serve --port 0 --connections 1 --journal long.journal --journal-limit 4 --sync no",
+        is_closed: false,
+        steps: &[
+            Connect,
+            Send(0, TEN),
+            Send(0, TEN),
+            Send(0, TEN),
+            Send(0, TEN),
+            Receive(0, TEN_REPLIES),
+            Receive(0, TEN_REPLIES),
+            Receive(0, TEN_REPLIES),
+            Receive(0, TEN_REPLIES),
+            Finish(0),
+            End(0),
+        ],
+        wanted: "listens\nstatus 0\n",
+    },
+    NodeRow {
+        title: "all of them are in the file",
+        words: "beamnode replay long.journal",
+        is_closed: false,
+        steps: &[],
+        wanted: "entries: 40
+  Versions: 40
+seats: 3
+clock: 0 ms
+processes: 0, 0 of them ended
+status 0
+",
+    },
+    NodeRow {
+        title: "the node comes back, and goes on with answers that wait for the file",
+        words: "beamnode serve --port 0 --connections 1 --journal long.journal --journal-limit 4 --sync second",
+        is_closed: false,
+        steps: &[
+            Connect,
+            Send(0, TEN),
+            Send(0, TEN),
+            Send(0, TEN),
+            Send(0, TEN),
+            Receive(0, TEN_REPLIES),
+            Receive(0, TEN_REPLIES),
+            Receive(0, TEN_REPLIES),
+            Receive(0, TEN_REPLIES),
+            Finish(0),
+            End(0),
+        ],
+        wanted: "listens\nstatus 0\n",
+    },
+    NodeRow {
+        title: "the file has the entries of both lives",
+        words: "beamnode replay long.journal",
+        is_closed: false,
+        steps: &[],
+        wanted: "entries: 80
+  Versions: 80
+seats: 3
+clock: 0 ms
+processes: 0, 0 of them ended
+status 0
+",
+    },
+    NodeRow {
+        title: "a process of more slices than the file may lack",
+        words: "beamnode serve --port 0 --connections 1 --journal work.journal --journal-limit 4 --sync no",
+        is_closed: false,
+        steps: &[
+            Connect,
+            Send(0, "LOAD"),
+            Receive(0, "LOADED"),
+            Send(0, LONG_SUM),
+            Receive(0, "STARTED"),
+            Poll(0, "INSPECT", ENDED),
+            Finish(0),
+            End(0),
+        ],
+        wanted: "listens\nstatus 0\n",
+    },
+    NodeRow {
+        title: "its slices are run again",
+        words: "beamnode serve --port 0 --connections 1 --journal work.journal --journal-limit 4 --sync no",
+        is_closed: false,
+        steps: &[
+            Connect,
+            Send(0, "INSPECT"),
+            Receive(0, ENDED),
+            Finish(0),
+            End(0),
+        ],
+        wanted: "listens\nstatus 0\n",
+    },
+];
+
+/// Lives of nodes that enter many more entries than their files may lack.
+pub fn long_lives() -> &'static [NodeRow] {
+    &LONG_LIVES
+}
+
+const REFUSALS: [NodeRow; 9] = [
     NodeRow {
         title: "a block with another byte",
         words: "beamnode serve -v --port 0 --journal bad.journal",
@@ -288,6 +460,13 @@ const REFUSALS: [NodeRow; 8] = [
         is_closed: false,
         steps: &[],
         wanted: "beamnode: used.journal: JournalInUse\nstatus 1\n",
+    },
+    NodeRow {
+        title: "lines that can't be printed",
+        words: "beamnode replay --print 0.. torn.journal",
+        is_closed: true,
+        steps: &[],
+        wanted: "beamnode: output: WriteFailed\nstatus 1\n",
     },
     NodeRow {
         title: "a report that can't be printed",

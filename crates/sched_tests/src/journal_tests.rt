@@ -1,7 +1,7 @@
 //! `beamnode serve` and `beamnode replay` with a journal's file: nodes that come back, and files that are refused.
 
 use crate::commands::file;
-use crate::journal_rows::{JournalFile, head, journal_files, lives, refusals};
+use crate::journal_rows::{JournalFile, head, journal_files, lives, long_lives, refusals};
 use crate::listings::OVER;
 use crate::serving::first_miss;
 use crate::serving_rows::NodeRow;
@@ -65,6 +65,13 @@ fn come_to<
 #[test]
 fn a_node_comes_back(rt: HostRuntime) -> Result<(), Fail> {
     let miss = come_to(&rt, lives())?;
+    assert_eq!(rt; miss, String::new(rt.alloc()));
+    Ok(())
+}
+
+#[test]
+fn a_journal_outgrows_its_limit(rt: HostRuntime) -> Result<(), Fail> {
+    let miss = come_to(&rt, long_lives())?;
     assert_eq!(rt; miss, String::new(rt.alloc()));
     Ok(())
 }

@@ -16,6 +16,10 @@ mod deep;
 #[cfg(test)]
 mod devices;
 #[cfg(test)]
+mod drained;
+#[cfg(test)]
+mod drained_rows;
+#[cfg(test)]
 mod journal_rows;
 #[cfg(test)]
 mod journal_tests;
@@ -27,6 +31,8 @@ mod listings;
 mod node_client;
 #[cfg(test)]
 mod played;
+#[cfg(test)]
+mod progress;
 #[cfg(test)]
 mod queues;
 #[cfg(test)]

@@ -1,4 +1,4 @@
-//! A seat and a ticket, and the keeper that gives them.
+//! A seat, a ticket and a drain receipt, and the keeper that gives them.
 ghost use Rattle.std.specs.Prelude.{◌≡◌, ◌+◌, [], ◌∷◌, ◌++◌, length, Some};
 ghost use Rattle.beam_machine.specs.declared.debug.DebugEvent.TheVariants.{Resume};
 ghost use Rattle.beam_receipts.specs.Receipts.{of_seat};
@@ -76,4 +76,26 @@ fn check_receipts<B: NodeBrand + Send, R: Abort>(
 #[test]
 fn a_seat_and_a_ticket(rt: HostRuntime) -> Result<(), Fail> {
     check_receipts::<Brand, _>(&rt, UnbrandedKeeper::new(rt.alloc())?)
+}
+
+/// A receipt claims the entries that there are when they leave memory, and one that was given later claims none.
+fn check_drain<B: NodeBrand + Send, R: Abort>(
+    rt: &R,
+    unbranded: UnbrandedKeeper,
+) -> Result<(), Fail>
+    requires { unbranded ≡ B.table }
+{
+    let (keeper, _seat, _ticket) = scenario::<B>(unbranded, 7);
+    let mut keeper = keeper;
+    let mut receipt = sent(keeper.drain_receipt());
+    let before = receipt.count();
+    keeper.drain(&mut receipt, 3);
+    let later = keeper.drain_receipt();
+    assert_eq!(rt; (before, receipt.count(), later.count()), (0, 3, 0));
+    Ok(())
+}
+
+#[test]
+fn a_drain_receipt(rt: HostRuntime) -> Result<(), Fail> {
+    check_drain::<Brand, _>(&rt, UnbrandedKeeper::new(rt.alloc())?)
 }

@@ -36,7 +36,7 @@ pub enum Wanted {
 
 /// What a test does with a new node, and what it waits for then.
 pub struct Scenario {
-    /// How many entries its journal can have.
+    /// How many entries of its journal can be in memory.
     pub limit: u32,
     /// The first commands.
     pub first: Commands,
@@ -187,13 +187,13 @@ fn first_held(node: &Debugger, count: u32) -> Option<u32> {
 
 impl Wanted {
     /// Whether it has come, given the number of entries and the counts that were reported.
-    fn has_come(self, node: &Debugger, entered: u32, report: Tally) -> bool {
+    fn has_come(self, node: &Debugger, entered: u64, report: Tally) -> bool {
         match self {
             Wanted::Nothing => true,
             Wanted::Waits(count) => are_waiting(node, count),
             Wanted::Ends(count) => have_ended(node, count),
             Wanted::End(pid) => has_ended(node, pid),
-            Wanted::Entries(count) => entered >= count,
+            Wanted::Entries(count) => entered >= u64::from(count),
             Wanted::Tally(tally) => report == tally,
         }
     }

@@ -68,8 +68,8 @@ fn run_node<
         &mut errors,
     );
     let status = match job {
-        Job::Serve(line) => job_status(words, serve(rt, console, lines, &line), &mut errors),
-        Job::Replay(line) => job_status(words, replay(rt, console, &line), &mut errors),
+        Job::Serve(line) => job_status(words, serve(rt, console, None, lines, &line), &mut errors),
+        Job::Replay(line) => job_status(words, replay(rt, console, None, &line), &mut errors),
         Job::Done(status) => status,
         Job::Pipe => 0,
     };

@@ -14,7 +14,7 @@ use beam_shared::node::Node;
 use std::alloc::Global;
 use std::test::Fail;
 
-/// A new node whose journal can have `limit` entries, the thread contexts of `workers` workers, one of a sender of commands, and the other
+/// A new node of whose journal `limit` entries can be in memory, the thread contexts of `workers` workers, one of a sender of commands, and the other
 /// senders' ones.
 pub fn staged<B: NodeBrand + QueueBrand>(
     alloc: Global,
@@ -60,15 +60,19 @@ fn parts<B: NodeBrand + QueueBrand>(
     Ok((seats, close(alloc, run_queues)?))
 }
 
-/// Closes the queues and the node with all thread contexts. Returns the journal, and the pids that are left in the queues.
+/// Closes the queues and the node with all thread contexts. Returns the journal, of which no entry has left memory, and the pids that are
+/// left in the queues.
 pub fn closed<B: NodeBrand + QueueBrand>(
     alloc: Global,
     node: Node<B>,
     contexts: Vec<ThreadContext<B>>,
 ) -> Result<(Journal, Vec<u32>), Fail> {
     let (seats, left) = parts(alloc, contexts)?;
-    match node.close(seats) {
+    let Ok(journal) = node.close(seats) else {
+        return Err(Fail::new("Mismatch"));
+    };
+    match journal.into_whole() {
         Ok(journal) => Ok((journal, left)),
-        Err(_) => Err(Fail::new("Mismatch")),
+        Err(_) => Err(Fail::new("entries have left memory")),
     }
 }
