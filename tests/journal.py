@@ -2,9 +2,10 @@
 """Kills a built `beamnode serve --journal FILE` again and again under clients, and lets it come back. Each command that was answered has to
 stand, and none may stand twice or in part: each client sends numbered messages to a process of its own, which keeps them all, and one of
 them loads code. Then torn ends, files that are refused, and a device that is full for some time. Ends with status 1 and says what didn't
-hold. It builds nothing. Not part of `rt ci`.
+hold. Then processes that send without end, while memory is looked at. It builds nothing. Not part of `rt ci`.
 
-    tests/journal.py [--kills 20] [--clients 4] [--schedulers 2] [--sync second|always|no] [--beamas BEAMAS] [BEAMNODE]
+    tests/journal.py [--kills 20] [--clients 4] [--schedulers 2] [--sync second|always|no] [--bytes 4000000]
+                     [--beamas BEAMAS] [BEAMNODE]
 """
 
 import argparse
@@ -31,7 +32,15 @@ LISTING = """{module,k}. {exports,[{keep,0}]}. {attributes,[]}. {labels,5}.
 {label,2}. {loop_rec,{f,4},{x,0}}. {loop_rec_end,{f,2}}. {label,4}. {wait,{f,2}}.
 """
 OTHER = "{module,o}. {exports,[]}. {attributes,[]}. {labels,1}.\n"
-DONE, NUMBERS, VIEW = 0, 5, 4
+# loop() sends itself a message, takes it, and so on.
+LOOP = """{module,s}. {exports,[{loop,0}]}. {attributes,[]}. {labels,5}.
+{function,loop,0,2}. {label,1}. {func_info,{atom,s},{atom,loop},0}.
+{label,2}. {bif,self,{f,0},[],{x,0}}. {move,{atom,m},{x,1}}. send.
+{label,3}. {loop_rec,{f,4},{x,0}}. remove_message. {call_only,0,{f,2}}. {label,4}. {wait,{f,3}}.
+"""
+# How many entries may wait to be written, in one life of a node and another.
+LIMITS = (8, 200, 16_777_216)
+DONE, NUMBERS, VIEW, REFUSED = 0, 5, 4, 6
 LOAD, SPAWN, SEND, INSPECT, VERSIONS = 1, 6, 7, 16, 17
 
 held = failed = 0
@@ -180,7 +189,7 @@ def lives(options, folder: pathlib.Path) -> None:
         for it in (*senders, loader):
             it.join()
         number = max(number, loader.instance)
-        node = Node(options, file)
+        node = Node(options, file, "--journal-limit", str(random.choice(LIMITS)))
         longest = max(longest, node.took)
         client = Client(node.port)
         for at, sender in enumerate(senders):
@@ -284,12 +293,41 @@ def full_device(options, folder: pathlib.Path) -> None:
     node.kill()
 
 
+def memory_of(node: Node) -> int:
+    """How many bytes a node has in memory."""
+    status = pathlib.Path(f"/proc/{node.program.pid}/status").read_text()
+    return int(status.split("VmRSS:")[1].split()[0]) * 1024
+
+
+def memory(options, folder: pathlib.Path) -> None:
+    """Processes that send without end: entries that are written leave memory, so it doesn't grow, and no command is refused."""
+    file = folder / "memory.journal"
+    code = assembled(options, folder, "s", LOOP)
+    node = Node(options, file, "--journal-limit", "5000")
+    client = Client(node.port)
+    client.ask(LOAD, code)
+    for _ in range(4):
+        client.ask(SPAWN, whole(tuple_of(atom("s"), atom("loop"), list_of([]))))
+    sizes = []
+    for wanted in (options.bytes // 4, options.bytes):
+        deadline = time.monotonic() + 600
+        while time.monotonic() < deadline and file.stat().st_size < wanted:
+            time.sleep(0.05)
+        sizes.append((file.stat().st_size, memory_of(node)))
+    expect("the file grows", sizes[1][0] >= options.bytes, sizes)
+    expect("memory doesn't", sizes[1][1] < sizes[0][1] + (8 << 20), sizes)
+    expect("commands are done", client.ask(VERSIONS, b"s")[0] != REFUSED)
+    node.kill()
+    print(f"memory: {sizes[0][1]} bytes with a file of {sizes[0][0]}, {sizes[1][1]} with one of {sizes[1][0]}")
+
+
 def main() -> int:
     parser = argparse.ArgumentParser()
     parser.add_argument("--kills", type=int, default=20)
     parser.add_argument("--clients", type=int, default=4)
     parser.add_argument("--schedulers", type=int, default=2)
     parser.add_argument("--sync", default="second")
+    parser.add_argument("--bytes", type=int, default=4_000_000, help="how long the file becomes of which memory is looked at")
     parser.add_argument("--beamas", default=str(ROOT / "crates/beamas/out/beamas"))
     parser.add_argument("beamnode", nargs="?", default=str(ROOT / "crates/beamnode/out/beamnode"))
     options = parser.parse_args()
@@ -300,6 +338,7 @@ def main() -> int:
         refusals(options, folder)
         if options.sync != "no":
             full_device(options, folder)
+        memory(options, folder)
     print(f"{held} hold, {failed} don't")
     return 1 if failed else 0
 
