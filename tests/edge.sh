@@ -216,7 +216,7 @@ return.
 END
 "$as" s.S s.beam
 time='[0-9]{4}-[0-9]{2}-[0-9]{2}T[0-9]{2}:[0-9]{2}:[0-9]{2}\.[0-9]{3}Z'
-module='beam_serve::[a-z_]+'
+module='beam_(serve|log|replay)::[a-z_]+'
 
 # serve WORD..: starts a node; port is where it listens.
 serve() {
@@ -599,7 +599,7 @@ client "a node whose log isn't read" <flood
 touch go
 sleep 1
 control spawn s:told >out 2>err
-logs "lines that were lost" 1 "$time \[WARN  beam_serve::log_writer\] [0-9]+ lines lost"
+logs "lines that were lost" 1 "$time \[WARN  beam_log::log_writer\] [0-9]+ lines lost"
 logs "a line after them" 1 "$time \[INFO  $module\] process <0\.1\.0>: ended with told"
 stops
 wait "$reader"

@@ -156,7 +156,7 @@ LISTINGS = ("t", "e", "g1", "g2", "h1", "h2", "r", "w", "served", "watch", "m")
 AT_REST = re.compile(r"\Apid \d+ (?:held|ended|waiting(?s:.*)transit 0\b)")
 # It computes, in the function of two arguments that sum/1 calls.
 BEGUN = re.compile(r"(?m)^at t:sum/2 ")
-WARNING = re.compile(r"(?m)^\S+ \[WARN  beam_serve::\w+\] (?:NoMemory|1 of 2 clients|[0-9]+ lines lost)\n")
+WARNING = re.compile(r"(?m)^\S+ \[WARN  beam_(?:serve|log)::\w+\] (?:NoMemory|1 of 2 clients|[0-9]+ lines lost)\n")
 IS_NO_MEMORY = re.compile(r"beam\w+: (?:[\w.]+: )?NoMemory\n\Z")
 
 

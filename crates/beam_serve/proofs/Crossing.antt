@@ -6,39 +6,24 @@ use denote.Hole.{as_row}
 use denote.Struct.Field.{row_field, shr_ref_field}
 use denote.Param.Send.{IsSend, IsSync, sendable, shr_send, shr_sync, view_send}
 use denote.Param.SendFields.{as_row_send, as_row_sync, declared_send, declared_sync, variants_send}
-use Rattle.std.proofs.Crossing.{crosses, Vec-send}
 use Rattle.std.proofs.alloc.Global.TheSendSync as Global
 use Rattle.std.proofs.option.Option.TheSendSync as Option
-use Rattle.std.proofs.sync.Condvar.TheSendSync as Condvar
-use Rattle.beam_block_file.proofs.file_shelf.FileShelf.TheSendSync as FileShelf_crossing
-use Rattle.beam_block_file.specs.contracts.file_shelf.FileShelfShelf.TheImpl as FileShelf_shelf
-use Rattle.beam_block_file.specs.declared.shelf.Shelf as Shelf
-use Rattle.beam_journal_file.proofs.error.WriteFailed.TheSendSync as WriteFailed_crossing
-use Rattle.beam_journal_file.proofs.writer.JournalWriter.TheSendSync as JournalWriter_crossing
 use Rattle.beam_queue.specs.declared.brand.QueueBrand as QueueBrand
-use Rattle.beam_receipts.proofs.drain.DrainReceipt.TheSendSync as DrainReceipt_crossing
 use Rattle.beam_receipts.specs.declared.brand.NodeBrand as NodeBrand
-use Rattle.beam_sched.proofs.Crossing.{Entry_send, Shared_sync}
+use Rattle.beam_sched.proofs.Crossing.{Shared_sync}
 use Rattle.beam_sched.proofs.thread_context.ThreadContext.TheSendSync as ThreadContext_crossing
 use Rattle.beam_sched.specs.contracts.shared.Shared as Shared
 use Rattle.beam_serve.proofs.connection_thread.ServeOptions.TheSendSync as ServeOptions_crossing
 use Rattle.beam_serve.proofs.acceptor.Acceptor.TheSendSync as Acceptor_crossing
-use Rattle.beam_serve.proofs.disk_journal.FileCounts.TheSendSync as FileCounts_crossing
 use Rattle.beam_serve.proofs.memory_reserve.MemoryReserve.TheSendSync as MemoryReserve_crossing
-use Rattle.beam_serve.proofs.open_sockets.OpenSockets.TheSendSync as OpenSockets_crossing
+use Rattle.beam_sockets.proofs.open_sockets.OpenSockets.TheSendSync as OpenSockets_crossing
 use Rattle.beam_serve.specs.contracts.connection_thread.ConnectionThread as ConnectionThread
 use Rattle.beam_serve.specs.contracts.acceptor.Acceptor as Acceptor
-use Rattle.beam_serve.specs.contracts.disk_journal.DiskJournal as DiskJournal
-use Rattle.beam_serve.specs.contracts.disk_journal.Progress as Progress
-use Rattle.beam_serve.specs.contracts.journal_link.JournalLink as JournalLink
-use Rattle.beam_serve.specs.contracts.journal_thread.JournalThread as JournalThread
-use Rattle.beam_serve.specs.contracts.node_file.NodeFile as NodeFile
-use Rattle.beam_serve.specs.contracts.node_file.NodeFile.TheInside as NodeFile_inside
 use Rattle.beam_serve.specs.contracts.seat_desk.SeatDesk as SeatDesk
 use Rattle.beam_serve.specs.contracts.seat_desk.SeatDesk.TheInside as SeatDesk_inside
 use Rattle.beam_serve.specs.contracts.serve_gate.ServeGate as ServeGate
 use Rattle.beam_serve.specs.contracts.serve_helper.ServeHelper as ServeHelper
-use Rattle.beam_tools.proofs.line.SyncMode.TheSendSync as SyncMode_crossing
+use Rattle.beam_disk_journal.proofs.Crossing.{JournalLink_send, JournalLink_sync, JournalThread_send}
 
 -- ---- a `&` to what may be shared
 
@@ -57,27 +42,6 @@ Shared_ref_sync l B g = as_row_sync (shr_ref_field l (Shared.the_row B g) tt) (s
 Acceptor_send : (l : NamedLft) → IsSend (as_row (shr_ref_field l (Acceptor.the_row l) tt))
 Acceptor_send l = as_row_send (shr_ref_field l (Acceptor.the_row l) tt) (shr_send l.mir l.lft _ (Acceptor_crossing.the_sync l))
 
--- ---- the journal's file
-
-NodeFile_send : (B S : RattleType) (g : NodeBrand.Ghosts B.Denot) (s : Shelf.Ghosts S.Denot) → IsSend S → IsSend (NodeFile.the_row B S g s)
-NodeFile_send B S g s f = view_send _ _ _ _ _ (declared_send (NodeFile_inside.the_type B S g s)
-    (Global.the_send, ((JournalWriter_crossing.the_send S s f), ((DrainReceipt_crossing.the_send B g), ((Vec-send _ Entry_send), ((search sendable), tt))))))
-
-Progress_send : (B S : RattleType) (g : NodeBrand.Ghosts B.Denot) (s : Shelf.Ghosts S.Denot) → IsSend S → IsSend (Progress.the_row B S g s)
-Progress_send B S g s f = declared_send (Progress.the_type B S g s) ((Option.the_send _ (NodeFile_send B S g s f)), (FileCounts_crossing.the_send, ((search sendable), ((search sendable), ((Option.the_send _ WriteFailed_crossing.the_send), ((Option.the_send _ (search sendable)), ((search sendable), tt)))))))
-
-DiskJournal_sync : (B S : RattleType) (g : NodeBrand.Ghosts B.Denot) (s : Shelf.Ghosts S.Denot) → IsSend S → IsSync (DiskJournal.the_row B S g s)
-DiskJournal_sync B S g s f = let p = Progress_send B S g s f in declared_sync (DiskJournal.the_type B S g s)
-    (search crosses, (Condvar.the_sync, (Condvar.the_sync, (search crosses, (SyncMode_crossing.the_sync, ((search sendable), tt))))))
-
-JournalLink_send : (l : NamedLft) (B : RattleType) (g : NodeBrand.Ghosts B.Denot) → IsSend (JournalLink.the_row l B g)
-JournalLink_send l B g = declared_send (JournalLink.the_type l B g)
-    ((shr_send l.mir l.lft _ (DiskJournal_sync B _ g FileShelf_shelf.ghosts FileShelf_crossing.the_send)), ((shr_send l.mir l.lft _ OpenSockets_crossing.the_sync), tt))
-
-JournalLink_sync : (l : NamedLft) (B : RattleType) (g : NodeBrand.Ghosts B.Denot) → IsSync (JournalLink.the_row l B g)
-JournalLink_sync l B g = declared_sync (JournalLink.the_type l B g)
-    ((shr_sync l.mir l.lft _ (DiskJournal_sync B _ g FileShelf_shelf.ghosts FileShelf_crossing.the_send)), ((shr_sync l.mir l.lft _ OpenSockets_crossing.the_sync), tt))
-
 -- ---- the threads, and the gate
 
 pub SeatDesk_send : (l : NamedLft) (B R : RattleType) (g : NodeBrand.Ghosts B.Denot) (q : QueueBrand.Ghosts B.Denot) → IsSync R → IsSend (SeatDesk.the_row l B R g q)
@@ -86,10 +50,6 @@ SeatDesk_send l B R g q r = view_send _ _ _ _ _ (declared_send (SeatDesk_inside.
 pub ConnectionThread_send : (l : NamedLft) (B R : RattleType) (g : NodeBrand.Ghosts B.Denot) (q : QueueBrand.Ghosts B.Denot) → IsSync R → IsSend (ConnectionThread.the_row l B R g q)
 ConnectionThread_send l B R g q r = declared_send (ConnectionThread.the_type l B R g q)
     (runtime_send l R r, (Global.the_send, (Shared_send l B g, (Acceptor_send l, ((search sendable), (SeatDesk_send l B R g q r, (ServeOptions_crossing.the_send, tt)))))))
-
-JournalThread_send : (l : NamedLft) (B R : RattleType) (g : NodeBrand.Ghosts B.Denot) → IsSync R → IsSend (JournalThread.the_row l B R g)
-JournalThread_send l B R g r = declared_send (JournalThread.the_type l B R g)
-    (runtime_send l R r, (Shared_send l B g, (JournalLink_send l B g, (FileShelf_crossing.the_send, ((search sendable), ((search sendable), ((search sendable), tt)))))))
 
 pub ServeHelper_send : (l : NamedLft) (B R : RattleType) (g : NodeBrand.Ghosts B.Denot) (q : QueueBrand.Ghosts B.Denot) → IsSync R → IsSend (ServeHelper.the_row l B R g q)
 ServeHelper_send l B R g q r = variants_send (ServeHelper.enum l B R g q) ((ConnectionThread_send l B R g q r, tt), ((JournalThread_send l B R g r, tt), tt))

@@ -2,5 +2,3 @@ pub mod NodeStart
 pub mod Keeping
 pub mod Ports
 pub mod Crossing
-pub mod WrittenEntries
-pub mod Pieces

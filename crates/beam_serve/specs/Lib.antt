@@ -1,5 +1,4 @@
 pub mod Answers
+pub mod Limits
 pub mod Loading
 pub mod SessionReplies
-pub mod StreamsHistory
-pub mod WrittenEntries

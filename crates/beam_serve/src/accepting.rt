@@ -1,6 +1,6 @@
 //! Accepting connections.
 
-use crate::open_sockets::OpenSockets;
+use beam_sockets::OpenSockets;
 use beam_tools::os_error::OsError;
 use log::{Log, warn};
 use std::io::{Error, ErrorKind};

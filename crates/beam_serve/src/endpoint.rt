@@ -1,7 +1,7 @@
 //! The listening endpoint of a port.
 
 use crate::memory_reserve::MemoryReserve;
-use crate::open_sockets::OpenSockets;
+use beam_sockets::OpenSockets;
 use std::net::{SocketAddr, TcpListener};
 
 /// A listener, the sockets by which it is shut, its address, and the memory that is kept for its sessions.

@@ -1,11 +1,11 @@
 //! The connections to a port, with a session over each of them.
 
 use crate::acceptor::Acceptor;
-use crate::served_stream::ServedStream;
 use crate::sessions::Incoming;
-use crate::streams::Streams;
-use crate::timed_stream::TimedStream;
 use beam_remote::{ServeError, Served, SessionFailure};
+use beam_sockets::ServedStream;
+use beam_sockets::TimedStream;
+use beam_streams::Streams;
 use beam_tools::os_error::OsError;
 use log::{Log, info, warn};
 use std::alloc::{AllocError, Global};

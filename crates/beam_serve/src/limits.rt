@@ -1,7 +1,7 @@
 //! How many entries of the journal can be in memory, and how far its file can fall behind.
 ghost use Rattle.std.specs.Prelude.{◌≡◌, ◌≤◌};
 ghost use Rattle.beam_journal.specs.Entering.{most_entries};
-ghost use Rattle.beam_serve.specs.WrittenEntries.{limit_for};
+ghost use Rattle.beam_serve.specs.Limits.{limit_for};
 
 use beam_journal::journal::MOST_ENTRIES;
 use beam_tools::line::Serve;

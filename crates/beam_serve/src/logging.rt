@@ -1,7 +1,7 @@
 //! The log of a node.
 ghost use Rattle.std.specs.Prelude.{Some, []};
 
-use crate::log_lines::LogLines;
+use beam_log::LogLines;
 use beam_tools::line::LogLevel;
 use jiff::Timestamp;
 use log::kv::Source;

@@ -4,10 +4,10 @@ ghost use Rattle.beam_sched.specs.CommandAnswers.{answer_of};
 ghost use Rattle.beam_serve.specs.Answers.{response_by, response_to};
 
 use crate::command_log::CommandLog;
-use crate::journal_link::JournalLink;
 use crate::memory_reserve::MemoryReserve;
 use beam_debug::outcome::Outcome;
 use beam_desk::reply;
+use beam_disk_journal::JournalLink;
 use beam_image::Image;
 use beam_journal_file::WriteFailed;
 use beam_machine::command::Response;

@@ -2,14 +2,14 @@
 
 use crate::endpoint::Endpoint;
 use crate::exit_log::{log_exit, log_rows};
-use crate::journal_link::JournalLink;
 use crate::memory_reserve::MemoryReserve;
-use crate::open_sockets::OpenSockets;
 use beam_debug::outcome::Outcome;
+use beam_disk_journal::JournalLink;
 use beam_receipts::brand::NodeBrand;
 use beam_sched::gate::Gate;
 use beam_sched::journal_threshold::JournalThreshold;
 use beam_sched::shared::Shared;
+use beam_sockets::OpenSockets;
 use beam_term::Term;
 use log::{Log, warn};
 use std::sync::Wait;

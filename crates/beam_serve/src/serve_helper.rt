@@ -1,7 +1,7 @@
 //! The threads beside the one that calls `serve`.
 
 use crate::connection_thread::ConnectionThread;
-use crate::journal_thread::JournalThread;
+use beam_disk_journal::JournalThread;
 use beam_queue::QueueBrand;
 use beam_receipts::brand::NodeBrand;
 use beam_sched::schedulers::Helper;

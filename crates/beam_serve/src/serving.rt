@@ -2,41 +2,36 @@
 ghost use Rattle.std.specs.Prelude.{◌≡◌, ◌≢◌, ◌*◌, [], MatchOption, IfErr, IfOk, IfSome, OnOk};
 ghost use Rattle.std.specs.Duration.{as_nanos};
 ghost use Rattle.beam_journal_file.specs.JournalRead.{HasRead};
-ghost use Rattle.beam_serve.specs.WrittenEntries.{limit_for};
+ghost use Rattle.beam_serve.specs.Limits.{limit_for};
 ghost use Rattle.beam_tools.specs.Job.{IsOfPort};
 
 use crate::acceptor::{Acceptor, Ended};
 use crate::closed_node::{ClosedNode, NotEnded};
 use crate::connection_thread::{ConnectionThread, ServeOptions};
-use crate::disk_journal::DiskJournal;
 use crate::endpoint::Endpoint;
-use crate::journal_fault::write_fault;
-use crate::journal_link::JournalLink;
-use crate::journal_opening::{OpenJournal, open_journal};
-use crate::journal_recovery::{Recovered, recover};
-use crate::journal_thread::JournalThread;
 use crate::limits::{limit_of, most_behind_of};
 use crate::loading::load_and_start;
-use crate::log_lines::LogLines;
 use crate::logging::logged;
 use crate::memory_reserve::MemoryReserve;
-use crate::open_sockets::{OpenSockets, ServedConnections};
-use crate::read_progress::ReadProgress;
 use crate::seat_desk::SeatDesk;
 use crate::serve_gate::ServeGate;
 use crate::serve_helper::ServeHelper;
 use beam_block_file::FileShelf;
+use beam_disk_journal::{DiskJournal, JournalLink, JournalThread, NodeFile};
+use beam_log::LogLines;
 use beam_queue as queue;
 use beam_queue::{NotMade, QueueBrand};
 use beam_receipts::brand::NodeBrand;
 use beam_receipts::keeper::UnbrandedKeeper;
 use beam_receipts::seat::SeatReceipt;
+use beam_replay::{OpenJournal, ReadProgress, Recovered, open_journal, recover, write_fault};
 use beam_sched::clock::SteadyClock;
 use beam_sched::schedulers::run_with_helpers;
 use beam_sched::shared::Shared;
 use beam_sched::thread_context::ThreadContext;
 use beam_sched::thread_contexts::{NewContexts, SeatsAndQueues, contexts};
 use beam_shared::node::Node;
+use beam_sockets::{OpenSockets, ServedConnections};
 use beam_tools::files::{FileSystem, Files};
 use beam_tools::job::JobFault;
 use beam_tools::line::Serve;
@@ -127,10 +122,15 @@ fn begin<'l, B: NodeBrand, R: Log, T: Eprint + Clock>(
         size,
     } = opened;
     let progress = ReadProgress::new(terminal, size);
-    let Recovered { seats, file } = match recover(rt, alloc, node, reader, progress, name) {
+    let Recovered {
+        seats,
+        writer,
+        receipt,
+    } = match recover(rt, alloc, node, reader, progress, name) {
         Ok(recovered) => recovered,
         Err(fault) => return Err(fault),
     };
+    let file = NodeFile::new(alloc, writer, receipt);
     Ok(Beginning {
         seats,
         journal: Some(DiskJournal::new(file, line.sync, most_behind_of(line))),

@@ -1,7 +1,10 @@
 //! The program `beamnode`: the words of its command line, the file system, the standard streams and the net.
 #![tactic(auto)]
 
-use beam_serve::{pipe, replay, serve, start_log};
+use beam_log::start_log;
+use beam_replay::replay;
+use beam_serve::serve;
+use beam_streams::pipe;
 use beam_tools::fault::RunFault;
 use beam_tools::files::FileSystem;
 use beam_tools::job::{Job, JobFault, job_status};

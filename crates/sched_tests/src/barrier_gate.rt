@@ -1,12 +1,12 @@
 //! A gate that holds slices, and counts what workers report to it. A clock can take the count as the time.
 
-use crate::test_deadline::{TestDeadline, Unfinished};
 use beam_debug::outcome::Outcome;
 use beam_machine::event::{Reply, Then};
 use beam_sched::clock::Clock;
 use beam_sched::gate::Gate;
 use beam_sched::journal_threshold::JournalThreshold;
 use beam_term::Term;
+use node_testing::test_deadline::{TestDeadline, Unfinished};
 use std::sync::{Mutex, Wait};
 use std::time;
 

@@ -1,9 +1,9 @@
 //! Processes that start, name, look up, end and catch each other while their code changes.
-use crate::commands::Argument::Integer;
-use crate::commands::Commands;
-use crate::listings::{CHILD, PARENT};
 use crate::scenario::Scenario;
 use crate::shared::play_here;
+use node_testing::commands::Argument::Integer;
+use node_testing::commands::Commands;
+use node_testing::listings::{CHILD, PARENT};
 use std::alloc::Global;
 use std::process::Abort;
 use std::sync::Wait;

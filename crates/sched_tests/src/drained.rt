@@ -1,10 +1,7 @@
 //! Nodes of which entries leave memory.
 ghost use Rattle.std.specs.Prelude.{◌≡◌};
 
-use crate::commands::Argument::Integer;
-use crate::commands::Commands;
 use crate::drained_rows::{DrainedRow, rows};
-use crate::listings::SUM;
 use beam_image::Image;
 use beam_journal::entry::Entry;
 use beam_journal::node_journal::NodeJournal;
@@ -16,6 +13,9 @@ use beam_receipts::keeper::UnbrandedKeeper;
 use beam_receipts::seat::SeatReceipt;
 use beam_shared::checkout::Checkout;
 use beam_shared::node::Node;
+use node_testing::commands::Argument::Integer;
+use node_testing::commands::Commands;
+use node_testing::listings::SUM;
 use std::alloc::{AllocError, Global};
 use std::marker::Brand;
 use std::mem;

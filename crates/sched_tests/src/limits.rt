@@ -1,9 +1,6 @@
 //! Nodes whose journals have little room, and workers that are stopped.
 ghost use Rattle.std.specs.Prelude.{◌≡◌};
 
-use crate::commands::Argument::Integer;
-use crate::commands::Commands;
-use crate::listings::SUM;
 use crate::queues::endless;
 use crate::scenario::{Scenario, Wanted};
 use crate::shared::play_here;
@@ -12,6 +9,9 @@ use beam_receipts::brand::NodeBrand;
 use beam_receipts::keeper::UnbrandedKeeper;
 use beam_receipts::seat::SeatReceipt;
 use beam_shared::node::Node;
+use node_testing::commands::Argument::Integer;
+use node_testing::commands::Commands;
+use node_testing::listings::SUM;
 use std::alloc::Global;
 use std::marker::Brand;
 use std::process::Abort;

@@ -1,11 +1,11 @@
 //! The outcome of a scenario: the journal, and the state to which it has to lead.
 
 use crate::barrier_gate::GateReport;
-use beam_debug::debugger::Debugger;
 use beam_image::Image;
 use beam_journal::journal::Journal;
 use beam_machine::debug::DebugEvent;
 use beam_machine::event::Event;
+use node_testing::views::text_of;
 use std::alloc::Global;
 use std::test::Fail;
 
@@ -63,15 +63,6 @@ pub struct Played {
     pub counts: JournalCounts,
     /// Whether the journal, run again, leads to the views of the processes at the end.
     pub replays: bool,
-}
-
-/// The views of the processes from 1 to `count`, as text.
-pub fn text_of(alloc: Global, node: &Debugger, count: u32) -> Result<Vec<u8>, Fail> {
-    let mut text = Vec::new(alloc);
-    for pid in 1..=count {
-        node.inspect(pid)?.print(&mut text)?;
-    }
-    Ok(text)
 }
 
 fn more(count: u32) -> u32 {

@@ -1,9 +1,9 @@
 //! The queues of workers: which processes are in them, and that all of these are taken.
-use crate::commands::Argument::Integer;
-use crate::commands::Commands;
-use crate::listings::{LOOP, SLEEP, SUM};
 use crate::scenario::{Scenario, Wanted};
 use crate::shared::left_here;
+use node_testing::commands::Argument::Integer;
+use node_testing::commands::Commands;
+use node_testing::listings::{LOOP, SLEEP, SUM};
 use std::alloc::Global;
 use std::process::Abort;
 use std::sync::Wait;

@@ -1,9 +1,9 @@
 //! Nodes with one worker and with many.
-use crate::commands::Argument::{Integer, Pid};
-use crate::commands::Commands;
-use crate::listings::{CALLER, HEAR, LINK, SLEEP, SUM};
 use crate::scenario::Scenario;
 use crate::shared::{play_here, play_seen};
+use node_testing::commands::Argument::{Integer, Pid};
+use node_testing::commands::Commands;
+use node_testing::listings::{CALLER, HEAR, LINK, SLEEP, SUM};
 use std::alloc::Global;
 use std::process::Abort;
 use std::sync::Wait;

@@ -1,8 +1,6 @@
 //! What a test does beside the workers.
 
 use crate::barrier_gate::{BarrierGate, Tally};
-use crate::commands::Commands;
-use crate::test_deadline::{REFUSED, Unfinished};
 use beam_debug::debugger::Debugger;
 use beam_journal::journal::MOST_ENTRIES;
 use beam_machine::debug::DebugEvent;
@@ -11,11 +9,13 @@ use beam_receipts::brand::NodeBrand;
 use beam_sched::schedulers::{ForegroundTask, StartedThreads};
 use beam_sched::shared::Shared;
 use beam_sched::thread_context::ThreadContext;
+use node_testing::commands::Commands;
+use node_testing::test_deadline::{REFUSED, Unfinished};
 use std::alloc::Global;
 use std::sync::Wait;
 use std::test::Fail;
-use std::time;
 use std::time::Duration;
+use std::time;
 
 /// What a scenario waits for.
 #[derive(Clone, Copy)]

@@ -1,10 +1,10 @@
 //! What workers report to their gate of processes that are held or end.
 use crate::barrier_gate::Tally;
-use crate::commands::Argument::{Integer, Pid};
-use crate::commands::Commands;
-use crate::listings::{LOOP, OVER, SUM};
 use crate::scenario::{Scenario, Wanted};
 use crate::shared::play_here;
+use node_testing::commands::Argument::{Integer, Pid};
+use node_testing::commands::Commands;
+use node_testing::listings::{LOOP, OVER, SUM};
 use std::alloc::Global;
 use std::process::Abort;
 use std::test::*;

@@ -1,10 +1,10 @@
 //! Waits that end by their deadlines, whatever else there is to do.
-use crate::commands::Argument::{Integer, Pid, Pids};
-use crate::commands::{Argument, Commands};
-use crate::listings::{GO, OVER, SLEEP, WAIT};
 use crate::queues::endless;
 use crate::scenario::{Scenario, Wanted};
 use crate::shared::play_here;
+use node_testing::commands::Argument::{Integer, Pid, Pids};
+use node_testing::commands::{Argument, Commands};
+use node_testing::listings::{GO, OVER, SLEEP, WAIT};
 use std::alloc::Global;
 use std::process::Abort;
 use std::sync::Wait;

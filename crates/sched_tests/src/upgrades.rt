@@ -1,10 +1,10 @@
 //! Processes whose modules are upgraded together while they run.
-use crate::commands::Argument::Integer;
-use crate::commands::Commands;
-use crate::listings::{SEEKER, version};
 use crate::scenario::Scenario;
 use crate::shared::play_seen;
 use beam_machine::event::UpgradeMode;
+use node_testing::commands::Argument::Integer;
+use node_testing::commands::Commands;
+use node_testing::listings::{SEEKER, version};
 use std::alloc::Global;
 use std::test::*;
 

@@ -2,12 +2,7 @@
 ghost use Rattle.std.specs.Prelude.{◌≡◌};
 ghost use Rattle.beam_journal.specs.Entering.{most_entries};
 
-use crate::commands::Argument::Integer;
-use crate::commands::Commands;
-use crate::listings::SLEEP;
 use crate::played::JournalCounts;
-use crate::stage::{closed, staged};
-use crate::test_deadline::{REFUSED, TestDeadline, Unfinished};
 use beam_debug::debugger::Debugger;
 use beam_debug::outcome::Outcome;
 use beam_journal::journal::MOST_ENTRIES;
@@ -22,6 +17,11 @@ use beam_sched::schedulers::{ForegroundTask, StartedThreads, run_schedulers};
 use beam_sched::shared::Shared;
 use beam_sched::thread_context::ThreadContext;
 use beam_term::Term;
+use node_testing::commands::Argument::Integer;
+use node_testing::commands::Commands;
+use node_testing::listings::SLEEP;
+use node_testing::stage::{closed, staged};
+use node_testing::test_deadline::{REFUSED, TestDeadline, Unfinished};
 use std::alloc::Global;
 use std::marker::Brand;
 use std::process::Abort;
@@ -29,8 +29,8 @@ use std::sync::Wait;
 use std::sync::atomic::{AtomicU64, Ordering};
 use std::test::*;
 use std::thread::Threads;
-use std::time;
 use std::time::Duration;
+use std::time;
 
 /// A clock that stays at the time to which it was set, and counts how often it was read.
 #[derive(Drop)]

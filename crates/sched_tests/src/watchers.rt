@@ -1,9 +1,9 @@
 //! Processes that monitor others.
-use crate::commands::Argument::{Integer, Pid};
-use crate::commands::Commands;
-use crate::listings::{HEAR, OVER, WATCH};
 use crate::scenario::Scenario;
 use crate::shared::{play_here, play_seen};
+use node_testing::commands::Argument::{Integer, Pid};
+use node_testing::commands::Commands;
+use node_testing::listings::{HEAR, OVER, WATCH};
 use std::alloc::Global;
 use std::process::Abort;
 use std::sync::Wait;

@@ -1,4 +1,4 @@
-use Rattle.beam_serve.specs.WrittenEntries.{limit_for}
+use Rattle.beam_serve.specs.Limits.{limit_for}
 use Rattle.beam_serve.proofs.serving.serve.Given as goal
 
 abbrev pub ghosts-serve_node-B-NodeBrand : goal.ghosts-serve_node-B-NodeBrand

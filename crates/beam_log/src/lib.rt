@@ -1,0 +1,9 @@
+//! The lines of a node's log, which wait for the thread that writes them, and how many ends of processes are among them.
+#![tactic(auto)]
+
+mod end_limit;
+mod log_lines;
+mod log_writer;
+
+pub use log_lines::{LogLine, LogLines, NextLine};
+pub use log_writer::{start_log, write_lines};

@@ -1,0 +1,31 @@
+//! Tests of sessions with a node that threads share, and of `beamnode serve` and `beamnode replay` over real sockets and files.
+#![tactic(auto)]
+
+#[cfg(test)]
+mod concurrent_sessions;
+#[cfg(test)]
+mod console;
+#[cfg(test)]
+mod devices;
+#[cfg(test)]
+mod journal_rows;
+#[cfg(test)]
+mod journal_tests;
+#[cfg(test)]
+mod node_client;
+#[cfg(test)]
+mod progress;
+#[cfg(test)]
+mod serving;
+#[cfg(test)]
+mod serving_rows;
+#[cfg(test)]
+mod serving_tests;
+#[cfg(test)]
+mod sessions;
+#[cfg(test)]
+mod silence;
+#[cfg(test)]
+mod talking;
+#[cfg(test)]
+mod talks;

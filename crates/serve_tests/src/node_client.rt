@@ -1,0 +1,269 @@
+//! A client of a node that serves a port: what it does with its connections, step by step.
+
+use crate::console::TestConsole;
+use crate::talking::frames;
+use hex;
+use node_testing::test_deadline::TestDeadline;
+use std::alloc::Global;
+use std::fs::File;
+use std::io::{ErrorKind, Read, Write};
+use std::net::{Net, Shutdown, TcpStream};
+use std::sync::Wait;
+use std::time::{Clock, Duration};
+
+/// For how many seconds a call of a connection waits: a little less than the 60 seconds after which `rt` ends a test.
+const SECONDS: u64 = 50;
+
+/// How many connections a client that gives up makes, so that the node ends after its last one: more than any row asks for.
+const LAST_CONNECTIONS: u32 = 8;
+
+/// What a client does, or what it wants to come. Connections have numbers, from 0 on, in the order in which they are made. Frames are in
+/// words.
+#[derive(Clone, Copy)]
+pub enum Step {
+    /// Makes the next connection.
+    Connect,
+    /// Sends these frames.
+    Send(usize, &'static str),
+    /// The next bytes are these frames.
+    Receive(usize, &'static str),
+    /// The command is sent again and again until its reply is this.
+    Poll(usize, &'static str, &'static str),
+    /// Sends nothing more.
+    Finish(usize),
+    /// No more bytes come: the node has closed the connection.
+    End(usize),
+    /// So many threads run, the client's among them.
+    Threads(u32),
+}
+
+/// A client of the node on a console.
+#[derive(Drop)]
+pub struct NodeClient<'a, R> {
+    rt: &'a R,
+    console: &'a TestConsole<'a, R>,
+    deadline: TestDeadline,
+    /// The file in which the operating system tells how many threads run.
+    process_status: File,
+    streams: Vec<TcpStream>,
+    /// The bytes that came last.
+    came: Vec<u8>,
+}
+
+/// The next `count` bytes of a connection, or the bytes up to its end, or up to the end of the time.
+fn next_bytes(alloc: Global, stream: &TcpStream, count: usize) -> Vec<u8> {
+    let mut bytes = Vec::new(alloc);
+    let mut part = stream.take(count as u64);
+    let _ = part.read_to_end(&mut bytes);
+    bytes
+}
+
+/// The next frame of a connection.
+fn next_frame(alloc: Global, stream: &TcpStream) -> Vec<u8> {
+    let mut frame = next_bytes(alloc, stream, 4);
+    if let [a, b, c, d] = frame.as_slice() {
+        let length = u32::from_be_bytes([*a, *b, *c, *d]);
+        let _ = frame.append(&mut next_bytes(alloc, stream, length as usize));
+    }
+    frame
+}
+
+/// Whether no more bytes come.
+fn is_at_end(stream: &TcpStream) -> bool {
+    let mut stream = stream;
+    let mut byte = [0; 1];
+    match stream.read(&mut byte) {
+        Ok(count) => count == 0,
+        Err(error) => error.kind() == ErrorKind::ConnectionReset,
+    }
+}
+
+impl<'a, R: Net<Stream = TcpStream> + Wait + Clock + AllocGlobal> NodeClient<'a, R> {
+    /// A client without a connection. The file tells how many threads run.
+    pub fn new(
+        rt: &'a R,
+        console: &'a TestConsole<'a, R>,
+        process_status: File,
+    ) -> NodeClient<'a, R> {
+        NodeClient {
+            rt,
+            console,
+            deadline: TestDeadline::new(rt),
+            process_status,
+            streams: Vec::new(rt.alloc()),
+            came: Vec::new(rt.alloc()),
+        }
+    }
+
+    /// Waits until the node has printed where it listens. `None` if it ended before, or didn't in time.
+    fn wait_for_port(&self) -> Option<u16> {
+        for _ in 0..u32::MAX {
+            if let Some(port) = self.console.port() {
+                return Some(port);
+            }
+            if self.console.has_ended() || !self.deadline.lasts(self.rt) {
+                break;
+            }
+        }
+        None
+    }
+
+    fn connect(&mut self) -> Result<(), &'static str> {
+        let Some(port) = self.wait_for_port() else {
+            return Err("it doesn't listen");
+        };
+        let Ok(stream) = TcpStream::connect(self.rt, ("127.0.0.1", port)) else {
+            return Err("no connection");
+        };
+        let wait = Some(Duration::from_secs(SECONDS));
+        if stream.set_read_timeout(wait).is_err() || stream.set_write_timeout(wait).is_err() {
+            return Err("no time limit");
+        }
+        let _ = stream.set_nodelay(true);
+        match self.streams.push(stream) {
+            Ok(()) => Ok(()),
+            Err(_) => Err("no memory"),
+        }
+    }
+
+    fn send(&self, number: usize, text: &'static str) -> Result<(), &'static str> {
+        let (Some(bytes), Some(stream)) = (frames(self.rt.alloc(), text), self.streams.get(number))
+        else {
+            return Err("no frames, or no connection");
+        };
+        let mut stream = stream;
+        match stream.write_all(&bytes) {
+            Ok(()) => Ok(()),
+            Err(_) => Err("not sent"),
+        }
+    }
+
+    fn receive(&mut self, number: usize, text: &'static str) -> Result<(), &'static str> {
+        let (Some(wanted), Some(stream)) = (frames(self.rt.alloc(), text), self.streams.get(number))
+        else {
+            return Err("no frames, or no connection");
+        };
+        let came = next_bytes(self.rt.alloc(), stream, wanted.len());
+        let is_wanted = came == wanted;
+        self.came = came;
+        if is_wanted {
+            Ok(())
+        } else {
+            Err("other bytes")
+        }
+    }
+
+    /// Whether the reply to a command is the wanted one.
+    fn asks(
+        &mut self,
+        number: usize,
+        command: &'static str,
+        wanted: &[u8],
+    ) -> Result<bool, &'static str> {
+        self.send(number, command)?;
+        let Some(stream) = self.streams.get(number) else {
+            return Err("no connection");
+        };
+        self.came = next_frame(self.rt.alloc(), stream);
+        Ok(self.came.as_slice() == wanted)
+    }
+
+    fn poll(
+        &mut self,
+        number: usize,
+        command: &'static str,
+        reply: &'static str,
+    ) -> Result<(), &'static str> {
+        let Some(wanted) = frames(self.rt.alloc(), reply) else {
+            return Err("no frames");
+        };
+        for _ in 0..u32::MAX {
+            if self.asks(number, command, &wanted)? {
+                return Ok(());
+            }
+            if !self.deadline.lasts(self.rt) {
+                break;
+            }
+        }
+        Err("not in time")
+    }
+
+    fn finish(&self, number: usize) -> Result<(), &'static str> {
+        match self.streams.get(number) {
+            Some(stream) if stream.shutdown(Shutdown::Write).is_ok() => Ok(()),
+            _ => Err("not finished"),
+        }
+    }
+
+    fn end(&self, number: usize) -> Result<(), &'static str> {
+        match self.streams.get(number) {
+            Some(stream) if is_at_end(stream) => Ok(()),
+            _ => Err("it doesn't end"),
+        }
+    }
+
+    fn has_threads(&mut self, count: u32) -> Result<(), &'static str> {
+        let mut status = String::new(self.rt.alloc());
+        if self.process_status.read_to_string(&mut status).is_err() {
+            return Err("the threads can't be counted");
+        }
+        let Some((_, threads)) = status.as_str().split_once("Threads:") else {
+            return Err("no count of threads");
+        };
+        let Some((threads, _)) = threads.split_once('\n') else {
+            return Err("no count of threads");
+        };
+        if threads.trim().parse::<u32>() == Ok(count) {
+            Ok(())
+        } else {
+            Err("another count of threads")
+        }
+    }
+
+    fn step(&mut self, step: Step) -> Result<(), &'static str> {
+        match step {
+            Step::Connect => self.connect(),
+            Step::Send(number, text) => self.send(number, text),
+            Step::Receive(number, text) => self.receive(number, text),
+            Step::Poll(number, command, reply) => self.poll(number, command, reply),
+            Step::Finish(number) => self.finish(number),
+            Step::End(number) => self.end(number),
+            Step::Threads(count) => self.has_threads(count),
+        }
+    }
+
+    /// Closes its connections, and makes others, so that a node that waits for them ends.
+    fn give_up(&mut self) {
+        self.streams.clear();
+        let Some(port) = self.console.port() else {
+            return;
+        };
+        for _ in 0..LAST_CONNECTIONS {
+            let _ = TcpStream::connect(self.rt, ("127.0.0.1", port));
+        }
+    }
+
+    /// Takes the steps, up to one that can't be taken, or where something else comes. Returns a line about that one, or nothing.
+    pub fn run(self, steps: &[Step]) -> String {
+        let mut client = self;
+        for (number, step) in steps.iter().enumerate() {
+            if let Err(why) = client.step(*step) {
+                client.give_up();
+                return client.miss(number, why);
+            }
+        }
+        String::new(client.rt.alloc())
+    }
+
+    /// A line about a step that wasn't taken.
+    fn miss(&self, number: usize, why: &'static str) -> String {
+        let alloc = self.rt.alloc();
+        let Ok(came) = hex::encode_upper(alloc, &self.came) else {
+            return String::new(alloc);
+        };
+        match format!(in alloc; "step {number}: {why}; last came {came}\n") {
+            Ok(line) => line,
+            Err(_) => String::new(alloc),
+        }
+    }
+}
