@@ -1,7 +1,7 @@
 #!/usr/bin/env bash
 # Shows that no test of a crate depends on how fast the machine is: runs all of them 20 times in a row beside 16 processes that do nothing
 # but compute, and then 20 times on one processor, with nothing beside them that this script started. It builds nothing: `rt test` in
-# crates/sched_tests makes out/sched_tests_tests, which is the program if none is named, and in crates/serve_tests out/serve_tests_tests.
+# crates/sched_tests makes out/sched_tests_tests, which is the program if none is named, and so on in session_tests and serve_tests.
 # No part of the tests.
 #
 #     bench/busy.sh [PROGRAM]

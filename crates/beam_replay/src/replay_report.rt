@@ -7,8 +7,8 @@ use beam_machine::debug::DebugEvent;
 use beam_machine::event::Event;
 use beam_receipts::brand::NodeBrand;
 use beam_shared::node::Node;
-use std::fmt::{Display, Formatter};
 use std::fmt;
+use std::fmt::{Display, Formatter};
 
 /// The names of the kinds of events, in the order of their commands.
 const KINDS: [&str; 18] = [

@@ -1,8 +1,8 @@
 //! A connection that is served.
 
 use crate::open_sockets::OpenSockets;
-use std::io::{Read, Write};
 use std::io;
+use std::io::{Read, Write};
 use std::net::{OpenStream, TcpStream};
 use std::sync::Arc;
 use std::time::Duration;

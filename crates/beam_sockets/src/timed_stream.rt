@@ -2,8 +2,8 @@
 ghost use Rattle.std.specs.Prelude.{◌≡◌};
 
 use crate::frame_tracker::FrameTracker;
-use std::io::{Error, ErrorKind, Read, Write};
 use std::io;
+use std::io::{Error, ErrorKind, Read, Write};
 use std::net::OpenStream;
 use std::time::{Clock, Duration};
 

@@ -7,8 +7,8 @@ ghost use Rattle.beam_streams.specs.StreamsHistory.{IsWholeAtEnd, with_failure, 
 use beam_remote::{DeviceFailed, Port};
 use beam_tools::os_error::OsError;
 use beam_transcript::Transcript;
-use std::io::{Error, ErrorKind, Read, Write};
 use std::io;
+use std::io::{Error, ErrorKind, Read, Write};
 use std::marker::Model;
 use std::snapshot::Snapshot;
 

@@ -14,8 +14,8 @@ use node_testing::test_deadline::{REFUSED, Unfinished};
 use std::alloc::Global;
 use std::sync::Wait;
 use std::test::Fail;
-use std::time::Duration;
 use std::time;
+use std::time::Duration;
 
 /// What a scenario waits for.
 #[derive(Clone, Copy)]

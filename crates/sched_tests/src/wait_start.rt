@@ -29,8 +29,8 @@ use std::sync::Wait;
 use std::sync::atomic::{AtomicU64, Ordering};
 use std::test::*;
 use std::thread::Threads;
-use std::time::Duration;
 use std::time;
+use std::time::Duration;
 
 /// A clock that stays at the time to which it was set, and counts how often it was read.
 #[derive(Drop)]

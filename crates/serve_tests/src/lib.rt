@@ -1,12 +1,8 @@
-//! Tests of sessions with a node that threads share, and of `beamnode serve` and `beamnode replay` over real sockets and files.
+//! Tests of `beamnode serve` and `beamnode replay` over real sockets and files.
 #![tactic(auto)]
 
 #[cfg(test)]
-mod concurrent_sessions;
-#[cfg(test)]
 mod console;
-#[cfg(test)]
-mod devices;
 #[cfg(test)]
 mod journal_rows;
 #[cfg(test)]
@@ -21,11 +17,3 @@ mod serving;
 mod serving_rows;
 #[cfg(test)]
 mod serving_tests;
-#[cfg(test)]
-mod sessions;
-#[cfg(test)]
-mod silence;
-#[cfg(test)]
-mod talking;
-#[cfg(test)]
-mod talks;

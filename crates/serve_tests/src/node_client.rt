@@ -1,8 +1,8 @@
 //! A client of a node that serves a port: what it does with its connections, step by step.
 
 use crate::console::TestConsole;
-use crate::talking::frames;
 use hex;
+use node_testing::frames::frames;
 use node_testing::test_deadline::TestDeadline;
 use std::alloc::Global;
 use std::fs::File;

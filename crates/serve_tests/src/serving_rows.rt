@@ -1,8 +1,8 @@
 //! Runs of `beamnode serve`: what clients do, and what comes of it. Functions without contracts give them, so that the proofs of the tests
 //! compute nothing of them.
 
-use crate::node_client::Step::{Connect, End, Finish, Poll, Receive, Send, Threads};
 use crate::node_client::Step;
+use crate::node_client::Step::{Connect, End, Finish, Poll, Receive, Send, Threads};
 
 /// A run of `beamnode serve` with a client.
 #[derive(Clone, Copy)]

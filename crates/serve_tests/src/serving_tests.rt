@@ -2,8 +2,8 @@
 
 use crate::serving::{first_miss, outcome};
 use crate::serving_rows::{NodeRow, connections, files, journals, levels, silence, thread_counts};
-use crate::talking::frames;
 use node_testing::commands::file;
+use node_testing::frames::frames;
 use node_testing::listings::{DOUBLE, LOOP, OVER};
 use std::fs::File;
 use std::net::{Net, TcpListener, TcpStream};

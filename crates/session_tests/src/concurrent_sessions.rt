@@ -3,7 +3,7 @@ ghost use Rattle.std.specs.Prelude.{◌≡◌, Some, take, length};
 ghost use Rattle.beam_journal.specs.Entering.{most_entries};
 
 use crate::devices::ended;
-use crate::talking::{frames, replayed, spelled};
+use crate::talking::replayed;
 use beam_journal::journal::{Journal, MOST_ENTRIES};
 use beam_queue as queue;
 use beam_queue::QueueBrand;
@@ -18,6 +18,7 @@ use beam_sched::shared::Shared;
 use beam_sched::thread_context::ThreadContext;
 use beam_serve::{Incoming, SeatDesk, serve_sessions};
 use log::Log;
+use node_testing::frames::{frames, spelled};
 use node_testing::stage::{closed, staged};
 use node_testing::test_deadline::{TestDeadline, Unfinished};
 use std::alloc::Global;

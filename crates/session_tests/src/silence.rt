@@ -2,8 +2,8 @@
 
 use beam_sockets::TimedStream;
 use std::cell::Cell;
-use std::io::{Error, ErrorKind, Read};
 use std::io;
+use std::io::{Error, ErrorKind, Read};
 use std::net::OpenStream;
 use std::process::Abort;
 use std::test::*;

@@ -2,7 +2,7 @@
 ghost use Rattle.std.specs.Prelude.{◌≡◌};
 ghost use Rattle.beam_journal.specs.Entering.{most_entries};
 
-use crate::sessions::{Session, SessionRow, digits_of, rows};
+use crate::sessions::{Session, SessionRow, rows};
 use beam_debug::debugger::Debugger;
 use beam_desk::reply;
 use beam_frame::encode_reply;
@@ -22,11 +22,12 @@ use beam_shared::node::Node;
 use beam_term::Atom;
 use hex;
 use log::Log;
-use node_testing::stage::staged;
+use node_testing::frames::{frames, spelled};
 use node_testing::stage;
+use node_testing::stage::staged;
 use node_testing::test_deadline::{TestDeadline, Unfinished};
 use node_testing::views::text_of;
-use std::alloc::{AllocError, Global};
+use std::alloc::Global;
 use std::marker::Brand;
 use std::sync::Wait;
 use std::test::Fail;
@@ -47,21 +48,6 @@ struct RowSessions<'a, B: NodeBrand + QueueBrand, R> {
     told: Option<String>,
     /// Why the sessions weren't all run.
     unfinished: Unfinished,
-}
-
-/// The digits of the words of a text.
-pub fn spelled(alloc: Global, text: &'static str) -> Result<String, AllocError> {
-    let mut digits = String::new(alloc);
-    for word in text.split_whitespace() {
-        digits.push_str(digits_of(word))?;
-    }
-    Ok(digits)
-}
-
-/// The bytes of the words of a text.
-pub fn frames(alloc: Global, text: &'static str) -> Option<Vec<u8>> {
-    let digits = spelled(alloc, text).ok()?;
-    hex::decode(alloc, digits.as_bytes()).ok()
 }
 
 /// Whether the processes 1 to `count`, as far as they were started, have ended or are held.

@@ -9,8 +9,8 @@ use beam_streams::Streams;
 use hex;
 use log::Log;
 use std::alloc::Global;
-use std::io::{Error, ErrorKind, Read, Write};
 use std::io;
+use std::io::{Error, ErrorKind, Read, Write};
 use std::sync::Wait;
 
 /// How a session is read and written.

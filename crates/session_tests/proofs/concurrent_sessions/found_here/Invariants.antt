@@ -1,5 +1,5 @@
 use Rattle.beam_journal.specs.Entering.{most_entries}
-use Rattle.serve_tests.proofs.talking.found_here.Given as goal
+use Rattle.session_tests.proofs.concurrent_sessions.found_here.Given as goal
 
 abbrev pub ghosts-found-B-NodeBrand : goal.ghosts-found-B-NodeBrand
 ghosts-found-B-NodeBrand g a = record { table = a.unbranded; limit = most_entries }

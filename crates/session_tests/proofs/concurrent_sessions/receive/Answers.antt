@@ -7,9 +7,9 @@ use Rattle.std.proofs.alloc.Global.TheSendSync as Global
 use Rattle.beam_queue.specs.declared.brand.QueueBrand as QueueBrand
 use Rattle.beam_receipts.specs.declared.brand.NodeBrand as NodeBrand
 use Rattle.beam_serve.proofs.Crossing.{SeatDesk_send}
-use Rattle.serve_tests.proofs.concurrent_sessions.ClientSource.TheSendSync as ClientSource_crossing
-use Rattle.serve_tests.specs.contracts.concurrent_sessions.SessionThread as SessionThread
-use Rattle.serve_tests.proofs.concurrent_sessions.receive.Goals as goal
+use Rattle.session_tests.proofs.concurrent_sessions.ClientSource.TheSendSync as ClientSource_crossing
+use Rattle.session_tests.specs.contracts.concurrent_sessions.SessionThread as SessionThread
+use Rattle.session_tests.proofs.concurrent_sessions.receive.Goals as goal
 
 SessionThread_send : (l : NamedLft) (B R : RattleType) (g : NodeBrand.Ghosts B.Denot) (q : QueueBrand.Ghosts B.Denot) → IsSync R → IsSend (SessionThread.the_row l B R g q)
 SessionThread_send l B R g q r = declared_send (SessionThread.the_type l B R g q)
