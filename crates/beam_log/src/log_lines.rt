@@ -2,7 +2,6 @@
 
 use crate::end_limit::EndLimit;
 use crossbeam_queue::ArrayQueue;
-use jiff::Timestamp;
 use std::alloc::{AllocError, Global};
 use std::mem;
 use std::sync::atomic::{AtomicBool, AtomicU64, Ordering};
@@ -24,8 +23,8 @@ const PERIOD: u64 = 1;
 /// A line that waits to be written.
 #[derive(Drop)]
 pub struct LogLine {
-    /// When it was logged.
-    pub time: Timestamp,
+    /// How long after the beginning of 1970 it was logged.
+    pub time: Duration,
     /// How many lines were lost before it and after the line that waits before it.
     pub lost_before: u64,
     /// Its text, without the time.
@@ -124,9 +123,9 @@ impl LogLines {
         self.lost.load(Ordering::SeqCst) > 0 && self.lines.len(rt) > ROOM_AGAIN
     }
 
-    /// Lets a line wait to be written, and wakes the writer. The line is lost if there is no room for it, or if there is no text of it for
-    /// want of memory.
-    pub fn push<R: Wait>(&self, rt: &R, time: Timestamp, text: Result<String, AllocError>) {
+    /// Lets a line wait to be written, which was logged that long after the beginning of 1970, and wakes the writer. The line is lost if
+    /// there is no room for it, or if there is no text of it for want of memory.
+    pub fn push<R: Wait>(&self, rt: &R, time: Duration, text: Result<String, AllocError>) {
         let Ok(text) = text else {
             return self.lose(rt, 1);
         };

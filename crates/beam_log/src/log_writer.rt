@@ -10,22 +10,32 @@ use std::fmt::Display;
 use std::str;
 use std::sync::{Arc, Wait};
 use std::thread::{Builder, Threads};
-use std::time::Clock;
+use std::time::{Clock, Duration};
 
 /// How many bytes of stack the writer's thread has.
 const STACK: usize = 256 * 1024;
+
+/// The moment that long after the beginning of 1970; that beginning where there is none.
+fn timestamp_of(time: Duration) -> Timestamp {
+    match i64::try_from(time.as_secs()) {
+        Ok(second) => Timestamp::new(second, time.subsec_nanos() as i32)
+            .unwrap_or(Timestamp::UNIX_EPOCH),
+        Err(_) => Timestamp::UNIX_EPOCH,
+    }
+}
 
 /// Writes records to the error output of a console, a line each, which begins with a time.
 #[derive(Drop)]
 struct TimedStderr<'a, C> {
     console: &'a C,
-    time: Timestamp,
+    /// How long after the beginning of 1970.
+    time: Duration,
 }
 
 impl<C: Eprint> TimedStderr<'_, C> {
     /// Writes a line after the time. A line that can't be written is lost.
     fn write<D: Display + Drop>(&self, line: D) {
-        let time = self.time;
+        let time = timestamp_of(self.time);
         let _ = eprintln!(self.console; "{time:.3} {line}");
     }
 }
@@ -46,9 +56,9 @@ impl<C: Eprint> Log for TimedStderr<'_, C> {
     }
 }
 
-/// The time; 1970 where the clock can't be read.
-fn now<C: Clock>(clock: &C) -> Timestamp {
-    Timestamp::now(clock).unwrap_or(Timestamp::UNIX_EPOCH)
+/// How long after the beginning of 1970 it is; no time where the clock can't be read.
+fn now<C: Clock>(clock: &C) -> Duration {
+    clock.since_1970().unwrap_or(Duration::ZERO)
 }
 
 /// Writes a line that was logged, after one about lines that were lost before it.

@@ -3,7 +3,6 @@ ghost use Rattle.std.specs.Prelude.{Some, []};
 
 use beam_log::LogLines;
 use beam_tools::line::LogLevel;
-use jiff::Timestamp;
 use log::kv::Source;
 use log::span::Spans;
 use log::{LevelFilter, Line, Log, Logged, Metadata, Record};
@@ -38,7 +37,7 @@ impl<R: Wait + Clock, C: Clock> Log for QueuedLog<'_, R, C> {
 
     // 1970 where the clock can't be read.
     fn log<D: Display, K: Source, S: Spans>(&self, record: &Record<'_, D, K, S>) {
-        let time = Timestamp::now(self.console).unwrap_or(Timestamp::UNIX_EPOCH);
+        let time = self.console.since_1970().unwrap_or(Duration::ZERO);
         let line = Line::new(record);
         let text = format!(in self.lines.alloc(); "{line}");
         self.lines.push(self.rt, time, text);
