@@ -86,11 +86,7 @@ fn take_entries<S: Shelf + Drop>(
 
 impl<B: NodeBrand, S: Shelf + Drop> NodeFile<B, S> {
     /// The file of a writer whose file has the entries that have left a node's memory, by the receipt of who takes them out of it.
-    pub fn new(
-        alloc: Global,
-        writer: JournalWriter<S>,
-        receipt: DrainReceipt<B>,
-    ) -> NodeFile<B, S>
+    pub fn new(alloc: Global, writer: JournalWriter<S>, receipt: DrainReceipt<B>) -> NodeFile<B, S>
         requires written { HasWritten writer (map sent_event_of receipt) }
         requires fresh { writer.taken ≡ 0 }
         ensures { result ≡ record { drained = receipt; writer = writer; rest = [] } }

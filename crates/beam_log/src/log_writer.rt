@@ -18,8 +18,9 @@ const STACK: usize = 256 * 1024;
 /// The moment that long after the beginning of 1970; that beginning where there is none.
 fn timestamp_of(time: Duration) -> Timestamp {
     match i64::try_from(time.as_secs()) {
-        Ok(second) => Timestamp::new(second, time.subsec_nanos() as i32)
-            .unwrap_or(Timestamp::UNIX_EPOCH),
+        Ok(second) => Timestamp::new(second, time.subsec_nanos() as i32).unwrap_or(
+            Timestamp::UNIX_EPOCH,
+        ),
         Err(_) => Timestamp::UNIX_EPOCH,
     }
 }

@@ -3,8 +3,7 @@
 use crate::acceptor::Acceptor;
 use crate::sessions::Incoming;
 use beam_remote::{ServeError, Served, SessionFailure};
-use beam_sockets::ServedStream;
-use beam_sockets::TimedStream;
+use beam_sockets::{ServedStream, TimedStream};
 use beam_streams::Streams;
 use beam_tools::os_error::OsError;
 use log::{Log, info, warn};
