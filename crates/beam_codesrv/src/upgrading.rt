@@ -20,14 +20,7 @@ use std::alloc::{AllocError, Global};
 pub fn any_is_erlang(images: &[Image]) -> bool
     ensures { result ≡ list_any (λ l. is_erlang l.name) images.now }
 {
-    let mut rest = images;
-    while let Some((image, others)) = rest.split_first() {
-        if is_erlang(image.module()) {
-            return true;
-        }
-        rest = others;
-    }
-    false
+    images.iter().any(|image| is_erlang(image.module()))
 }
 
 /// Adds a name at the end of those before it, and says whether it is new.

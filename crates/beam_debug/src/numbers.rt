@@ -9,14 +9,7 @@ use std::alloc::AllocError;
 pub(crate) fn is_among(pid: u32, pids: &[u32]) -> bool
     ensures { result ≡ is_among pid pids.now }
 {
-    let mut rest = pids;
-    while let Some((first, more)) = rest.split_first() {
-        if *first == pid {
-            return true;
-        }
-        rest = more;
-    }
-    false
+    pids.iter().any(|first| *first == pid)
 }
 
 /// The position at which a pid is to be inserted; `None` if it is there.

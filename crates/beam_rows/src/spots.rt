@@ -49,14 +49,7 @@ impl<'a> Model for BreakSpots<'a> {
 pub fn is_spot(place: Place, spots: &[Place]) -> bool
     ensures { result ≡ is_spot place spots.now }
 {
-    let mut rest = spots;
-    while let Some((first, more)) = rest.split_first() {
-        if is_same_place(*first, place) {
-            return true;
-        }
-        rest = more;
-    }
-    false
+    spots.iter().any(|spot| is_same_place(*spot, place))
 }
 
 /// The break spots from the first of an instance on.

@@ -151,14 +151,7 @@ impl Shape {
         requires { IsShape trees.now self }
         ensures { result ≡ list_all (book.is_value (shown trees.now self)) numbers.now }
     {
-        let mut rest = numbers;
-        while let Some((number, others)) = rest.split_first() {
-            if !self.is_value(trees, *number) {
-                return false;
-            }
-            rest = others;
-        }
-        true
+        numbers.iter().all(|number| self.is_value(trees, *number))
     }
 
     /// Whether these registers are there.
@@ -166,14 +159,7 @@ impl Shape {
         requires { IsShape trees.now self }
         ensures { result ≡ list_all (book.is_there (shown trees.now self)) numbers.now }
     {
-        let mut rest = numbers;
-        while let Some((number, others)) = rest.split_first() {
-            if !self.is_there(trees, *number) {
-                return false;
-            }
-            rest = others;
-        }
-        true
+        numbers.iter().all(|number| self.is_there(trees, *number))
     }
 
     /// The shape with a tag, or with none, in one register.

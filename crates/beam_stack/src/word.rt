@@ -379,28 +379,14 @@ pub(crate) fn tag_in(words: &[Word]) -> Option<Tag>
 pub(crate) fn are_in(words: &[Word], number: u32) -> bool
     ensures { result ≡ list_any (is_word_in number) words.now }
 {
-    let mut rest = words;
-    while let Some((word, more)) = rest.split_first() {
-        if word.is_in(number) {
-            return true;
-        }
-        rest = more;
-    }
-    false
+    words.iter().any(|word| word.is_in(number))
 }
 
 /// Whether one of these words returns or catches in one of those instances.
 pub(crate) fn are_in_any(words: &[Word], numbers: &IndexSet<u32>) -> bool
     ensures { result ≡ list_any (λ w. list_any (λ n. is_word_in n w) numbers.now.keys) words.now }
 {
-    let mut rest = words;
-    while let Some((word, more)) = rest.split_first() {
-        if word.is_in_any(numbers) {
-            return true;
-        }
-        rest = more;
-    }
-    false
+    words.iter().any(|word| word.is_in_any(numbers))
 }
 
 /// How many words more a copy has room for at most, so that its first calls don't move it.

@@ -53,14 +53,7 @@ pub(crate) fn one_lingers(old: OldInstances<'_>, processes: &[ProcessEntry]) -> 
     if is_none(old) {
         return false;
     }
-    let mut rest = processes;
-    while let Some((process, more)) = rest.split_first() {
-        if lingers(old, process) {
-            return true;
-        }
-        rest = more;
-    }
-    false
+    processes.iter().any(|process| lingers(old, process))
 }
 
 // ---- what the others are sent
