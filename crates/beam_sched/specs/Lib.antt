@@ -4,5 +4,7 @@ pub mod MadeRunnable
 pub mod RunQueues
 pub mod QueueStates
 pub mod NodeClock
+pub mod StealTurns
 pub mod Thresholds
 pub mod WorkerActions
+pub mod WorkerTimes

@@ -26,13 +26,15 @@ impl IdleWorkers {
     }
 
     /// Wakes a worker, if one waits or is about to. A thread that enqueues a process calls it afterwards. A worker that is about to wait is
-    /// counted before it tries the queues for the last time, so either it finds the process or it is woken.
-    pub fn wake<R: Wait>(&self, rt: &R) {
-        if self.sleepers.load(Ordering::SeqCst) > 0 {
-            let guard = self.is_closed.lock(rt);
-            self.changed.notify_one();
-            drop(guard);
+    /// counted before it tries the queues for the last time, so either it finds the process or it is woken. Tells whether there was one.
+    pub fn wake<R: Wait>(&self, rt: &R) -> bool {
+        if self.sleepers.load(Ordering::SeqCst) == 0 {
+            return false;
         }
+        let guard = self.is_closed.lock(rt);
+        self.changed.notify_one();
+        drop(guard);
+        true
     }
 
     /// Lets workers end once they find no work and no scan is to be retried.
@@ -62,15 +64,23 @@ impl IdleWorkers {
         guard
     }
 
-    /// Waits until the worker is woken, and at most `most` milliseconds if that is given.
-    pub fn wait<R: Wait + Clock>(&self, rt: &R, guard: MutexGuard<'_, bool>, most: Option<u64>) {
+    /// Waits until the worker is woken, and at most `most` milliseconds if that is given. Tells whether it was woken before these were over.
+    pub fn wait<R: Wait + Clock>(
+        &self,
+        rt: &R,
+        guard: MutexGuard<'_, bool>,
+        most: Option<u64>,
+    ) -> bool {
         match most {
             None => {
                 self.changed.wait(rt, guard);
+                true
             }
             Some(most) => {
-                self.changed
+                let (_guard, result) = self
+                    .changed
                     .wait_timeout(rt, guard, Duration::from_millis(most));
+                !result.timed_out()
             }
         }
     }

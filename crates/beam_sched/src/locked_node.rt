@@ -1,5 +1,6 @@
 //! The data under the lock of a node that threads share.
-ghost use Rattle.std.specs.Prelude.{◌≡◌, ◌<◌, length, OnErr, OnOk};
+ghost use Rattle.std.specs.Prelude.{◌≡◌, ◌≢◌, ◌<◌, true, None, length, OnErr, OnOk};
+ghost use Rattle.beam_machine.specs.Ready.{ready_after, next_deadline};
 ghost use Rattle.beam_sched.specs.QueueStates.{queue_state_of};
 ghost use Rattle.beam_sched.specs.declared.queue_states.QueueState.TheVariants.{CheckedOut, Free};
 
@@ -36,12 +37,17 @@ impl<B: NodeBrand> Drop for LockedNode<B> {
 }
 
 impl<B: NodeBrand> LockedNode<B> {
-    /// A node of which no process is checked out.
-    pub(crate) fn new(alloc: Global, node: Node<B>) -> LockedNode<B> {
+    /// A node of which no process is checked out or enqueued. A scan of it is wanted if a process is runnable or has a deadline.
+    pub(crate) fn new(alloc: Global, node: Node<B>) -> LockedNode<B>
+        ensures runnable { ready_after 0 node.state.node.processes ≢ None → result.scan_state.is_changed ≡ true }
+        ensures timed { next_deadline node.state.node.processes ≢ None → result.scan_state.is_changed ≡ true }
+    {
+        let mut scan_state = ScanState::new();
+        scan_state.is_changed = node.ready(0).is_some() || node.next_deadline().is_some();
         LockedNode {
             node,
             queue_states: QueueStates::new(alloc),
-            scan_state: ScanState::new(),
+            scan_state,
         }
     }
 

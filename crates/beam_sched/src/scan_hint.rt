@@ -1,6 +1,6 @@
 //! When the node is to be scanned, for threads that don't hold its lock.
 
-use crate::scan_state::{ScanState, earlier};
+use crate::scan_state::{ScanState, earlier, is_earlier};
 use std::sync::atomic::{AtomicBool, AtomicU64, Ordering};
 
 /// The word that stands for no moment.
@@ -36,14 +36,17 @@ impl ScanHint {
         }
     }
 
-    /// Writes when to scan. It is called under the node's lock.
-    pub fn publish(&self, scan_state: &ScanState) {
+    /// Writes when to scan. It is called under the node's lock. Tells whether the node is to be scanned earlier than was known: a worker
+    /// that waits knows what was written when it began to.
+    pub fn publish(&self, scan_state: &ScanState) -> bool {
+        let known = self.next_time();
         publish(&self.due, scan_state.due);
         publish(&self.retry, scan_state.retry);
         if self.is_wanted() != scan_state.is_wanted() {
             self.is_wanted
                 .store(scan_state.is_wanted(), Ordering::SeqCst);
         }
+        is_earlier(earlier(scan_state.due, scan_state.retry), known)
     }
 
     /// Whether a scan is wanted, whatever the moment.

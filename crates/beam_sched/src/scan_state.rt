@@ -1,6 +1,6 @@
 //! When the node is to be scanned for processes that are runnable.
 ghost use Rattle.std.specs.Prelude.{◌≡◌, ◌≢◌, ◌↔◌, ◌⊎◌, ◌+◌, ◌-◌, ◌^◌, ◌||◌, true, false, min, None, Some, IsTrue};
-ghost use Rattle.beam_sched.specs.Deadlines.{earlier};
+ghost use Rattle.beam_sched.specs.Deadlines.{earlier, is_earlier};
 
 use crate::scan::ScanResult;
 
@@ -28,6 +28,17 @@ pub fn earlier(a: Option<u64>, b: Option<u64>) -> Option<u64>
         (Some(a), Some(b)) => Some(if a <= b { a } else { b }),
         (Some(a), None) => Some(a),
         (None, b) => b,
+    }
+}
+
+/// Whether a moment is earlier than another one; none is later than all.
+pub fn is_earlier(a: Option<u64>, b: Option<u64>) -> bool
+    ensures { result ≡ is_earlier a b }
+{
+    match (a, b) {
+        (Some(a), Some(b)) => a < b,
+        (Some(_), None) => true,
+        (None, _) => false,
     }
 }
 

@@ -48,14 +48,18 @@ fn time_set(event: &DebugEvent<Image>) -> Option<u64> {
 }
 
 impl<B: NodeBrand> Shared<B> {
-    /// A node of which no process is enqueued yet. It takes no memory.
+    /// A node of which no process is enqueued yet. It takes no memory. If a process is runnable or has a deadline, as in a node that comes
+    /// back from its journal, the first worker scans it.
     pub fn new(alloc: Global, node: Node<B>) -> Shared<B> {
         let node_clock = NodeClock::new(node.debugger().core().clock());
         let usage = JournalUsage::new();
         usage.note(&node);
+        let locked = LockedNode::new(alloc, node);
+        let scan_hint = ScanHint::new();
+        let _ = scan_hint.publish(&locked.scan_state);
         Shared {
-            node: Mutex::new(LockedNode::new(alloc, node)),
-            scan_hint: ScanHint::new(),
+            node: Mutex::new(locked),
+            scan_hint,
             idle: IdleWorkers::new(),
             token: ShortSliceToken::new(),
             node_clock,
@@ -146,7 +150,7 @@ impl<B: NodeBrand + QueueBrand> Shared<B> {
         if has_reached {
             locked.scan_state.note_change();
         }
-        self.scan_hint.publish(&locked.scan_state);
+        let _ = self.scan_hint.publish(&locked.scan_state);
         has_reached || made_runnable != MadeRunnable::Nobody
     }
 
@@ -173,7 +177,7 @@ impl<B: NodeBrand + QueueBrand> Shared<B> {
         let must_wake = self.note_command(locked, context, set, made_runnable, &answer);
         drop(guard);
         if must_wake {
-            self.idle.wake(rt);
+            let _ = self.idle.wake(rt);
         }
         answer
     }

@@ -1,6 +1,6 @@
 //! What a thread needs to work at a node.
 ghost use Rattle.std.specs.Prelude.{◌≡◌, ◌≢◌, ℕ, ◌==◌, if◌then◌else◌, MatchOption, OnOk, OnErr};
-ghost use Rattle.beam_queue.specs.RunQueues.{enqueues, takes};
+ghost use Rattle.beam_queue.specs.RunQueues.{enqueues, takes, Steals};
 ghost use Rattle.beam_sched.specs.RunQueues.{Dequeues};
 ghost use Rattle.beam_sched.specs.QueueStates.{queue_state_of};
 ghost use Rattle.beam_sched.specs.declared.queue_states.QueueState.TheVariants.{Free, Queued};
@@ -98,18 +98,23 @@ impl<B: NodeBrand + QueueBrand> ThreadContext<B> {
         pid
     }
 
-    /// Takes a process that was enqueued: the oldest of its own queue or, if that is empty or `steals`, the oldest of another queue.
-    /// `None` if nothing is found.
-    pub fn dequeue(&mut self, steals: bool) -> Option<u32>
+    /// Takes the oldest process of another queue. `None` if nothing is found.
+    pub fn steal(&mut self) -> Option<u32>
+        ensures seat { self.new.seat ≡ self.old.seat }
+        ensures taken { MatchOption result (self.new.run_queue ≡ self.old.run_queue) (λ pid. Steals pid self.old.run_queue self.new.run_queue) }
+    {
+        self.run_queue.steal()
+    }
+
+    /// Takes a process that was enqueued: the oldest of its own queue or, if that is empty, the oldest of another queue. `None` if nothing is
+    /// found.
+    pub fn dequeue(&mut self) -> Option<u32>
         ensures seat { self.new.seat ≡ self.old.seat }
         ensures taken { MatchOption result (self.new.run_queue ≡ self.old.run_queue) (λ pid. Dequeues pid self.old.run_queue self.new.run_queue) }
     {
-        if steals && let Some(pid) = self.run_queue.steal() {
-            return Some(pid);
-        }
         match self.pop() {
             Some(pid) => Some(pid),
-            None => self.run_queue.steal(),
+            None => self.steal(),
         }
     }
 }

@@ -6,8 +6,10 @@ use crate::scan;
 use crate::scan::{ScanRequest, advance_clock, exit_reason};
 use crate::shared::Shared;
 use crate::short_slice_token::RecentSlices;
+use crate::steal_turns::StealTurns;
 use crate::thread_context::ThreadContext;
 use crate::worker_action::{WorkerAction, idle_action};
+use crate::worker_times::WorkerTimes;
 use beam_debug::outcome::Outcome;
 use beam_machine::event::Refused;
 use beam_queue::QueueBrand;
@@ -17,19 +19,16 @@ use beam_shared::checkout::Checkout;
 use beam_shared::drop_reason::DropReason;
 use beam_shared::finished_slice::FinishedSlice;
 use beam_term::Term;
-use std::sync::Wait;
+use std::sync::{MutexGuard, Wait};
 use std::time;
 
 /// How many rows a slice has at most.
 const ROWS: u32 = 4_000;
 
-/// A slice of fewer rows is short: it takes about as long as the locks of its checkout and commit.
+/// A slice of fewer rows is short, unless its rows take long: it takes about as long as the locks of its checkout and commit.
 const SHORT_SLICE: u32 = 256;
 
-/// One of this many takes begins with a steal.
-const STEAL_EVERY: u32 = 16;
-
-/// A worker: its node and thread context, its observer and clock, and how long until it scans and steals.
+/// A worker: its node and thread context, its observer and clock, and when it scans, steals and wakes others.
 #[derive(Drop)]
 struct Worker<'a, B: NodeBrand + QueueBrand, G, C, R> {
     rt: &'a R,
@@ -39,10 +38,11 @@ struct Worker<'a, B: NodeBrand + QueueBrand, G, C, R> {
     context: ThreadContext<B>,
     /// How many processes it takes before it scans the node again.
     until_scan: usize,
-    /// How many takes passed since one began with a steal.
-    since_steal: u32,
+    /// Which of its takes begin with a steal.
+    steal_turns: StealTurns,
     /// What slices it had lately, and whether it has the token.
     recent_slices: RecentSlices,
+    times: WorkerTimes,
 }
 
 impl<B: NodeBrand + QueueBrand, G, C, R> Worker<'_, B, G, C, R> {
@@ -67,10 +67,22 @@ impl<B: NodeBrand + QueueBrand, G: Gate, C: Clock, R: Wait + time::Clock> Worker
                 || scan_hint.next_time().is_some_and(|at| at <= self.moment()))
     }
 
+    /// Steals a process, if this take begins with a steal.
+    fn steal_in_turn(&mut self) -> Option<u32> {
+        if !self.steal_turns.take() {
+            return None;
+        }
+        let pid = self.context.steal()?;
+        self.steal_turns.note_found();
+        Some(pid)
+    }
+
     /// Takes a process that was enqueued.
     fn dequeue(&mut self) -> Option<u32> {
-        self.since_steal = self.since_steal.wrapping_add(1) % STEAL_EVERY;
-        let pid = self.context.dequeue(self.since_steal == 0);
+        let pid = match self.steal_in_turn() {
+            Some(pid) => Some(pid),
+            None => self.context.dequeue(),
+        };
         self.until_scan = match pid {
             Some(_) => self.until_scan.saturating_sub(1),
             None => 0,
@@ -99,7 +111,7 @@ impl<B: NodeBrand + QueueBrand, G: Gate, C: Clock, R: Wait + time::Clock> Worker
             scan_hint,
             ..
         } = self.shared;
-        match self.context.dequeue(true) {
+        match self.context.dequeue() {
             Some(pid) => WorkerAction::Run(pid),
             None => idle_action(
                 idle.is_stopped(),
@@ -110,10 +122,19 @@ impl<B: NodeBrand + QueueBrand, G: Gate, C: Clock, R: Wait + time::Clock> Worker
         }
     }
 
-    /// How many milliseconds it may wait; `None` for no limit.
-    fn wait_limit(&self) -> Option<u64> {
+    /// After how many milliseconds the node is to be scanned, if there is such a time.
+    fn until_next_time(&self) -> Option<u64> {
         let next_time = self.shared.scan_hint.next_time()?;
         Some(next_time.saturating_sub(self.moment()).max(1))
+    }
+
+    /// Waits until it is woken or the node is to be scanned, after a nap at first. Its next take begins with a steal: what it was woken for may
+    /// be in any queue.
+    fn wait(&mut self, guard: MutexGuard<'_, bool>) {
+        let limit = self.times.wait_limit(self.until_next_time());
+        let was_woken = self.shared.idle.wait(self.rt, guard, limit);
+        self.times.note_wait(self.clock.moment(), was_woken);
+        self.steal_turns = StealTurns::new();
     }
 
     /// Waits until it is woken or the node is to be scanned, unless there is work after all. It gives the token back before it tries the
@@ -124,7 +145,7 @@ impl<B: NodeBrand + QueueBrand, G: Gate, C: Clock, R: Wait + time::Clock> Worker
         let guard = idle.begin_wait(self.rt);
         let next_action = self.idle_action(*guard);
         match next_action {
-            WorkerAction::Rest => idle.wait(self.rt, guard, self.wait_limit()),
+            WorkerAction::Rest => self.wait(guard),
             WorkerAction::End => idle.end(guard),
             WorkerAction::Run(_) | WorkerAction::Scan => drop(guard),
         }
@@ -140,9 +161,17 @@ impl<B: NodeBrand + QueueBrand, G: Gate, C: Clock, R: Wait + time::Clock> Worker
         if idle.is_stopped() || self.recent_slices.takes(token) {
             drop(guard);
         } else {
-            idle.wait(self.rt, guard, self.wait_limit());
+            self.wait(guard);
         }
         idle.end_wait();
+    }
+
+    /// Wakes another worker, if one waits and processes are in its own queue behind the one that it is about to run.
+    fn wake_for_queued(&mut self) {
+        let is_due = self.context.queued() > 0 && self.times.may_wake();
+        if is_due && self.shared.idle.wake(self.rt) {
+            self.times.note_wake();
+        }
     }
 
     /// Memory was refused to a process: reports that to the gate, and notes that the node is to be scanned again after some time.
@@ -150,7 +179,7 @@ impl<B: NodeBrand + QueueBrand, G: Gate, C: Clock, R: Wait + time::Clock> Worker
         self.gate.refused(pid);
         let mut locked = self.shared.node.lock(self.rt);
         locked.scan_state.retry_later(self.moment());
-        self.shared.scan_hint.publish(&locked.scan_state);
+        let _ = self.shared.scan_hint.publish(&locked.scan_state);
     }
 
     /// Checks a process out, and also returns the reason if it was ended by a signal that arrived just then.
@@ -172,6 +201,7 @@ impl<B: NodeBrand + QueueBrand, G: Gate, C: Clock, R: Wait + time::Clock> Worker
 
     /// Runs a slice of a process: it is checked out and committed under the lock, and run under none.
     fn run(&mut self, pid: u32) {
+        self.wake_for_queued();
         match self.check_out(pid) {
             Ok((checkout, end)) => {
                 if let Some(reason) = &end {
@@ -188,7 +218,8 @@ impl<B: NodeBrand + QueueBrand, G: Gate, C: Clock, R: Wait + time::Clock> Worker
     }
 
     /// Commits the rows of a process, under the lock. If they end before a wait, the wait begins at this moment, unless memory is refused
-    /// for the moment's entry.
+    /// for the moment's entry; and if it is to end before the time to which a worker may wait, that worker is woken, since this one may run
+    /// something else then.
     fn commit_locked(&mut self, finished: FinishedSlice<B>) -> Result<Option<Outcome>, DropReason> {
         let shared = self.shared;
         let mut guard = shared.node.lock(self.rt);
@@ -200,14 +231,18 @@ impl<B: NodeBrand + QueueBrand, G: Gate, C: Clock, R: Wait + time::Clock> Worker
         }
         let done = locked.commit(&mut self.context, finished);
         shared.usage.note(&locked.node);
-        shared.scan_hint.publish(&locked.scan_state);
+        let is_earlier = shared.scan_hint.publish(&locked.scan_state);
+        drop(guard);
+        if is_earlier {
+            let _ = shared.idle.wake(self.rt);
+        }
         done
     }
 
     /// Commits the rows of a process, and reports the node's answer to the gate.
     fn commit(&mut self, finished: FinishedSlice<B>) {
         let pid = finished.pid();
-        let is_short = finished.count() < SHORT_SLICE;
+        let is_few = finished.count() < SHORT_SLICE;
         match self.commit_locked(finished) {
             Ok(None) => {}
             Ok(Some(outcome)) => self.gate.ran(pid, &outcome),
@@ -215,7 +250,8 @@ impl<B: NodeBrand + QueueBrand, G: Gate, C: Clock, R: Wait + time::Clock> Worker
             Err(DropReason::NoMemory) => self.retry_later(pid),
             Err(DropReason::Stranger | DropReason::Gone | DropReason::StaleCode) => {}
         }
-        if is_short {
+        let took_long = self.times.note_end(self.clock.moment());
+        if is_few && !took_long {
             self.after_short();
         } else {
             self.after_long();
@@ -236,7 +272,7 @@ impl<B: NodeBrand + QueueBrand, G: Gate, C: Clock, R: Wait + time::Clock> Worker
     fn after_long(&mut self) {
         let had_token = self.recent_slices.had_long(&self.shared.token);
         if had_token || self.has_more() {
-            self.shared.idle.wake(self.rt);
+            let _ = self.shared.idle.wake(self.rt);
         }
     }
 
@@ -260,14 +296,15 @@ impl<B: NodeBrand + QueueBrand, G: Gate, C: Clock, R: Wait + time::Clock> Worker
         let found = scan::scan(locked, &mut self.context, &shared.node_clock, at);
         locked.scan_state.end(found, moment);
         shared.usage.note(&locked.node);
-        shared.scan_hint.publish(&locked.scan_state);
+        let is_earlier = shared.scan_hint.publish(&locked.scan_state);
         drop(guard);
         self.until_scan = self.context.queued();
+        let _ = self.times.note_end(self.clock.moment());
         if found.is_full {
             shared.stop(self.rt);
         }
-        if self.has_more() && !self.recent_slices.has_token() {
-            shared.idle.wake(self.rt);
+        if is_earlier || self.has_more() && !self.recent_slices.has_token() {
+            let _ = shared.idle.wake(self.rt);
         }
     }
 
@@ -291,9 +328,11 @@ impl<B: NodeBrand + QueueBrand, G: Gate, C: Clock, R: Wait + time::Clock> Worker
     }
 }
 
-/// Runs processes that are enqueued, at most 4,000 rows of one at a time: those of its own queue and, where that is empty and at each 16th
-/// take, those of the others' queues, so that none waits for ever because others keep running. Of workers that have had only short slices
-/// for some time one goes on, and takes what is in the others' queues. It ends once the queues are closed, it finds no work and no scan is
+/// Runs processes that are enqueued, at most 4,000 rows of one at a time: those of its own queue and, where that is empty, those of the
+/// others' queues. The others' come first at each second take as long as such takes find something, else at each 16th, and at the first take
+/// after a wait: so what commands made runnable, which is in queues without a worker, gets half of the takes. Of workers that have had only
+/// short slices for some time one goes on, and takes what is in the others' queues. A worker that waits is woken where a process is behind a
+/// slice, at most once in two milliseconds, and where a commit or a scan finds an earlier deadline. It ends once the queues are closed, it finds no work and no scan is
 /// to be retried for want of memory, or once workers are stopped; a worker stops them if it finds the journal full. Then it gives its
 /// thread context back, by whose seat it entered moments and timeouts. Processes that can't be checked out are passed over, and rows that
 /// are dropped too, and processes that the gate lets wait; what is runnable is enqueued again. The gate is called under no lock. The clock
@@ -313,8 +352,9 @@ pub fn work<B: NodeBrand + QueueBrand, G: Gate, C: Clock, R: Wait + time::Clock>
         clock,
         context,
         until_scan: 0,
-        since_steal: 0,
+        steal_turns: StealTurns::new(),
         recent_slices: RecentSlices::new(),
+        times: WorkerTimes::new(),
     };
     for _ in rt.forever() {
         if !worker.act() {

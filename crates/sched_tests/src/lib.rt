@@ -4,6 +4,8 @@
 #[cfg(test)]
 mod barrier_gate;
 #[cfg(test)]
+mod begun;
+#[cfg(test)]
 mod crowds;
 #[cfg(test)]
 mod deep;

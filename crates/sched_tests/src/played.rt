@@ -42,6 +42,10 @@ impl Drop for ClosedNode {
 pub struct JournalCounts {
     /// How many entries ran rows, and how many rows these are.
     pub slices: (u32, u64),
+    /// How many of them ran rows of the first process one after another, since the last one that ran rows of another process.
+    pub first_since: u32,
+    /// The most of them that ran rows of the first process one after another, before one that ran rows of another process.
+    pub first_in_a_row: u32,
     /// How many loads come before the first rows.
     pub loads_before_rows: u32,
     /// How often the code of a module was loaded, deleted or purged.
@@ -74,6 +78,8 @@ impl JournalCounts {
     pub fn of(journal: &Journal) -> JournalCounts {
         let mut counts = JournalCounts {
             slices: (0, 0),
+            first_since: 0,
+            first_in_a_row: 0,
             loads_before_rows: 0,
             changes: 0,
             timeouts: 0,
@@ -89,7 +95,7 @@ impl JournalCounts {
 
     fn add(&mut self, event: &Event<Image>) {
         match event {
-            Event::Steps { rows, .. } => self.add_rows(u64::from(*rows)),
+            Event::Steps { pid, rows } => self.add_rows(*pid, u64::from(*rows)),
             Event::Load(_) => self.add_load(),
             Event::AtomicLoad { .. } | Event::Delete(_) | Event::SoftPurge(_) | Event::Purge(_) =>
                 self.changes = more(self.changes),
@@ -99,9 +105,15 @@ impl JournalCounts {
         }
     }
 
-    fn add_rows(&mut self, more_rows: u64) {
+    fn add_rows(&mut self, pid: u32, more_rows: u64) {
         let (count, rows) = self.slices;
         self.slices = (more(count), rows.saturating_add(more_rows));
+        if pid == 1 {
+            self.first_since = more(self.first_since);
+        } else {
+            self.first_in_a_row = self.first_in_a_row.max(self.first_since);
+            self.first_since = 0;
+        }
     }
 
     fn add_load(&mut self) {

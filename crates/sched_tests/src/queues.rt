@@ -1,6 +1,6 @@
 //! The queues of workers: which processes are in them, and that all of these are taken.
 use crate::scenario::{Scenario, Wanted};
-use crate::shared::left_here;
+use crate::shared::{left_here, play_here};
 use node_testing::commands::Argument::Integer;
 use node_testing::commands::Commands;
 use node_testing::listings::{LOOP, SLEEP, SUM};
@@ -31,6 +31,18 @@ fn one_beside(alloc: Global) -> Scenario {
     let first = endless(alloc, 1).load(SUM);
     let first = first.spawn("t", "sum", &[Integer(4)]);
     Scenario::until(alloc, first, Wanted::End(2))
+}
+
+/// A process that never ends, and many that do. Its first slice is held until all of these are started, by commands, so that none is in the
+/// worker's own queue.
+fn many_beside(alloc: Global) -> Scenario {
+    let first = endless(alloc, 1)
+        .load(SUM)
+        .spawn_many(MANY, "t", "sum", &[Integer(4)]);
+    let mut scenario = Scenario::with_barrier(first, (1, 1), Commands::new(alloc), 0);
+    scenario.wanted = Wanted::End(MANY + 1);
+    scenario.stops = true;
+    scenario
 }
 
 /// Many processes, to each of which three messages are sent, and no workers.
@@ -66,6 +78,14 @@ fn are_left<R: Threads + Wait + Clock + Sync + Abort + AllocGlobal>(
 #[test]
 fn a_started_process_runs_beside_one_that_computes(rt: HostRuntime) -> Result<(), Fail> {
     are_left(&rt, 1, one_beside(rt.alloc()), 1)
+}
+
+/// The worker steals the one that computes, and takes it again; from then on it steals one of the others at each second take.
+#[test]
+fn many_started_processes_run_beside_one_that_computes(rt: HostRuntime) -> Result<(), Fail> {
+    let played = play_here(&rt, 1, many_beside(rt.alloc()))?;
+    assert_eq!(rt; (played.counts.first_in_a_row, played.replays), (2, true));
+    Ok(())
 }
 
 #[test]

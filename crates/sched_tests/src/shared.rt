@@ -15,14 +15,16 @@ use beam_sched::schedulers::run_schedulers;
 use beam_sched::shared::Shared;
 use beam_sched::thread_context::ThreadContext;
 use beam_shared::node::Node;
+use node_testing::commands::Commands;
 use node_testing::stage::{closed, staged};
+use node_testing::test_deadline::REFUSED;
 use node_testing::views::text_of;
 use std::alloc::Global;
 use std::marker::Brand;
 use std::sync::Wait;
 use std::test::Fail;
 use std::thread::Threads;
-use std::time::Clock;
+use std::time::{Clock, Duration};
 
 /// Runs a scenario beside workers. The time is a clock's, or the number of slices that were checked out. All thread contexts but the
 /// scenario runner's come back.
@@ -87,13 +89,39 @@ fn ended<B: NodeBrand + QueueBrand>(
     })
 }
 
-/// Plays a scenario with `workers` workers, and closes the node with all thread contexts.
+/// The node after commands that are given before other threads share it. The processes that they enqueue are taken out of the queue, so
+/// the node is as one that comes back from its journal.
+fn node_after<B: NodeBrand + QueueBrand, R: Wait + Clock>(
+    rt: &R,
+    alloc: Global,
+    node: Node<B>,
+    context: &mut ThreadContext<B>,
+    earlier: Commands,
+) -> Result<Node<B>, Fail> {
+    let mut earlier = earlier;
+    let shared = Shared::new(alloc, node);
+    let is_given = earlier.give(rt, &shared, context, Duration::ZERO);
+    for _ in 0..u32::MAX {
+        if context.dequeue().is_none() {
+            break;
+        }
+    }
+    if is_given {
+        Ok(shared.into_node())
+    } else {
+        Err(REFUSED.fail())
+    }
+}
+
+/// Plays a scenario with `workers` workers, after commands that are given before they share the node, and closes the node with all thread
+/// contexts.
 fn play<B: NodeBrand + QueueBrand + Send + Sync, R: Threads + Wait + Clock + Sync>(
     rt: &R,
     alloc: Global,
     unbranded: UnbrandedKeeper,
     queues: queue::UnbrandedQueues,
     workers: u32,
+    earlier: Commands,
     scenario: Scenario,
 ) -> Result<ClosedNode, Fail>
     requires node { unbranded ≡ B.table }
@@ -105,23 +133,27 @@ fn play<B: NodeBrand + QueueBrand + Send + Sync, R: Threads + Wait + Clock + Syn
     let limit = scenario.limit.min(MOST_ENTRIES);
     let gate = BarrierGate::new(rt, first, needed);
     let (node, workers, context, _) = staged::<B>(alloc, unbranded, queues, limit, workers)?;
+    let mut context = context;
+    let node = node_after(rt, alloc, node, &mut context, earlier)?;
     let shared = Shared::new(alloc, node);
     let contexts = run(rt, alloc, &shared, &gate, workers, context, scenario);
     let node = shared.into_node();
     ended(alloc, node, contexts?, ends, gate.report())
 }
 
-/// Plays a scenario with a node of its own.
+/// Plays a scenario with a node of its own, after commands that are given before threads share it.
 fn closed_here<R: Threads + Wait + Clock + Sync + AllocGlobal>(
     rt: &R,
     workers: u32,
+    earlier: Commands,
     scenario: Scenario,
 ) -> Result<ClosedNode, Fail> {
     let alloc = rt.alloc();
+    earlier.made()?;
     scenario.made()?;
     let unbranded = UnbrandedKeeper::new(alloc)?;
     let queues = queue::UnbrandedQueues::new(alloc, workers as usize + 1)?;
-    play::<Brand, R>(rt, alloc, unbranded, queues, workers, scenario)
+    play::<Brand, R>(rt, alloc, unbranded, queues, workers, earlier, scenario)
 }
 
 /// The outcome of a scenario that is played with `workers` workers.
@@ -130,7 +162,17 @@ pub fn play_here<R: Threads + Wait + Clock + Sync + AllocGlobal>(
     workers: u32,
     scenario: Scenario,
 ) -> Result<Played, Fail> {
-    closed_here(rt, workers, scenario)?.played(rt.alloc())
+    play_after(rt, workers, Commands::new(rt.alloc()), scenario)
+}
+
+/// The outcome of a scenario that is played with `workers` workers, after commands that are given before they share the node.
+pub fn play_after<R: Threads + Wait + Clock + Sync + AllocGlobal>(
+    rt: &R,
+    workers: u32,
+    earlier: Commands,
+    scenario: Scenario,
+) -> Result<Played, Fail> {
+    closed_here(rt, workers, earlier, scenario)?.played(rt.alloc())
 }
 
 /// The outcome of a scenario that is played with `workers` workers, and whether this is the text of the processes' views at its end.
@@ -140,7 +182,7 @@ pub fn play_seen<R: Threads + Wait + Clock + Sync + AllocGlobal>(
     scenario: Scenario,
     seen: &str,
 ) -> Result<(Played, bool), Fail> {
-    let closed = closed_here(rt, workers, scenario)?;
+    let closed = closed_here(rt, workers, Commands::new(rt.alloc()), scenario)?;
     let played = closed.played(rt.alloc())?;
     Ok((played, closed.has_text(seen)))
 }
@@ -151,5 +193,5 @@ pub fn left_here<R: Threads + Wait + Clock + Sync + AllocGlobal>(
     workers: u32,
     scenario: Scenario,
 ) -> Result<Vec<u32>, Fail> {
-    Ok(closed_here(rt, workers, scenario)?.into_left())
+    Ok(closed_here(rt, workers, Commands::new(rt.alloc()), scenario)?.into_left())
 }

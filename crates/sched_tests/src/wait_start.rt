@@ -104,9 +104,9 @@ fn first_process_state(node: &Debugger) -> ProcessState {
     }
 }
 
-/// How often the worker reads the clock at 200, once its process waits. It reads it first in a scan, if one is still wanted after the
-/// commands, and then twice each time that it rests.
-const SETTLED: u64 = 4;
+/// How often the worker reads the clock at 200, once its process waits: at the end of the slice, twice in a scan, if one is still wanted after
+/// the commands, and three times each time that it rests.
+const SETTLED: u64 = 8;
 
 /// How often the worker reads the clock at 299.
 const EARLY: u64 = 60;
