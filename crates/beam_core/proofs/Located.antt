@@ -1,5 +1,5 @@
 -- The rows of the process of a number.
-use Rattle.std.proofs.Common.{◌≡◌, ℕ, zero, suc, ◌+◌, ◌<◌, Bool, true, false, cond, List, refl, sym, ap, subst, ◌∙◌, arith, add-one, true≢false, Option, Some, None, Ok, Err, option_map}
+use Rattle.std.proofs.Common.{◌≡◌, ℕ, zero, suc, ◌+◌, ◌<◌, Bool, true, false, cond, List, [], refl, sym, ap, subst, ◌∙◌, arith, add-one, true≢false, Option, Some, None, Ok, Err, option_map}
 use Rattle.std.specs.declared.alloc.AllocError.{AllocError}
 use Rattle.std.proofs.lemmas.Option.{same_Some}
 use Rattle.beam_term.specs.Prelude.{TermValue}
@@ -18,6 +18,7 @@ use Rattle.beam_rows.specs.declared.run.StopReason.TheVariants.{AtLimit, Waits, 
 use Rattle.beam_rows.specs.Prelude.{asked, can_ask, LeadsTo, ClearRows, Halts, is_stopped, passes_after}
 use Rattle.beam_state.specs.Prelude.{Responds, ending, Parts, node, then_at, with_processes}
 use Rattle.beam_state.proofs.Responding.{runs_there}
+use Rattle.beam_rows.proofs.Clearing.{never_stops}
 use Rattle.beam_core.specs.Halt.{rows_done, rows_stopped}
 use Rattle.beam_core.specs.Rows.{CanAsk, PrivateRows, RowsAre, StopsNext}
 use Rattle.beam_rows.proofs.AskedLoud.{asked_loud}
@@ -136,6 +137,13 @@ rows_at_limit code spots passes pid n old count new runs some h =
     let all : count ≡ n = r.stops.0 in
     (omega arith, omega arith, r.done, running_at new.processes pid r.q r.there r.stops.1)
 
+pub limit_done : (code : Code) (spots : List Place) (passes : Bool) (pid n : ℕ) (old : Parts) (count : ℕ) (new : Parts) → then_at old.processes pid ≡ Some GoesOn
+    → PrivateRows code spots passes pid n old count AtLimit new
+    → (halting spots passes (node code old) pid count ≡ rows_done count (node code new)) × (then_at new.processes pid ≡ Some GoesOn)
+limit_done code spots passes pid n old count new runs h =
+    let r = ran_so code spots passes pid n old count AtLimit new runs h in
+    (r.done, running_at new.processes pid r.q r.there r.stops.1)
+
 -- rows after which the process doesn't run are at least one
 some_done : (count : ℕ) (s : Status) → (count ≡ 0 → s ≡ Running) → is_running s ≡ false → 0 < count
 some_done zero s k halts = absurd (true≢false (sym (ap is_running (k refl)) ∙ halts))
@@ -162,6 +170,13 @@ pub rows_at_spot : (code : Code) (spots : List Place) (passes : Bool) (pid n : �
 rows_at_spot code spots passes pid n old count new runs h =
     let r = ran_so code spots passes pid n old count AtSpot new runs h in
     (r.stops.0, r.done, running_at new.processes pid r.q r.there r.stops.1, subst (StopsNext spots (passes_after passes count)) (sym r.there) r.stops.2)
+
+-- without break spots none is ever the next row
+pub never_at_spot : (code : Code) (spots : List Place) (passes : Bool) (pid n : ℕ) (old : Parts) (count : ℕ) (new : Parts) → then_at old.processes pid ≡ Some GoesOn
+    → PrivateRows code [] passes pid n old count AtSpot new → ⊥
+never_at_spot code spots passes pid n old count new runs h =
+    let r = ran_so code [] passes pid n old count AtSpot new runs h in
+    true≢false (sym r.stops.2 ∙ never_stops (passes_after passes count) r.q)
 
 -- a process that stops before its next row, where more rows were asked for
 pub halts_before : (spots : List Place) (passes : Bool) (pid : ℕ) (s t : State) (count m : ℕ) → count < m → halting spots passes s pid count ≡ rows_done count t

@@ -190,6 +190,9 @@ unhalted zero passes s pid = refl
 unhalted (suc n) passes s pid =
     unhalted_by passes s pid (λ t. halting [] false t pid n) (λ t. steps t pid n) (running (process_of s.processes pid)) (λ t. unhalted n false t pid)
 
+pub any_passes : (n : ℕ) (passes : Bool) (s : State) (pid : ℕ) → halting [] passes s pid n ≡ halting [] false s pid n
+any_passes n passes s pid = unhalted n passes s pid ∙ sym (unhalted n false s pid)
+
 pub done_steps : (n count : ℕ) (passes : Bool) (s t : State) (pid : ℕ) → halting [] passes s pid n ≡ rows_done count t → steps s pid n ≡ record { count = count; state = t }
 unfolding whole
 done_steps n count passes s t pid e = ap (λ (h : Halting). h.rows) (sym (unhalted n passes s pid) ∙ e)

@@ -1,5 +1,5 @@
 -- Rows of a process that stop before a break spot, where memory may be refused. (This node's own.)
-use Rattle.std.specs.Prelude.{◌≡◌, ℕ, Bool, true, false, nat_lt, IsTrue, List, Option, Some, None, Result, Ok, Err}
+use Rattle.std.specs.Prelude.{◌≡◌, ℕ, Bool, true, false, nat_lt, IsTrue, List, [], Option, Some, None, Result, Ok, Err}
 use Rattle.beam_model.specs.Prelude.{Place}
 use Rattle.beam_machine.specs.declared.event.Refused.{Refused}
 use Rattle.beam_machine.specs.declared.event.Refused.TheVariants.{NoMemory}
@@ -24,6 +24,13 @@ HaltsAt spots passes pid n s (Ok (count, Some after)) t =
 HaltsAt spots passes pid n s (Ok (count, None)) t =
     (halting spots passes s pid n ≡ rows_stopped count t) × (then_at t.processes pid ≡ Some GoesOn)
 HaltsAt spots passes pid n s (Err refusal) t = (refusal ≡ NoMemory) × (t ≡ s)
+
+-- rows of a process that runs, without break spots. `Some`: so many are executed, and the process stands so after them; `None`: nothing
+-- changed; an error: memory was refused, and nothing changed
+abbrev pub ShortHaltsAt : ℕ → State → Result (Option (ℕ × Then)) Refused → State → Type 0
+ShortHaltsAt pid s (Ok (Some (count, after))) t = (halting [] false s pid count ≡ rows_done count t) × (then_at t.processes pid ≡ Some after)
+ShortHaltsAt pid s (Ok None) t = t ≡ s
+ShortHaltsAt pid s (Err refusal) t = (refusal ≡ NoMemory) × (t ≡ s)
 
 -- a quiet row is refused no memory: neither as the first of n rows, nor as the next after some
 abbrev pub HaltsLoudly : ℕ → ℕ → State → Result (ℕ × Option Then) Refused → State → Type 0

@@ -1,5 +1,5 @@
 -- What rows of a process make of the node, where memory may be refused.
-use Rattle.std.specs.Prelude.{◌≡◌, ℕ, ◌<◌, ◌≤◌, Bool, true, List, Option, Some, None, IfSome, Result, Ok, Err}
+use Rattle.std.specs.Prelude.{◌≡◌, ℕ, ◌<◌, ◌≤◌, Bool, true, false, List, [], Option, Some, None, IfSome, Result, Ok, Err}
 use Rattle.std.specs.declared.alloc.AllocError.{AllocError}
 use Rattle.beam_model.specs.Prelude.{Place}
 use Rattle.beam_machine.specs.declared.event.Then.{Then}
@@ -37,3 +37,10 @@ RowsAre code spots passes pid n old count (Ok None) new =
 RowsAre code spots passes pid n old count (Err refused) new =
     (count < n) × (halting spots passes (node code old) pid count ≡ rows_done count (node code new))
     × (then_at new.processes pid ≡ Some GoesOn) × IsLoud code (process_of new.processes pid)
+
+-- `count` of n rows are executed, without break spots, and the process stands so; or memory was refused for the next row
+abbrev pub SomeRowsAre : Code → ℕ → ℕ → Parts → ℕ → Result Then AllocError → Parts → Type 0
+SomeRowsAre code pid n old count (Ok after) new =
+    (count ≤ n) × (halting [] false (node code old) pid count ≡ rows_done count (node code new)) × (then_at new.processes pid ≡ Some after)
+SomeRowsAre code pid n old count (Err refused) new =
+    (count < n) × (halting [] false (node code old) pid count ≡ rows_done count (node code new)) × (then_at new.processes pid ≡ Some GoesOn)

@@ -4,4 +4,5 @@
 mod install;
 pub mod node;
 mod row;
+mod short;
 mod steps;

@@ -12,10 +12,11 @@ ghost use Rattle.beam_machine.specs.Ready.{ready_after, next_deadline};
 ghost use Rattle.beam_laws.specs.Numbers.{Ordered};
 ghost use Rattle.beam_shape_laws.specs.Shaped.{IsFramedNode, LoadsFramed};
 ghost use Rattle.beam_state.specs.Parts.{node, then_at};
-ghost use Rattle.beam_core.specs.Halt.{HaltsAt, HaltsLoudly};
+ghost use Rattle.beam_core.specs.Halt.{HaltsAt, HaltsLoudly, ShortHaltsAt};
 ghost use Rattle.beam_core.specs.Installing.{AreRowsOf, Installed, AreQuiet};
 
 use crate::install::install;
+use crate::short::short_rows;
 use crate::steps::{run_rows, steps};
 use beam_codesrv::CodeTable;
 use beam_image::Image;
@@ -203,6 +204,19 @@ impl Core {
         ensures memory { OnErr result (0 < rows) }
     {
         run_rows(&self.code, &mut self.state, spots, passes, pid, rows)
+    }
+
+    /// Executes rows of a process that runs: at most `limit`, until it waits or ends, or its next row may take long. Answers how many, and how
+    /// the process then stands: they are the rows of a `Steps` that asks for just so many. `None`, and nothing changes, where its first row
+    /// may take long. Where memory is refused after a first row, the rows that were executed stand; before it, `NoMemory`, and nothing
+    /// changes. A row may take long if its cost grows with a term, a list
+    /// of operands or a stack: none is executed that takes longer than some thousand instructions of the processor, but for what the last
+    /// owner of a large term takes to drop it.
+    pub fn short_rows(&mut self, pid: u32, limit: u32) -> Result<Option<(u32, Then)>, Refused>
+        requires { then_at self.old.processes pid ≡ Some Then.GoesOn }
+        ensures { ShortHaltsAt pid self.old result self.new }
+    {
+        short_rows(&self.code, &mut self.state, pid, limit)
     }
 
     /// Rows of a process that were executed apart from the node take effect, and the row of the node before which they end is executed.

@@ -20,7 +20,7 @@ use beam_state::state::State;
 use std::alloc::AllocError;
 
 /// Responds to what a row asks of the node. Where memory is refused nothing changes.
-fn respond(state: &mut State, pid: u32, request: Request) -> Result<Then, AllocError>
+pub(crate) fn respond(state: &mut State, pid: u32, request: Request) -> Result<Then, AllocError>
     requires runs { then_at state.old.processes pid ≡ Some Then.GoesOn }
     requires can { CanAsk pid request state.old.processes }
     ensures { Responds state.old pid (λ p. asked p request) result state.new }

@@ -5,6 +5,7 @@ pub mod OfProcess
 pub mod Private
 pub mod Quick
 pub mod Reads
+pub mod Short
 pub mod Spots
 pub mod RowErrors
 pub mod Prelude

@@ -6,4 +6,5 @@ pub use Rattle.beam_rows.specs.Private.{LeadsTo}
 pub use Rattle.beam_rows.specs.Quick.{Quick, RecordAt, StandsIn, StayIn}
 pub use Rattle.beam_rows.specs.Reads.{removes, selects_by_size, selects_by_value, skips, updated_items, value_of}
 pub use Rattle.beam_rows.specs.RowErrors.{Chooses, Finishes, GoesTo, MakesTerm, Misses, Why}
+pub use Rattle.beam_rows.specs.Short.{asked_for}
 pub use Rattle.beam_rows.specs.Spots.{AreElsewhere, ClearRows, Halts, HasSpotsOf, NoneIn, is_stopped, passes_after}

@@ -1,0 +1,175 @@
+//! Which rows take little time, whatever their operands are: those that a turn under the node's lock executes. The cost of others grows with
+//! a term, a list of operands, a frame or a stack, so no small number bounds it.
+
+use crate::fetch::Fetcher;
+use beam_image::instruction_record::{Record, ShortSource};
+use beam_image::{LinkedCode, LinkedRecord, ModuleRecords, OperandList};
+use beam_machine::callee::Callee;
+use beam_machine::process::Goes;
+use beam_model::native::{Binary, Unary};
+use beam_model::opcode::Opcode;
+use beam_proc::process::Process;
+use beam_term::TermView;
+
+/// The most elements, y registers and other operands of a row that takes little time.
+const FEW: usize = 64;
+
+/// Which rows a run executes.
+pub(crate) trait RowCosts {
+    /// Whether a run executes the row at a position. If not, it stops before it.
+    fn admits(rows: &ModuleRecords<'_>, process: &Process, at: usize) -> bool;
+}
+
+/// All rows are executed.
+pub(crate) struct AnyCost {}
+
+impl RowCosts for AnyCost {
+    #[inline(always)]
+    fn admits(_rows: &ModuleRecords<'_>, _process: &Process, _at: usize) -> bool {
+        true
+    }
+}
+
+/// Only rows are executed that take little time.
+pub(crate) struct LittleCost {}
+
+impl RowCosts for LittleCost {
+    #[inline(always)]
+    fn admits(rows: &ModuleRecords<'_>, process: &Process, at: usize) -> bool {
+        match rows.record(at) {
+            Some(row) => is_cheap(row.rec, row.code, process),
+            None => false,
+        }
+    }
+}
+
+/// Whether an x register has a term that isn't made of others, or was never written.
+fn is_flat(process: &Process, x: u8) -> bool {
+    match process.x_value(u32::from(x)) {
+        Some(term) => !matches!(term.view(), TermView::Pair(..) | TermView::Tuple(_)),
+        None => true,
+    }
+}
+
+/// Whether a value is no term that is made of others, as far as that is seen at once.
+fn is_flat_source(process: &Process, source: ShortSource) -> bool {
+    match source {
+        ShortSource::X(x) => is_flat(process, x),
+        ShortSource::Y(_) => false,
+        _ => true,
+    }
+}
+
+/// Whether a list of operands is short. A value is looked up among choices, however many they are.
+fn is_short(code: &LinkedCode, list: usize) -> bool {
+    match code.list(list) {
+        Some(OperandList::Sources(elements)) => elements.as_slice().len() <= FEW,
+        Some(OperandList::Registers(registers)) => registers.as_slice().len() <= FEW,
+        Some(OperandList::Choices(_) | OperandList::Sizes(_)) => true,
+        _ => false,
+    }
+}
+
+/// Whether a native of one argument takes little time.
+fn is_cheap_unary(native: Unary) -> bool {
+    match native {
+        Unary::Length
+        | Unary::TupleToList
+        | Unary::ListToTuple
+        | Unary::Error
+        | Unary::Exit
+        | Unary::Throw => false,
+        _ => true,
+    }
+}
+
+/// Whether a native of two arguments takes little time.
+fn is_cheap_binary(native: Binary) -> bool {
+    matches!(
+        native,
+        Binary::Compute(_) | Binary::And | Binary::Or | Binary::Xor | Binary::Element
+    )
+}
+
+/// Whether an instruction without a record of its own takes little time. A wait with a timeout isn't among them: it needs the moment at which
+/// it begins.
+fn is_cheap_opcode(opcode: Opcode) -> bool {
+    matches!(
+        opcode,
+        Opcode::Move
+            | Opcode::Swap
+            | Opcode::Jump
+            | Opcode::Call
+            | Opcode::CallOnly
+            | Opcode::GetHd
+            | Opcode::GetTl
+            | Opcode::GetList
+            | Opcode::GetTupleElement
+            | Opcode::PutList
+            | Opcode::Try
+            | Opcode::TryEnd
+            | Opcode::Catch
+            | Opcode::CatchEnd
+            | Opcode::Timeout
+            | Opcode::RecvMarkerBind
+            | Opcode::RecvMarkerClear
+            | Opcode::RecvMarkerReserve
+            | Opcode::RecvMarkerUse
+    )
+}
+
+/// Whether the row of a record takes little time. Two terms are compared at once unless both are made of others.
+fn is_cheap(rec: &Record, code: &LinkedCode, process: &Process) -> bool {
+    match *rec {
+        Record::General(_, opcode) => is_cheap_opcode(opcode),
+        Record::LessX(_, left, right, _)
+        | Record::GreaterOrEqualX(_, left, right, _)
+        | Record::EqualX(_, left, right, _)
+        | Record::NotEqualX(_, left, right, _) => is_flat(process, left) || is_flat(process, right),
+        Record::LessOf(_, left, right, _)
+        | Record::GreaterOrEqualOf(_, left, right, _)
+        | Record::EqualOf(_, left, right, _)
+        | Record::NotEqualOf(_, left, right, _)
+        | Record::Compares(_, _, left, right, _) => {
+            is_flat_source(process, left) || is_flat_source(process, right)
+        }
+        Record::Native1(_, native, ..) => is_cheap_unary(native),
+        Record::Native2(_, native, ..) => is_cheap_binary(native),
+        Record::PutTuple(_, _, list) => is_short(code, list as usize),
+        Record::Clear(_, list) => is_short(code, list as usize),
+        Record::SelectSize(_, _, list, _) => is_short(code, list as usize),
+        Record::Allocate(_, size) | Record::Deallocate(_, size) => (size as usize) <= FEW,
+        Record::CallLast(_, size, _) | Record::CallExtLast(_, size, _) => (size as usize) <= FEW,
+        Record::Trim(_, dropped, _) => (dropped as usize) <= FEW,
+        _ => true,
+    }
+}
+
+/// Whether a row that isn't a quick one takes little time: it sends, waits, calls a native of the node, or ends the process by its last
+/// return. Any other row with a record of its own raises.
+fn asks_little(row: &LinkedRecord<'_>) -> bool {
+    match *row.rec {
+        Record::General(_, opcode) => is_cheap_opcode(opcode),
+        Record::Send(_) | Record::Wait(..) | Record::Return(_) => true,
+        Record::CallExt(_, import)
+        | Record::CallExtOnly(_, import)
+        | Record::CallExtLast(_, _, import) => {
+            matches!(row.code.callee(import as usize), Some(Callee::Node { .. }))
+        }
+        _ => false,
+    }
+}
+
+/// Whether the next row of a process, which isn't a quick one, takes little time. The first row enters a function.
+pub(crate) fn admits_next(fetcher: &mut Fetcher<'_>, process: &Process) -> bool
+    ensures code { fetcher.new ≡ fetcher.old }
+{
+    match process.goes() {
+        Goes::At(place) => match fetcher.record(*place) {
+            Some(row) => asks_little(&row),
+            None => false,
+        },
+        Goes::Enter { .. } => true,
+        Goes::Nowhere => false,
+    }
+}
