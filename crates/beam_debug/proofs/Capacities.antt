@@ -1,6 +1,7 @@
 -- Which processes can be held without memory, after an event.
 use Rattle.std.proofs.Common.{◌≡◌, ℕ, zero, suc, ◌+◌, ◌-◌, ◌<◌, ◌≤◌, ◌==◌, ◌||◌, Bool, true, false, cond, not, nat_lt, List, [], ◌∷◌, length, filter, refl, sym, ap, subst, ◌∙◌, true≢false, arith, Ok, Err, ◌&&◌, Option, Some, None, Result, IfOk, OnOk, OnErr, is_ok}
 use Rattle.std.proofs.lemmas.Bool.Decides.{nat_tests}
+use Rattle.std.specs.Prelude.{OnSome}
 use Rattle.beam_machine.specs.declared.debug.DebugEvent.{DebugEvent}
 use Rattle.beam_machine.specs.declared.debug.DebugEvent.TheVariants.{SetBreak, ClearBreak, Resume, StepOne, Inspect, Node as NodeEvent}
 use Rattle.beam_machine.specs.declared.debug.DebugReply.{DebugReply}
@@ -22,7 +23,7 @@ use Rattle.beam_laws.proofs.Lookups.{left_false}
 use Rattle.beam_laws.proofs.Numbered.{positive}
 use Rattle.beam_debug.specs.declared.outcome.Outcome.{Outcome}
 use Rattle.beam_debug.specs.declared.debug_state.DebugState.{DebugState}
-use Rattle.beam_debug.specs.Prelude.{answer_of, reply_of, capacity_of, steps_in, debugged, is_at_row, has_begun, AreRising, BeginBelow, HasCapacity, CapacityFor, Settled}
+use Rattle.beam_debug.specs.Prelude.{answer_of, reply_of, capacity_of, steps_in, debugged, is_at_row, has_begun, AreRising, BeginBelow, HasCapacity, CapacityFor, Settled, ShortAnswers}
 use Rattle.beam_debug.proofs.Beginning.{halting_below, next_below, steps_below}
 
 -- ---- rising numbers
@@ -322,3 +323,11 @@ pub reserved : (d : Debugged) (ns : List ℕ) (capacity more : ℕ) → ns ≡ d
     → Settled (record d { held = ns }) × HasCapacity (record d { held = ns }) more
 reserved d ns capacity more same less live h =
     subst (λ hs. Settled (record d { held = hs }) × HasCapacity (record d { held = hs }) more) (sym same) (live, more_capacity d capacity more less h)
+
+-- rows of a short turn took effect as a `Steps`, or nothing changed
+pub short_capacity : (d new : Debugged) (capacity more pid : ℕ) (result : Result (Option (ℕ × Then)) Refused) → ShortAnswers d pid result new → capacity ≤ more
+    → IfOk result (λ done. OnSome done (pid < more)) → HasCapacity d capacity → HasCapacity new more
+short_capacity d new capacity more pid (Ok (Some (count, after))) h less runs k =
+    still_capacity d new capacity more (NodeEvent (event.Steps pid count)) (Ok (Node (Ran count after))) h less (λ some. runs) k
+short_capacity d new capacity more pid (Ok None) h less runs k = subst (λ x. HasCapacity x more) (sym h) (more_capacity d capacity more less k)
+short_capacity d new capacity more pid (Err refused) h less runs k = subst (λ x. HasCapacity x more) (sym h.1) (more_capacity d capacity more less k)

@@ -10,4 +10,5 @@ pub mod LabelOrRows
 pub mod Capacity
 pub mod Seen
 pub mod Settled
+pub mod Short
 pub mod Prelude

@@ -11,3 +11,4 @@ pub use Rattle.beam_debug.specs.LabelOrRows.{label_or_rows_at, label_or_rows_by}
 pub use Rattle.beam_debug.specs.Loud.{DebugLoudly}
 pub use Rattle.beam_debug.specs.Seen.{frame_seen, frame_text, live_seen, next_seen}
 pub use Rattle.beam_debug.specs.Settled.{Settled}
+pub use Rattle.beam_debug.specs.Short.{ShortAnswers, ShortHalts}

@@ -15,6 +15,7 @@ ghost use Rattle.beam_debug.specs.Installing.{AreSlices, IsQuietSlice};
 ghost use Rattle.beam_debug.specs.Loud.{DebugLoudly};
 ghost use Rattle.beam_debug.specs.DebuggedNode.{debugged};
 ghost use Rattle.beam_debug.specs.Capacity.{HasCapacity, CapacityFor};
+ghost use Rattle.beam_debug.specs.Short.{ShortAnswers};
 ghost use Rattle.beam_machine.specs.DebugRun.{DebugAnswers, DebugLacksMemory, effective_debug_events, effective_debug_answers};
 
 use crate::commands;
@@ -23,13 +24,14 @@ use crate::inspect::view;
 use crate::installing::install;
 use crate::numbers::is_among;
 use crate::outcome::Outcome;
+use crate::short::short_steps;
 use crate::steps::{step_one, steps};
 use crate::view::{RenderedView, View};
 use beam_codesrv::CodeTable;
 use beam_core::node::Core;
 use beam_image::Image;
 use beam_machine::debug::{DebugEvent, Spot};
-use beam_machine::event::{Event, Refused, Reply};
+use beam_machine::event::{Event, Refused, Reply, Then};
 use beam_model::place::Place;
 use beam_proc::entry::ProcessEntry;
 use beam_proc::private::Private;
@@ -269,6 +271,18 @@ impl Debugger {
         ensures capacity { self.old.capacity ≤ self.new.capacity }
     {
         node_event(&mut self.core, &mut self.debug, event)
+    }
+
+    /// Executes rows of a process: at most `limit`, until it waits or ends, or its next row may take long. Answers how many, and how the process
+    /// then stands: state and answer are those of a `Steps` that asks for just so many. `None`, and nothing changes, where the first row
+    /// may take long, a break spot is set, or the process doesn't run or is held. Where memory is refused after a first row, the rows that
+    /// were executed stand; before it, `NoMemory`, and nothing changes.
+    pub fn short_steps(&mut self, pid: u32, limit: u32) -> Result<Option<(u32, Then)>, Refused>
+        requires { 0 < limit }
+        ensures next { ShortAnswers self.old.state pid result self.new.state }
+        ensures capacity { self.old.capacity ≤ self.new.capacity }
+    {
+        short_steps(&mut self.core, &mut self.debug, pid, limit)
     }
 
     /// Sets a break spot: processes stop before the row that it names from now on. Tells whether it is new. `BadSpot` where it names no

@@ -12,6 +12,7 @@ mod numbers;
 pub mod outcome;
 mod places;
 mod print;
+mod short;
 pub mod spot;
 mod steps;
 pub mod view;

@@ -20,7 +20,7 @@ use beam_machine::event::{Event, Refused, Reply, Then};
 use std::alloc::AllocError;
 
 /// Reserves capacity to hold a process of which `rows` rows are to be executed. Where memory is refused nothing changes.
-fn make_room_for(pid: u32, rows: u32, held: &mut Vec<u32>) -> Result<(), AllocError>
+pub(crate) fn make_room_for(pid: u32, rows: u32, held: &mut Vec<u32>) -> Result<(), AllocError>
     ensures items { held.new.items ≡ held.old.items }
     ensures capacity { OnOk result (0 < rows → pid < vec_capacity held.new) }
     ensures kept { vec_capacity held.old ≤ vec_capacity held.new }

@@ -15,3 +15,4 @@ pub mod finished_slice;
 pub mod node;
 mod recovering;
 pub mod seat_mismatch;
+mod short_turns;

@@ -1,0 +1,64 @@
+//! Rows that are executed under the node's lock.
+ghost use Rattle.std.specs.Prelude.{◌≡◌, ◌<◌, ◌∷◌, ◌++◌, [], None, Some, IfSome};
+ghost use Rattle.beam_debug.specs.Answers.{reply_of};
+ghost use Rattle.beam_journal.specs.Entering.{Accepts, entry_of};
+ghost use Rattle.beam_shared.specs.Node.{accepted};
+
+use crate::checked_out::must_wait;
+use crate::entering::{enter_for_seat, make_room};
+use crate::node::Node;
+use beam_debug::outcome::Outcome;
+use beam_machine::debug::DebugEvent;
+use beam_machine::event::{Event, Reply};
+use beam_receipts::brand::NodeBrand;
+use beam_receipts::seat::SeatReceipt;
+use std::marker::Brand;
+
+impl<B: NodeBrand> Node<B> {
+    /// Executes rows of a process, as a seat's command: at most `limit`, until it waits or ends, or its next row may take long. Enters them as
+    /// a `Steps` that asks for just so many, and gives their count and the node's answer. `None`, and nothing changes, where the process can't
+    /// have such a turn: it is checked out, doesn't run or is held, its next row may take long, a break spot is set, the journal is full, or
+    /// memory is refused.
+    pub fn short_steps(
+        &mut self,
+        seat: &mut SeatReceipt<B>,
+        pid: u32,
+        limit: u32,
+    ) -> Option<(u32, Outcome)>
+        requires { 0 < limit }
+        ensures reply { IfSome result (λ r. Accepts self.old.state (DebugEvent.Node (Event.Steps pid r.0)) (reply_of r.1)) }
+        ensures node { IfSome result (λ r. self.new ≡ accepted self.old (DebugEvent.Node (Event.Steps pid r.0)) seat.old.number (reply_of r.1)) }
+        ensures seat { IfSome result (λ r. seat.new
+            ≡ record seat.old { kept = seat.old.kept ++ entry_of (DebugEvent.Node (Event.Steps pid r.0)) (Some seat.old.number) (reply_of r.1) ∷ [] }) }
+        ensures none { result ≡ None → (self.new ≡ self.old) × (seat.new ≡ seat.old) }
+    {
+        self.keeper.check_seat(seat);
+        self.debugger.recall_invariant();
+        if self.journal.is_full() {
+            return None;
+        }
+        let asked = DebugEvent::Node(Event::Steps { pid, rows: limit });
+        if must_wait(&self.checked_out, &asked) {
+            return None;
+        }
+        let Ok(()) = make_room(&self.checked_out, &mut self.journal, 1) else {
+            return None;
+        };
+        match self.debugger.short_steps(pid, limit) {
+            Ok(Some((count, then))) => {
+                let event = DebugEvent::Node(Event::Steps { pid, rows: count });
+                let reply = Outcome::Node(Reply::Ran { count, then });
+                enter_for_seat::<B, Brand>(
+                    &mut self.journal,
+                    &mut self.keeper,
+                    seat,
+                    event,
+                    &reply,
+                );
+                Some((count, reply))
+            }
+            Ok(None) => None,
+            Err(_) => None,
+        }
+    }
+}
