@@ -18,6 +18,10 @@ pub trait Gate {
     /// The rows of a process took effect, and the node gave this outcome.
     fn ran(&self, pid: u32, outcome: &Outcome);
 
+    /// Processes had short turns under the node's lock, and this is the greatest number of one of them. Only the ends of these are reported,
+    /// by `ran` and `ended`.
+    fn ran_in_place(&self, pid: u32);
+
     /// A process was ended, with that reason, by a signal that arrived before rows of it were to be run.
     fn ended(&self, pid: u32, reason: &Term);
 
@@ -44,6 +48,8 @@ impl Gate for NoGate {
     fn back(&self, _pid: u32) {}
 
     fn ran(&self, _pid: u32, _outcome: &Outcome) {}
+
+    fn ran_in_place(&self, _pid: u32) {}
 
     fn ended(&self, _pid: u32, _reason: &Term) {}
 

@@ -28,6 +28,9 @@ use beam_term::Term;
 use std::alloc::Global;
 use std::sync::{Mutex, Wait};
 
+/// How many rows a turn under the lock has at most in a node that serves.
+pub const ROWS_IN_PLACE: u32 = 256;
+
 /// A node under its lock; what threads read without it; and where its workers wait, under a lock of its own. No thread holds both locks.
 #[derive(Drop)]
 pub struct Shared<B: NodeBrand> {
@@ -37,6 +40,8 @@ pub struct Shared<B: NodeBrand> {
     pub(crate) token: ShortSliceToken,
     pub(crate) node_clock: NodeClock,
     pub(crate) usage: JournalUsage,
+    /// How many rows a turn under the lock has at most; 0 if there are no such turns.
+    pub(crate) rows_in_place: u32,
 }
 
 /// The time to which an event sets the node's clock.
@@ -49,8 +54,8 @@ fn time_set(event: &DebugEvent<Image>) -> Option<u64> {
 
 impl<B: NodeBrand> Shared<B> {
     /// A node of which no process is enqueued yet. It takes no memory. If a process is runnable or has a deadline, as in a node that comes
-    /// back from its journal, the first worker scans it.
-    pub fn new(alloc: Global, node: Node<B>) -> Shared<B> {
+    /// back from its journal, the first worker scans it. Workers have turns of at most `rows_in_place` rows under the lock; 0 for none.
+    pub fn new(alloc: Global, node: Node<B>, rows_in_place: u32) -> Shared<B> {
         let node_clock = NodeClock::new(node.debugger().core().clock());
         let usage = JournalUsage::new();
         usage.note(&node);
@@ -64,6 +69,7 @@ impl<B: NodeBrand> Shared<B> {
             token: ShortSliceToken::new(),
             node_clock,
             usage,
+            rows_in_place,
         }
     }
 

@@ -2,12 +2,14 @@
 
 use crate::clock::Clock;
 use crate::gate::Gate;
+use crate::long_runners::LongRunners;
 use crate::scan;
 use crate::scan::{ScanRequest, advance_clock, exit_reason};
 use crate::shared::Shared;
 use crate::short_slice_token::RecentSlices;
 use crate::steal_turns::StealTurns;
 use crate::thread_context::ThreadContext;
+use crate::turns::TurnsDone;
 use crate::worker_action::{WorkerAction, idle_action};
 use crate::worker_times::WorkerTimes;
 use beam_debug::outcome::Outcome;
@@ -43,6 +45,7 @@ struct Worker<'a, B: NodeBrand + QueueBrand, G, C, R> {
     /// What slices it had lately, and whether it has the token.
     recent_slices: RecentSlices,
     times: WorkerTimes,
+    long_runners: LongRunners,
 }
 
 impl<B: NodeBrand + QueueBrand, G, C, R> Worker<'_, B, G, C, R> {
@@ -199,9 +202,54 @@ impl<B: NodeBrand + QueueBrand, G: Gate, C: Clock, R: Wait + time::Clock> Worker
         }
     }
 
-    /// Runs a slice of a process: it is checked out and committed under the lock, and run under none.
+    /// Runs a process: in a short turn under the lock, if it may have one, and in a slice if it may not or has more to do.
     fn run(&mut self, pid: u32) {
         self.wake_for_queued();
+        let left = if self.may_run_in_place(pid) {
+            self.run_in_place(pid)
+        } else {
+            Some(pid)
+        };
+        match left {
+            Some(pid) => self.run_slice(pid),
+            None => self.after_action(true),
+        }
+    }
+
+    /// Whether a process may have a short turn under the lock: it isn't one that had long slices, and no process is to wait.
+    fn may_run_in_place(&self, pid: u32) -> bool {
+        self.shared.rows_in_place > 0 && !self.long_runners.has(pid) && !self.gate.must_wait(1)
+    }
+
+    /// Has short turns under the lock, of this process and of others that are runnable. Returns the one that is to be run in a slice.
+    fn run_in_place(&mut self, pid: u32) -> Option<u32> {
+        let shared = self.shared;
+        let mut guard = shared.node.lock(self.rt);
+        let locked = &mut *guard;
+        let done = locked.have_turns(&mut self.context, pid, shared.rows_in_place);
+        shared.usage.note(&locked.node);
+        let is_earlier = shared.scan_hint.publish(&locked.scan_state);
+        drop(guard);
+        if is_earlier {
+            let _ = shared.idle.wake(self.rt);
+        }
+        self.report_turns(done)
+    }
+
+    /// Reports to the gate what turns under the lock did. Returns the process that has more to do.
+    fn report_turns(&self, done: TurnsDone) -> Option<u32> {
+        self.gate.ran_in_place(done.greatest);
+        if let Some((pid, reason)) = &done.killed {
+            self.gate.ended(*pid, reason);
+        }
+        if let Some((pid, outcome)) = &done.ended {
+            self.gate.ran(*pid, outcome);
+        }
+        done.long
+    }
+
+    /// Runs a slice of a process: it is checked out and committed under the lock, and run under none.
+    fn run_slice(&mut self, pid: u32) {
         match self.check_out(pid) {
             Ok((checkout, end)) => {
                 if let Some(reason) = &end {
@@ -250,6 +298,12 @@ impl<B: NodeBrand + QueueBrand, G: Gate, C: Clock, R: Wait + time::Clock> Worker
             Err(DropReason::NoMemory) => self.retry_later(pid),
             Err(DropReason::Stranger | DropReason::Gone | DropReason::StaleCode) => {}
         }
+        self.long_runners.note(pid, !is_few);
+        self.after_action(is_few);
+    }
+
+    /// After a slice, or turns under the lock. `is_few` if it had few rows.
+    fn after_action(&mut self, is_few: bool) {
         let took_long = self.times.note_end(self.clock.moment());
         if is_few && !took_long {
             self.after_short();
@@ -355,6 +409,7 @@ pub fn work<B: NodeBrand + QueueBrand, G: Gate, C: Clock, R: Wait + time::Clock>
         steal_turns: StealTurns::new(),
         recent_slices: RecentSlices::new(),
         times: WorkerTimes::new(),
+        long_runners: LongRunners::new(),
     };
     for _ in rt.forever() {
         if !worker.act() {

@@ -75,6 +75,13 @@ impl<B: NodeBrand, R: Wait + Clock + Log + AllocGlobal> Gate for ServeGate<'_, B
         }
     }
 
+    fn ran_in_place(&self, pid: u32) {
+        self.reserve.note_run(pid);
+        if let Some(journal) = self.journal {
+            journal.wait_until_near(self.rt, self.shared);
+        }
+    }
+
     fn ended(&self, pid: u32, reason: &Term) {
         log_exit(self.rt, pid, reason);
     }

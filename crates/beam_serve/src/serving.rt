@@ -27,7 +27,7 @@ use beam_receipts::seat::SeatReceipt;
 use beam_replay::{OpenJournal, ReadProgress, Recovered, open_journal, recover, write_fault};
 use beam_sched::clock::SteadyClock;
 use beam_sched::schedulers::run_with_helpers;
-use beam_sched::shared::Shared;
+use beam_sched::shared::{ROWS_IN_PLACE, Shared};
 use beam_sched::thread_context::ThreadContext;
 use beam_sched::thread_contexts::{NewContexts, SeatsAndQueues, contexts};
 use beam_shared::node::Node;
@@ -469,7 +469,7 @@ fn serve_node<
     } = begin(rt, alloc, terminal, &mut node, opened, line)?;
     let (contexts, mut parts) = contexts_of(alloc, &mut node, queues, seats, line)?;
     let is_new = node.entered() == 0;
-    let shared = Shared::new(alloc, node);
+    let shared = Shared::new(alloc, node, ROWS_IN_PLACE);
     let acceptor = Acceptor::new(endpoint, line.connections);
     let link = link_of(&journal, &acceptor);
     let ended = run(

@@ -146,6 +146,8 @@ impl<R: Wait + time::Clock> Gate for BarrierGate<'_, R> {
         }
     }
 
+    fn ran_in_place(&self, _pid: u32) {}
+
     fn ended(&self, _pid: u32, _reason: &Term) {
         let mut report = self.report.lock(self.rt);
         report.tally.signalled = report.tally.signalled.saturating_add(1);

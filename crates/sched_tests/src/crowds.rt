@@ -35,7 +35,7 @@ fn change_parents(commands: Commands, parent: u32) -> Commands {
 }
 
 /// Parents start, and after each start the code of both modules changes.
-fn crowd(alloc: Global) -> Scenario {
+pub fn crowd(alloc: Global) -> Scenario {
     let mut then = Commands::new(alloc);
     for parent in 0..PARENTS {
         then = then.spawn("a", "main", &[Integer(CHILDREN)]);

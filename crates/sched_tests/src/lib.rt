@@ -34,6 +34,8 @@ mod telling;
 #[cfg(test)]
 mod timeouts;
 #[cfg(test)]
+mod turns;
+#[cfg(test)]
 mod upgrades;
 #[cfg(test)]
 mod wait_start;

@@ -17,7 +17,7 @@ const LINKS: u32 = 1_000;
 const ROUNDS: u32 = 3;
 
 /// Starts of `count` processes of sum(4).
-fn sums(alloc: Global, count: u32) -> Commands {
+pub fn sums(alloc: Global, count: u32) -> Commands {
     Commands::new(alloc)
         .load(SUM)
         .spawn_many(count, "t", "sum", &[Integer(4)])
@@ -46,7 +46,7 @@ fn sleeper(alloc: Global) -> Scenario {
 }
 
 /// Each process sends to the one before it, and the first one to itself. The last one gets its messages from commands.
-fn links(alloc: Global) -> Scenario {
+pub fn links(alloc: Global) -> Scenario {
     let load = Commands::new(alloc).load(LINK);
     let mut first = load.spawn("c", "link", &[Pid(1), Integer(ROUNDS)]);
     for id in 1..LINKS {

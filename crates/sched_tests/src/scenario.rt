@@ -52,6 +52,8 @@ pub struct Scenario {
     pub stops: bool,
     /// Whether the time is the number of slices that were checked out, in milliseconds, and not a clock's.
     pub is_by_slices: bool,
+    /// How many rows a turn under the lock has at most; 0 if there are none.
+    pub rows_in_place: u32,
 }
 
 impl Drop for Scenario {
@@ -65,6 +67,7 @@ impl Drop for Scenario {
             wanted: _wanted,
             stops: _stops,
             is_by_slices: _is_by_slices,
+            rows_in_place: _rows_in_place,
         } = self;
     }
 }
@@ -81,6 +84,7 @@ impl Scenario {
             wanted: Wanted::Ends(ends),
             stops: false,
             is_by_slices: false,
+            rows_in_place: 0,
         }
     }
 
@@ -96,6 +100,7 @@ impl Scenario {
             wanted: Wanted::Ends(ends),
             stops: false,
             is_by_slices: false,
+            rows_in_place: 0,
         }
     }
 
@@ -110,6 +115,7 @@ impl Scenario {
             wanted: Wanted::Ends(count),
             stops: false,
             is_by_slices: false,
+            rows_in_place: 0,
         }
     }
 
@@ -124,7 +130,15 @@ impl Scenario {
             wanted,
             stops: true,
             is_by_slices: false,
+            rows_in_place: 0,
         }
+    }
+
+    /// The scenario with turns of that many rows under the lock.
+    pub fn with_turns(self, rows: u32) -> Scenario {
+        let mut scenario = self;
+        scenario.rows_in_place = rows;
+        scenario
     }
 
     /// How many processes are inspected after the scenario.

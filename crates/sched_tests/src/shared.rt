@@ -99,7 +99,7 @@ fn node_after<B: NodeBrand + QueueBrand, R: Wait + Clock>(
     earlier: Commands,
 ) -> Result<Node<B>, Fail> {
     let mut earlier = earlier;
-    let shared = Shared::new(alloc, node);
+    let shared = Shared::new(alloc, node, 0);
     let is_given = earlier.give(rt, &shared, context, Duration::ZERO);
     for _ in 0..u32::MAX {
         if context.dequeue().is_none() {
@@ -130,12 +130,13 @@ fn play<B: NodeBrand + QueueBrand + Send + Sync, R: Threads + Wait + Clock + Syn
 {
     let ends = scenario.ends();
     let (first, needed) = scenario.held;
+    let rows_in_place = scenario.rows_in_place;
     let limit = scenario.limit.min(MOST_ENTRIES);
     let gate = BarrierGate::new(rt, first, needed);
     let (node, workers, context, _) = staged::<B>(alloc, unbranded, queues, limit, workers)?;
     let mut context = context;
     let node = node_after(rt, alloc, node, &mut context, earlier)?;
-    let shared = Shared::new(alloc, node);
+    let shared = Shared::new(alloc, node, rows_in_place);
     let contexts = run(rt, alloc, &shared, &gate, workers, context, scenario);
     let node = shared.into_node();
     ended(alloc, node, contexts?, ends, gate.report())

@@ -19,7 +19,7 @@ const MESSAGES: u32 = 300;
 const AT_ONCE: u32 = 129;
 
 /// The first process waits for 20 ms, and gets messages whose handling takes more than one slice.
-fn told(alloc: Global) -> Scenario {
+pub fn told(alloc: Global) -> Scenario {
     let first = Commands::new(alloc)
         .load(WAIT)
         .spawn("w", "wait", &[Integer(20)]);

@@ -80,6 +80,8 @@ impl Gate for ClockGate<'_> {
 
     fn ran(&self, _pid: u32, _outcome: &Outcome) {}
 
+    fn ran_in_place(&self, _pid: u32) {}
+
     fn ended(&self, _pid: u32, _reason: &Term) {}
 
     fn refused(&self, _pid: u32) {}
@@ -257,7 +259,7 @@ fn wait_once<B: NodeBrand + QueueBrand + Send + Sync, R: Threads + Wait + time::
         reads: AtomicU64::new(0),
     };
     let (node, workers, context, _) = staged::<B>(alloc, unbranded, queues, MOST_ENTRIES, 1)?;
-    let shared = Shared::new(alloc, node);
+    let shared = Shared::new(alloc, node, 0);
     let (contexts, early, unfinished) = run(
         rt, alloc, &shared, &clock, workers, context, commands, begins,
     );

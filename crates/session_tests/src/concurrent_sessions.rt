@@ -14,7 +14,7 @@ use beam_remote::{DeviceFailed, Port, ServeError, Served};
 use beam_sched::clock::SteadyClock;
 use beam_sched::gate::NoGate;
 use beam_sched::schedulers::{ForegroundTask, Helper, StartedThreads, run_with_helpers};
-use beam_sched::shared::Shared;
+use beam_sched::shared::{ROWS_IN_PLACE, Shared};
 use beam_sched::thread_context::ThreadContext;
 use beam_serve::{Incoming, SeatDesk, serve_sessions};
 use log::Log;
@@ -375,7 +375,7 @@ fn found<
         ended_sessions: Mutex::new(Vec::new(alloc)),
     };
     let (node, workers, context, others) = staged::<B>(alloc, unbranded, queues, MOST_ENTRIES, 1)?;
-    let shared = Shared::new(alloc, node);
+    let shared = Shared::new(alloc, node, ROWS_IN_PLACE);
     let contexts = receive(rt, alloc, &shared, &client_queue, workers, context, others);
     let (journal, _) = closed(alloc, shared.into_node(), contexts)?;
     all_session_texts(alloc, &journal, &client_queue.into_ended_sessions())

@@ -15,7 +15,7 @@ use beam_receipts::keeper::UnbrandedKeeper;
 use beam_sched::clock::SteadyClock;
 use beam_sched::gate::NoGate;
 use beam_sched::schedulers::{ForegroundTask, StartedThreads, run_schedulers};
-use beam_sched::shared::Shared;
+use beam_sched::shared::{ROWS_IN_PLACE, Shared};
 use beam_sched::thread_context::ThreadContext;
 use beam_serve::SeatDesk;
 use beam_shared::node::Node;
@@ -220,7 +220,7 @@ fn found<
 {
     let (node, workers, context, _) = staged::<B>(alloc, unbranded, queues, MOST_ENTRIES, workers)?;
     let number = context.seat.number();
-    let shared = Shared::new(alloc, node);
+    let shared = Shared::new(alloc, node, ROWS_IN_PLACE);
     let (contexts, told, unfinished) = run(rt, alloc, &shared, workers, context, row);
     let node = shared.into_node();
     match told {

@@ -1,0 +1,180 @@
+//! Short turns of processes, which are had under the node's lock.
+
+use crate::locked_node::LockedNode;
+use crate::queue_states::QueueState;
+use crate::scan::{deadline_of, exit_reason, is_runnable};
+use crate::thread_context::ThreadContext;
+use beam_debug::outcome::Outcome;
+use beam_image::Image;
+use beam_machine::debug::DebugEvent;
+use beam_machine::event::{Event, Reply, Then};
+use beam_queue::QueueBrand;
+use beam_receipts::brand::NodeBrand;
+use beam_term::Term;
+
+/// How many turns are had in one hold of the lock at most.
+const MOST_TURNS: u32 = 64;
+
+/// After how many rows no further turn is begun in one hold of the lock.
+const MOST_ROWS: u32 = 4_000;
+
+/// How a turn under the lock ended.
+enum TurnEnd {
+    /// The process waits, or can't run.
+    Over,
+    /// The process has more to do than a short turn.
+    Long,
+    /// A signal that arrived ended the process, with this reason, if there was memory for it.
+    Killed(Option<Term>),
+    /// The process ended, with the node's answer.
+    Ended(Outcome),
+}
+
+/// What turns under the lock leave to be done without it.
+#[derive(Drop)]
+pub struct TurnsDone {
+    /// The process that has more to do than a short turn, and is in no queue.
+    pub long: Option<u32>,
+    /// The process that a signal ended, with its reason.
+    pub killed: Option<(u32, Term)>,
+    /// The process that ended, with the node's answer.
+    pub ended: Option<(u32, Outcome)>,
+    /// The greatest number of a process that had a turn.
+    pub greatest: u32,
+}
+
+/// How many rows were executed by an answer, and whether the process waits then, or has ended.
+fn rows_of(count: u32, outcome: Outcome) -> (u32, TurnEnd) {
+    match outcome {
+        Outcome::Node(
+            Reply::Ran {
+                then: Then::GoesOn,
+                ..
+            },
+        ) => (count, TurnEnd::Long),
+        Outcome::Node(
+            Reply::Ran {
+                then: Then::Waits,
+                ..
+            },
+        ) => (count, TurnEnd::Over),
+        outcome => (count, TurnEnd::Ended(outcome)),
+    }
+}
+
+impl<B: NodeBrand + QueueBrand> LockedNode<B> {
+    /// Whether signals are in transit to a process.
+    fn has_transit(&self, pid: u32) -> bool {
+        match self.node.debugger().process(pid) {
+            Some(process) => process.has_transit(),
+            None => false,
+        }
+    }
+
+    /// Whether a process has ended.
+    fn is_over(&self, pid: u32) -> bool {
+        match self.node.debugger().process(pid) {
+            Some(process) => process.is_ended(),
+            None => true,
+        }
+    }
+
+    /// Whether a process runs.
+    fn is_running(&self, pid: u32) -> bool {
+        match self.node.debugger().process(pid) {
+            Some(process) => process.is_running(),
+            None => false,
+        }
+    }
+
+    /// Delivers what is in transit to a process. False if that is refused.
+    fn deliver(&mut self, context: &mut ThreadContext<B>, pid: u32) -> bool {
+        let event: DebugEvent<Image> = DebugEvent::Node(Event::Deliver { pid });
+        self.node.command(&mut context.seat, event).is_ok()
+    }
+
+    /// A turn of a process, of at most that many rows. Also tells how many it had.
+    fn turn(&mut self, context: &mut ThreadContext<B>, pid: u32, rows: u32) -> (u32, TurnEnd) {
+        if !is_runnable(&self.node, pid) {
+            return (0, TurnEnd::Over);
+        }
+        if self.has_transit(pid) && !self.deliver(context, pid) {
+            return (0, TurnEnd::Long);
+        }
+        if self.is_over(pid) {
+            return (0, TurnEnd::Killed(exit_reason(&self.node, pid)));
+        }
+        if !self.is_running(pid) {
+            return (0, TurnEnd::Over);
+        }
+        match self.node.short_steps(&mut context.seat, pid, rows) {
+            Some((count, outcome)) => rows_of(count, outcome),
+            None => (0, TurnEnd::Long),
+        }
+    }
+
+    /// The next process that is runnable, above a number or, where there is none, the first. `None` where that is checked out.
+    fn next_runnable(&self, after: u32) -> Option<u32> {
+        let next = match self.node.ready(after) {
+            Some(pid) => pid,
+            None => self.node.ready(0)?,
+        };
+        match self.queue_states.of(next) {
+            QueueState::CheckedOut => None,
+            QueueState::Free | QueueState::Queued => Some(next),
+        }
+    }
+
+    /// Notes how a turn ended. Tells whether another one may follow.
+    fn note_turn(&mut self, pid: u32, end: TurnEnd, done: &mut TurnsDone) -> bool {
+        done.greatest = done.greatest.max(pid);
+        match end {
+            TurnEnd::Over => {
+                self.scan_state.note_deadline(deadline_of(&self.node, pid));
+                return true;
+            }
+            TurnEnd::Long if self.queue_states.of(pid) == QueueState::Free => {
+                done.long = Some(pid);
+            }
+            TurnEnd::Long => {}
+            TurnEnd::Killed(Some(reason)) => done.killed = Some((pid, reason)),
+            TurnEnd::Killed(None) => {}
+            TurnEnd::Ended(outcome) => done.ended = Some((pid, outcome)),
+        }
+        false
+    }
+
+    /// Has short turns, of at most `rows` rows each: one of a process, which is in no queue any longer, and then some of those that are
+    /// runnable. A scan finds who is runnable afterwards.
+    pub(crate) fn have_turns(
+        &mut self,
+        context: &mut ThreadContext<B>,
+        pid: u32,
+        rows: u32,
+    ) -> TurnsDone {
+        let mut done = TurnsDone {
+            long: None,
+            killed: None,
+            ended: None,
+            greatest: pid,
+        };
+        self.queue_states.put(pid, QueueState::Free);
+        let mut next = pid;
+        let mut left = MOST_ROWS;
+        for _ in 0..MOST_TURNS {
+            let (count, end) = self.turn(context, next, rows);
+            left = left.saturating_sub(count);
+            if !self.note_turn(next, end, &mut done) || left == 0 {
+                break;
+            }
+            match self.next_runnable(next) {
+                Some(other) => next = other,
+                None => break,
+            }
+        }
+        if self.node.ready(0).is_some() {
+            self.scan_state.note_change();
+        }
+        done
+    }
+}
