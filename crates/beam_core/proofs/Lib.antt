@@ -7,6 +7,6 @@ pub mod PreservedByAnswers
 pub mod Located
 pub mod Monitors
 pub mod Runs
-pub mod Short
+pub mod ShortTurns
 pub mod Stepping
 pub mod Telling

@@ -92,7 +92,8 @@ pub(crate) fn short_rows(
 {
     let mut count = 0;
     while count < limit {
-        let ShortRowsDone { count: more, then } = some_rows(code, state, pid, limit - count);
+        let done = some_rows(code, state, pid, limit - count);
+        let ShortRowsDone { count: more, then } = done;
         count += more;
         match then {
             Ok(Then::GoesOn) if more > 0 => {}

@@ -13,5 +13,5 @@ pub mod Printed
 pub mod Capacities
 pub mod Runs
 pub mod Settling
-pub mod Short
+pub mod ShortTurns
 pub mod Walks

@@ -1,5 +1,6 @@
 //! Which rows take little time, whatever their operands are: those that a turn under the node's lock executes. The cost of others grows with
 //! a term, a list of operands, a frame or a stack, so no small number bounds it.
+ghost use Rattle.std.specs.Prelude.{◌≡◌};
 
 use crate::fetch::Fetcher;
 use beam_image::instruction_record::{Record, ShortSource};

@@ -3,7 +3,7 @@ use Rattle.beam_machine.specs.declared.event.Then.TheVariants.{Waits as WaitsThe
 use Rattle.beam_rows.specs.declared.run.StopReason.TheVariants.{AtLimit, Waits, Ends, Asks, AtSpot, Refused}
 use Rattle.beam_core.specs.Rows.{PrivateRows}
 use Rattle.beam_core.proofs.Located.{rows_after_one, rows_refused, asks_runs, asks_can, rows_asked, rows_unanswered, ends_runs, rows_ended, rows_not_ended, never_at_spot}
-use Rattle.beam_core.proofs.Short.{some_at_limit, some_rows, some_refused}
+use Rattle.beam_core.proofs.ShortTurns.{some_at_limit, some_rows, some_refused}
 use Rattle.beam_core.proofs.short.some_rows.Goals as goal
 
 pub returns-in-AtLimit : goal.returns-in-AtLimit

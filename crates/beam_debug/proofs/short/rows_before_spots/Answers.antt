@@ -1,4 +1,4 @@
-use Rattle.beam_debug.proofs.Short.{short_halts}
+use Rattle.beam_debug.proofs.ShortTurns.{short_halts}
 use Rattle.beam_debug.proofs.short.rows_before_spots.Goals as goal
 
 pub returns : goal.returns

@@ -16,7 +16,7 @@ pub private_row-requires-clause-finds : goal.private_row-requires-clause-finds
 private_row-requires-clause-finds c =
     let l = c.loop-count in
     let ran = c.cheap_rows-count in
-    let code : c.admits_next.new.fetcher ≡ c.args.code.now = c.admits_next.ensures ∙ (ran.ensures.code ∙ l.invariant.code) in
+    let code : c.admits_next.new.fetcher ≡ c.args.code.now = c.admits_next.ensures.code ∙ (ran.ensures.code ∙ l.invariant.code) in
     let quick = leads_both c.args.code.now l.count ran.result c.args.process.now l.process ran.new.process l.invariant.rows (rw l.invariant.code at ran.ensures.rows) in
     let next = finds_next c.args.code.now ran.new.process (finds_after c.args.code.now (l.count + ran.result) c.args.process.now ran.new.process quick c.requires.finds) ran.ensures.runs in
     subst (λ code. FindsNext code ran.new.process.goes ran.new.process) (sym code) next
@@ -25,7 +25,7 @@ pub loop-count-preserved : goal.loop-count-preserved
 loop-count-preserved c =
     let l = c.loop-count in
     let ran = c.cheap_rows-count in
-    let code : c.admits_next.new.fetcher ≡ c.args.code.now = c.admits_next.ensures ∙ (ran.ensures.code ∙ l.invariant.code) in
+    let code : c.admits_next.new.fetcher ≡ c.args.code.now = c.admits_next.ensures.code ∙ (ran.ensures.code ∙ l.invariant.code) in
     let total = l.count + ran.result in
     let quick = leads_both c.args.code.now l.count ran.result c.args.process.now l.process ran.new.process l.invariant.rows (rw l.invariant.code at ran.ensures.rows) in
     let made = rw (c.in-Ok-Made-GoesOn.field-0-is, c.in-Ok-Made-GoesOn.field-0-0-is) at c.in-Ok-Made-GoesOn.ensures.does in

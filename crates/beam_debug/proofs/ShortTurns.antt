@@ -5,7 +5,7 @@ use Rattle.beam_machine.specs.declared.event.Then.{Then}
 use Rattle.beam_machine.specs.Prelude.{State}
 use Rattle.beam_model.specs.Prelude.{Place}
 use Rattle.beam_core.specs.Halt.{HaltsAt, ShortHaltsAt}
-use Rattle.beam_core.proofs.Short.{halts_short}
+use Rattle.beam_core.proofs.ShortTurns.{halts_short}
 use Rattle.beam_debug.specs.Prelude.{ShortHalts}
 
 -- they are rows that stop before none of the break spots
