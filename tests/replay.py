@@ -134,7 +134,7 @@ def lines_and_ranges(replays: Replays) -> list[str]:
     expect("each line has its parts", all(parts), lines)
     for name, count in re.findall(r"^  (\w+): (\d+)$", report, re.MULTILINE):
         expect("lines of a kind", sum(part[3] == name for part in parts) == int(count), name)
-    expect("lines of the client", [part[2] for part in parts if part[1] and part[3] not in ("Clock", "Inspect")] == SENT, lines)
+    expect("lines of the client", [part[2] for part in parts if part[1] and part[3] not in ("Clock", "Deliver", "Inspect", "Steps")] == SENT, lines)
     others = [part[2] for part in parts if not part[1]]
     expect("lines of the schedulers", all(re.fullmatch(r"Steps <0\.\d\.0> \d+|Deliver <0\.\d\.0>", line) for line in others), lines)
     size = len(lines)

@@ -4,21 +4,22 @@ ghost use Rattle.std.specs.Prelude.{◌≡◌};
 
 use crate::fetch::Fetcher;
 use beam_image::instruction_record::{Record, ShortSource};
-use beam_image::{LinkedCode, LinkedRecord, ModuleRecords, OperandList};
+use beam_image::{Image, LinkedCode, LinkedRecord, ModuleRecords, OperandList};
+use beam_machine::action::{Action, Compute, Source, Test};
 use beam_machine::callee::Callee;
 use beam_machine::process::Goes;
 use beam_model::native::{Binary, Unary};
 use beam_model::opcode::Opcode;
 use beam_proc::process::Process;
-use beam_term::TermView;
+use beam_term::{Term, TermView};
 
 /// The most elements, y registers and other operands of a row that takes little time.
 const FEW: usize = 64;
 
 /// Which rows a run executes.
 pub(crate) trait RowCosts {
-    /// Whether a run executes the row at a position. If not, it stops before it.
-    fn admits(rows: &ModuleRecords<'_>, process: &Process, at: usize) -> bool;
+    /// Whether a run executes the row of an image at a position. If not, it stops before it.
+    fn admits(image: &Image, rows: &ModuleRecords<'_>, process: &Process, at: usize) -> bool;
 }
 
 /// All rows are executed.
@@ -26,7 +27,7 @@ pub(crate) struct AnyCost {}
 
 impl RowCosts for AnyCost {
     #[inline(always)]
-    fn admits(_rows: &ModuleRecords<'_>, _process: &Process, _at: usize) -> bool {
+    fn admits(_image: &Image, _rows: &ModuleRecords<'_>, _process: &Process, _at: usize) -> bool {
         true
     }
 }
@@ -36,18 +37,28 @@ pub(crate) struct LittleCost {}
 
 impl RowCosts for LittleCost {
     #[inline(always)]
-    fn admits(rows: &ModuleRecords<'_>, process: &Process, at: usize) -> bool {
+    fn admits(image: &Image, rows: &ModuleRecords<'_>, process: &Process, at: usize) -> bool {
         match rows.record(at) {
-            Some(row) => is_cheap(row.rec, row.code, process),
+            Some(row) => match *row.rec {
+                Record::General(_, opcode) => {
+                    is_cheap_opcode(opcode) || is_cheap_at(image, process, opcode, at)
+                }
+                _ => is_cheap(row.rec, row.code, process),
+            },
             None => false,
         }
     }
 }
 
+/// Whether a term isn't made of others.
+fn is_flat_term(term: &Term) -> bool {
+    !matches!(term.view(), TermView::Pair(..) | TermView::Tuple(_))
+}
+
 /// Whether an x register has a term that isn't made of others, or was never written.
 fn is_flat(process: &Process, x: u8) -> bool {
     match process.x_value(u32::from(x)) {
-        Some(term) => !matches!(term.view(), TermView::Pair(..) | TermView::Tuple(_)),
+        Some(term) => is_flat_term(term),
         None => true,
     }
 }
@@ -97,7 +108,8 @@ fn is_cheap_binary(native: Binary) -> bool {
 fn is_cheap_opcode(opcode: Opcode) -> bool {
     matches!(
         opcode,
-        Opcode::Move
+        Opcode::Bif0
+            | Opcode::Move
             | Opcode::Swap
             | Opcode::Jump
             | Opcode::Call
@@ -119,10 +131,9 @@ fn is_cheap_opcode(opcode: Opcode) -> bool {
     )
 }
 
-/// Whether the row of a record takes little time. Two terms are compared at once unless both are made of others.
+/// Whether the row of a record of its own takes little time. Two terms are compared at once unless both are made of others.
 fn is_cheap(rec: &Record, code: &LinkedCode, process: &Process) -> bool {
     match *rec {
-        Record::General(_, opcode) => is_cheap_opcode(opcode),
         Record::LessX(_, left, right, _)
         | Record::GreaterOrEqualX(_, left, right, _)
         | Record::EqualX(_, left, right, _)
@@ -143,6 +154,66 @@ fn is_cheap(rec: &Record, code: &LinkedCode, process: &Process) -> bool {
         Record::CallLast(_, size, _) | Record::CallExtLast(_, size, _) => (size as usize) <= FEW,
         Record::Trim(_, dropped, _) => (dropped as usize) <= FEW,
         _ => true,
+    }
+}
+
+/// Whether a native and its operands take little time.
+fn is_cheap_compute(compute: &Compute<'_>) -> bool {
+    match compute {
+        Compute::Of0 { .. } => true,
+        Compute::Of1 { native, .. } => is_cheap_unary(*native),
+        Compute::Of2 { native, .. } => is_cheap_binary(*native),
+    }
+}
+
+/// Whether what a row reads is no term that is made of others, as far as that is seen at once.
+fn is_flat_operand(process: &Process, source: &Source<'_>) -> bool {
+    match source {
+        Source::Constant(constant) => is_flat_term(constant.term()),
+        Source::X(x) => match process.x_value(*x) {
+            Some(term) => is_flat_term(term),
+            None => true,
+        },
+        Source::Y(_) => false,
+    }
+}
+
+/// Whether a test takes little time.
+fn is_cheap_test(process: &Process, test: &Test<'_>) -> bool {
+    match test {
+        Test::Compare { left, right, .. } => {
+            is_flat_operand(process, left) || is_flat_operand(process, right)
+        }
+        _ => true,
+    }
+}
+
+/// Whether the instruction at a position, which is read from its bytes, takes little time: a native or a test over other operands than those
+/// of records.
+fn is_cheap_at(image: &Image, process: &Process, opcode: Opcode, at: usize) -> bool {
+    let may_be_cheap = matches!(
+        opcode,
+        Opcode::IsLt
+            | Opcode::IsGe
+            | Opcode::IsEq
+            | Opcode::IsNe
+            | Opcode::IsEqExact
+            | Opcode::IsNeExact
+            | Opcode::Bif1
+            | Opcode::Bif2
+            | Opcode::GcBif1
+            | Opcode::GcBif2
+    );
+    if !may_be_cheap {
+        return false;
+    }
+    match image.step(at) {
+        Some(step) => match &step.action {
+            Action::Compute { compute, .. } => is_cheap_compute(compute),
+            Action::Test { test, .. } => is_cheap_test(process, test),
+            _ => false,
+        },
+        None => false,
     }
 }
 
