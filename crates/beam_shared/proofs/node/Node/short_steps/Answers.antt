@@ -1,10 +1,11 @@
 use Rattle.std.proofs.Common.{◌≡◌, ◌≢◌, ◌<◌, ◌≤◌, [], ◌∷◌, false, length, map, Some, Ok, Err, refl, sym, ap, subst, ◌∙◌, arith}
 use Rattle.beam_machine.specs.declared.debug.DebugEvent.{DebugEvent}
 use Rattle.beam_machine.specs.declared.debug.DebugEvent.TheVariants.{Node as NodeEvent}
+use Rattle.beam_machine.specs.declared.debug.DebugReply.{DebugReply}
 use Rattle.beam_machine.specs.declared.debug.DebugReply.TheVariants.{Node}
 use Rattle.beam_machine.specs.declared.event.Event.TheVariants.{Steps}
 use Rattle.beam_machine.specs.declared.event.Reply.TheVariants.{Ran}
-use Rattle.beam_machine.specs.Prelude.{DebugAnswers, Debugged}
+use Rattle.beam_machine.specs.Prelude.{DebugAnswers, View}
 use Rattle.beam_model.specs.Prelude.{Listing}
 use Rattle.beam_debug.specs.Prelude.{reply_of}
 use Rattle.beam_journal.specs.Entering.{entry_of}
@@ -19,7 +20,7 @@ pub invariant_of-self-in-Ok-None : goal.invariant_of-self-in-Ok-None
 invariant_of-self-in-Ok-None g c =
     let i = c.self.inside in
     let roomy : length i.checked_out.items ≤ c.make_room.new.journal.capacity = omega (arith, c.self.invariant.0.capacity, c.make_room.ensures.kept) in
-    let same : c.short_steps.new.self.state ≡ i.debugger.state = c.in-Ok-None.ensures.next in
+    let same : c.short_steps.new.self.state ≡ i.debugger.state = rw c.in-Ok-None.field-0-is at c.in-Ok-None.ensures.next in
     let kept = kept_as i.debugger.state c.short_steps.new.self.state i.journal c.make_room.new.journal i.keeper c.check_seat.new.self i.checked_out.items i.changes i.context c.self.invariant.0
     same c.make_room.ensures.entries c.check_seat.ensures.keeper roomy in (
       kept,
@@ -33,7 +34,7 @@ invariant_of-self-in-Ok-None g c =
 pub returns-in-Ok-None-clause-none : goal.returns-in-Ok-None-clause-none
 returns-in-Ok-None-clause-none g c = λ is.
     let i = c.self.inside in
-    let same : c.short_steps.new.self.state ≡ i.debugger.state = c.in-Ok-None.ensures.next in (
+    let same : c.short_steps.new.self.state ≡ i.debugger.state = rw c.in-Ok-None.field-0-is at c.in-Ok-None.ensures.next in (
       same_node i.debugger.state c.short_steps.new.self.state i.journal c.make_room.new.journal i.keeper c.check_seat.new.self i.checked_out.items
           same c.make_room.ensures.entries c.make_room.ensures.drained c.make_room.ensures.limit c.check_seat.ensures.keeper ∙ c.self.view_is,
       c.check_seat.ensures.seat,
@@ -54,27 +55,18 @@ invariant_of-self-in-Err g c =
           c.make_room.ensures.entries c.make_room.ensures.drained,
     )
 
-pub returns-in-Err-clause-none : goal.returns-in-Err-clause-none
-returns-in-Err-clause-none g c = λ is.
-    let i = c.self.inside in
-    let same : c.short_steps.new.self.state ≡ i.debugger.state = c.in-Err.ensures.next.1 in (
-      same_node i.debugger.state c.short_steps.new.self.state i.journal c.make_room.new.journal i.keeper c.check_seat.new.self i.checked_out.items
-          same c.make_room.ensures.entries c.make_room.ensures.drained c.make_room.ensures.limit c.check_seat.ensures.keeper ∙ c.self.view_is,
-      c.check_seat.ensures.seat,
-    )
-
 pub invariant_of-self-in-Ok-Some : goal.invariant_of-self-in-Ok-Some
 invariant_of-self-in-Ok-Some g c =
     let i = c.self.inside in
     let r = c.in-Ok-Some in
     let event : DebugEvent Listing = NodeEvent (Steps c.args.pid r.count) in
-    let done = Node (Ran r.count r.then) in
+    let done : DebugReply View = Node (Ran r.count r.then) in
     let free : must_wait (map checked_out_of i.checked_out.items) event ≡ false = ap (λ entries. must_wait (map checked_out_of entries) event) (sym c.deref.ensures.value) ∙ (sym c.must_wait.ensures ∙ c.if-must_wait.false) in
     let roomy : length i.checked_out.items ≤ c.make_room.new.journal.capacity = omega (arith, c.self.invariant.0.capacity, c.make_room.ensures.kept) in
     let count : length c.deref-2.result.now ≡ length i.checked_out.items = ap length c.deref-2.ensures.value in
     let capacity : length i.checked_out.items ≤ c.enter_for_seat.new.journal.capacity = omega (arith, count, c.in-Ok.ensures.capacity, c.enter_for_seat.ensures.capacity) in
     let kept = kept_as i.debugger.state i.debugger.state i.journal c.make_room.new.journal i.keeper c.check_seat.new.self i.checked_out.items i.changes i.context c.self.invariant.0 refl c.make_room.ensures.entries c.check_seat.ensures.keeper roomy in
-    let next : DebugAnswers i.debugger.state event (Ok done) c.short_steps.new.self.state = r.ensures.next in
+    let next : DebugAnswers i.debugger.state event (Ok done) c.short_steps.new.self.state = rw r.field-0-is at r.ensures.next in
     let number : c.check_seat.new.seat.number ≡ c.args.seat.now.number = ap (λ (s : SeatHistory). s.number) c.check_seat.ensures.seat in
     let seats : c.check_seat.new.self.given ≡ i.keeper.given = ap (λ (k : History). k.given) c.check_seat.ensures.keeper in
     let given : c.check_seat.new.seat.number < c.check_seat.new.self.given = omega (arith, c.check_seat.ensures.given, number, seats) in
