@@ -403,7 +403,7 @@ pub LockedNode_send : (B : RattleType) (g : NodeBrand.Ghosts B.Denot) → IsSend
 LockedNode_send B g = declared_send (LockedNode.the_type B g) (Node_send B g, (QueueStates_crossing.the_send, (ScanState_crossing.the_send, tt)))
 
 pub Shared_sync : (B : RattleType) (g : NodeBrand.Ghosts B.Denot) → IsSync (Shared.the_row B g)
-Shared_sync B g = let m = LockedNode_send B g in declared_sync (Shared.the_type B g) (search crosses, (ScanHint_crossing.the_sync, (IdleWorkers_crossing.the_sync, (ShortSliceToken_crossing.the_sync, (NodeClock_crossing.the_sync, (JournalUsage_crossing.the_sync, tt))))))
+Shared_sync B g = let m = LockedNode_send B g in declared_sync (Shared.the_type B g) (search crosses, (ScanHint_crossing.the_sync, (IdleWorkers_crossing.the_sync, (ShortSliceToken_crossing.the_sync, (NodeClock_crossing.the_sync, (JournalUsage_crossing.the_sync, (u32_sync, tt)))))))
 
 -- the thread contexts of workers, and of senders of commands
 pub ThreadContexts_sync : (B : RattleType) (g : NodeBrand.Ghosts B.Denot) (q : QueueBrand.Ghosts B.Denot) → IsSync (Pool.the_row (ThreadContext.the_row B g q))

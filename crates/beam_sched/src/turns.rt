@@ -107,7 +107,7 @@ impl<B: NodeBrand + QueueBrand> LockedNode<B> {
         if !self.is_running(pid) {
             return (0, TurnEnd::Over);
         }
-        match self.node.short_steps(&mut context.seat, pid, rows) {
+        match self.node.short_steps(&mut context.seat, pid, rows.max(1)) {
             Some((count, outcome)) => rows_of(count, outcome),
             None => (0, TurnEnd::Long),
         }
