@@ -36,7 +36,7 @@ all_granted n GoesOn = either (nat_lt 0 n && nat_lt n n)
 all_granted n Waits = refl
 all_granted n (Ended reason value) = refl
 
--- the rows that were executed are those of a `Steps` that asks for just so many
+-- the rows that were executed are those of a `Steps` of their count
 pub halts_short : (s t : State) (pid n : ℕ) (after : Then) → ShortHaltsAt pid s (Ok (Some (n, after))) t → (passes : Bool) → HaltsAt [] passes pid n s (Ok (n, Some after)) t
 halts_short s t pid n after h passes = (ap (halting [] passes s pid) (all_granted n after) ∙ (any_passes n passes s pid ∙ h.0), h.1)
 

@@ -25,8 +25,8 @@ HaltsAt spots passes pid n s (Ok (count, None)) t =
     (halting spots passes s pid n ≡ rows_stopped count t) × (then_at t.processes pid ≡ Some GoesOn)
 HaltsAt spots passes pid n s (Err refusal) t = (refusal ≡ NoMemory) × (t ≡ s)
 
--- rows of a process that runs, without break spots. `Some`: so many are executed, and the process stands so after them; `None`: nothing
--- changed; an error: memory was refused, and nothing changed
+-- rows of a process that runs, without break spots. `Some`: this count of them is executed, and the process stands so after them; `None`:
+-- nothing changed; an error: memory was refused, and nothing changed
 abbrev pub ShortHaltsAt : ℕ → State → Result (Option (ℕ × Then)) Refused → State → Type 0
 ShortHaltsAt pid s (Ok (Some (count, after))) t = (halting [] false s pid count ≡ rows_done count t) × (then_at t.processes pid ≡ Some after)
 ShortHaltsAt pid s (Ok None) t = t ≡ s

@@ -207,7 +207,7 @@ impl Core {
     }
 
     /// Executes rows of a process that runs: at most `limit`, until it waits or ends, or its next row may take long. Answers how many, and how
-    /// the process then stands: they are the rows of a `Steps` that asks for just so many. `None`, and nothing changes, where its first row
+    /// the process then stands: they are the rows of a `Steps` of that count. `None`, and nothing changes, where its first row
     /// may take long. Where memory is refused after a first row, the rows that were executed stand; before it, `NoMemory`, and nothing
     /// changes. A row may take long if its cost grows with a term, a list
     /// of operands or a stack: none is executed that takes longer than some thousand instructions of the processor, but for what the last

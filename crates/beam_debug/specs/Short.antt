@@ -11,8 +11,8 @@ use Rattle.beam_machine.specs.Prelude.{Debugged, DebugAnswers, State}
 use Rattle.beam_model.specs.Prelude.{Place}
 use Rattle.beam_core.specs.Halt.{HaltsAt}
 
--- `Some`: state and answer are those of a `Steps` that asks for just so many rows; `None`: nothing changed; an error: memory was refused, and
--- nothing changed
+-- `Some`: state and answer are those of a `Steps` of that count of rows; `None`: nothing changed; an error: memory was refused, and nothing
+-- changed
 abbrev pub ShortAnswers : Debugged → ℕ → Result (Option (ℕ × Then)) Refused → Debugged → Type 0
 ShortAnswers old pid (Ok (Some (count, after))) new = DebugAnswers old (NodeEvent (Steps pid count)) (Ok (Node (Ran count after))) new
 ShortAnswers old pid (Ok None) new = new ≡ old

@@ -274,7 +274,7 @@ impl Debugger {
     }
 
     /// Executes rows of a process: at most `limit`, until it waits or ends, or its next row may take long. Answers how many, and how the process
-    /// then stands: state and answer are those of a `Steps` that asks for just so many. `None`, and nothing changes, where the first row
+    /// then stands: state and answer are those of a `Steps` of that count. `None`, and nothing changes, where the first row
     /// may take long, a break spot is set, or the process doesn't run or is held. Where memory is refused after a first row, the rows that
     /// were executed stand; before it, `NoMemory`, and nothing changes.
     pub fn short_steps(&mut self, pid: u32, limit: u32) -> Result<Option<(u32, Then)>, Refused>

@@ -3,7 +3,7 @@ use Rattle.std.specs.Prelude.{ℕ}
 use Rattle.beam_rows.specs.declared.run.StopReason.{StopReason}
 use Rattle.beam_rows.specs.declared.run.StopReason.TheVariants.{AtLimit}
 
--- how many rows they are as if so many had been asked for: of `limit` those that were executed, where they end though the process runs on
+-- the limit of rows by which they would have ended so: `limit`, or the count that was executed, where they end though the process runs on
 abbrev pub asked_for : ℕ → ℕ → StopReason → ℕ
 asked_for limit count AtLimit = count
 asked_for limit count stop = limit

@@ -13,7 +13,7 @@ const LONG_SLICE: u64 = 2;
 
 /// Times of a worker, in milliseconds.
 ///
-/// A slice of few rows can take seconds, if its rows are comparisons of long lists. What is behind it in the queue must not wait for its end
+/// A slice of few rows can take seconds, if its rows are comparisons of long lists. Processes that are queued behind it must not wait for its end
 /// while other workers wait for work. So a worker wakes one before such a slice, though not before each: one that was woken less than two
 /// milliseconds ago is either at work or takes a nap before it waits without a limit, and then looks into the queues.
 #[derive(Clone, Copy, Debug)]

@@ -16,7 +16,7 @@ use std::marker::Brand;
 
 impl<B: NodeBrand> Node<B> {
     /// Executes rows of a process, as a seat's command: at most `limit`, until it waits or ends, or its next row may take long. Enters them as
-    /// a `Steps` that asks for just so many, and gives their count and the node's answer. `None`, and nothing changes, where the process can't
+    /// a `Steps` of their count, and gives that and the node's answer. `None`, and nothing changes, where the process can't
     /// have such a turn: it is checked out, doesn't run or is held, its next row may take long, a break spot is set, the journal is full, or
     /// memory is refused.
     pub fn short_steps(
