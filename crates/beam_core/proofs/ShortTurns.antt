@@ -5,7 +5,7 @@ use Rattle.beam_machine.specs.declared.event.Then.{Then}
 use Rattle.beam_machine.specs.declared.event.Then.TheVariants.{GoesOn, Waits, Ended}
 use Rattle.beam_machine.specs.Prelude.{Code, halting, effective_rows, State}
 use Rattle.beam_rows.specs.declared.run.StopReason.TheVariants.{AtLimit}
-use Rattle.beam_state.specs.Prelude.{Parts, node, then_at}
+use Rattle.beam_state.specs.Prelude.{Parts, then_at}
 use Rattle.beam_rows.specs.Prelude.{passes_after}
 use Rattle.beam_core.specs.Halt.{HaltsAt, ShortHaltsAt, rows_done}
 use Rattle.beam_core.specs.Rows.{PrivateRows, RowsAre, SomeRowsAre}

@@ -1,4 +1,4 @@
-use Rattle.std.proofs.Common.{◌≡◌, ◌+◌, ◌≤◌, [], false, Ok, Some, arith, rules}
+use Rattle.std.proofs.Common.{◌≡◌, [], false, Ok, Some, arith, rules}
 use Rattle.beam_machine.specs.declared.event.Then.TheVariants.{GoesOn}
 use Rattle.beam_state.specs.Prelude.{node, then_at}
 use Rattle.beam_core.proofs.PreservedByAnswers.{turn_stays_framed}

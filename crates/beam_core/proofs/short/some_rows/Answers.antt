@@ -1,4 +1,4 @@
-use Rattle.std.proofs.Common.{[], false, Some, Ok, Err}
+use Rattle.std.proofs.Common.{[], false}
 use Rattle.beam_machine.specs.declared.event.Then.TheVariants.{Waits as WaitsThen}
 use Rattle.beam_rows.specs.declared.run.StopReason.TheVariants.{AtLimit, Waits, Ends, Asks, AtSpot, Refused}
 use Rattle.beam_core.specs.Rows.{PrivateRows}

@@ -1,4 +1,4 @@
-use Rattle.std.proofs.Common.{◌≡◌, ◌≢◌, ◌<◌, ◌≤◌, [], ◌∷◌, false, length, map, Some, Ok, Err, refl, sym, ap, subst, ◌∙◌, arith}
+use Rattle.std.proofs.Common.{◌≡◌, ◌<◌, ◌≤◌, [], ◌∷◌, false, length, map, Some, Ok, refl, sym, ap, subst, ◌∙◌, arith}
 use Rattle.beam_machine.specs.declared.debug.DebugEvent.{DebugEvent}
 use Rattle.beam_machine.specs.declared.debug.DebugEvent.TheVariants.{Node as NodeEvent}
 use Rattle.beam_machine.specs.declared.debug.DebugReply.{DebugReply}
@@ -7,10 +7,9 @@ use Rattle.beam_machine.specs.declared.event.Event.TheVariants.{Steps}
 use Rattle.beam_machine.specs.declared.event.Reply.TheVariants.{Ran}
 use Rattle.beam_machine.specs.Prelude.{DebugAnswers, View}
 use Rattle.beam_model.specs.Prelude.{Listing}
-use Rattle.beam_debug.specs.Prelude.{reply_of}
 use Rattle.beam_journal.specs.Entering.{entry_of}
 use Rattle.beam_receipts.specs.Receipts.{History, SeatHistory}
-use Rattle.beam_shared.specs.Prelude.{AreThoseOut, checked_out_of, node_of, NodeInvariant, must_wait}
+use Rattle.beam_shared.specs.Prelude.{AreThoseOut, checked_out_of, must_wait}
 use Rattle.beam_shared.proofs.Drains.{drained_as, drained_on}
 use Rattle.beam_shared.proofs.Keeping.{kept_after, kept_as, same_node}
 use Rattle.beam_shared.proofs.Capacities.{more_capacity}

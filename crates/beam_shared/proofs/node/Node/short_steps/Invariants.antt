@@ -1,8 +1,6 @@
 use Rattle.std.proofs.Common.{Some}
 use Rattle.beam_debug.specs.Prelude.{reply_of}
 use Rattle.beam_journal.specs.Entering.{entry_of}
-use Rattle.beam_machine.specs.declared.debug.DebugEvent.TheVariants.{Node}
-use Rattle.beam_machine.specs.declared.event.Event.TheVariants.{Steps}
 use Rattle.beam_shared.proofs.node.Node.short_steps.Given as goal
 
 abbrev pub ghosts-enter_for_seat : goal.ghosts-enter_for_seat
