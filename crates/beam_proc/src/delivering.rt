@@ -39,14 +39,9 @@ fn has_message(signals: &[Signal]) -> bool
 fn has_down(signals: &[Signal]) -> bool
     ensures { result ≡ list_any is_down signals.now }
 {
-    let mut rest = signals;
-    while let Some((signal, more)) = rest.split_first() {
-        if let Signal::Down { .. } = signal {
-            return true;
-        }
-        rest = more;
-    }
-    false
+    signals
+        .iter()
+        .any(|signal| matches!(signal, Signal::Down { .. }))
 }
 
 /// The message of a DOWN, if it isn't too deep.
