@@ -109,7 +109,7 @@ impl<B: NodeBrand + QueueBrand> LockedNode<B> {
     }
 
     /// Whether a process has ended; if so, those that monitor it have a DOWN in transit.
-    fn has_ended(&self, pid: u32) -> bool {
+    pub(crate) fn has_ended(&self, pid: u32) -> bool {
         match self.node.debugger().process(pid) {
             Some(process) => process.is_ended(),
             None => false,

@@ -71,14 +71,6 @@ impl<B: NodeBrand + QueueBrand> LockedNode<B> {
         }
     }
 
-    /// Whether a process has ended.
-    fn is_over(&self, pid: u32) -> bool {
-        match self.node.debugger().process(pid) {
-            Some(process) => process.is_ended(),
-            None => true,
-        }
-    }
-
     /// Whether a process runs.
     fn is_running(&self, pid: u32) -> bool {
         match self.node.debugger().process(pid) {
@@ -101,7 +93,7 @@ impl<B: NodeBrand + QueueBrand> LockedNode<B> {
         if self.has_transit(pid) && !self.deliver(context, pid) {
             return (0, TurnEnd::Long);
         }
-        if self.is_over(pid) {
+        if self.has_ended(pid) {
             return (0, TurnEnd::Killed(exit_reason(&self.node, pid)));
         }
         if !self.is_running(pid) {
