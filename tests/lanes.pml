@@ -1,6 +1,7 @@
 /* A model of the workers of crates/beam_sched (worker.rt, locked_node.rt, scan.rt, idle_workers.rt), for the model checker spin:
      spin -DNW=2 -DNP=1 -DNOMEM=1 -DKC=2 -a lanes.pml && gcc -O2 -DSAFETY -DCOLLAPSE -DVECTORSZ=2048 -o pan pan.c && ./pan -E -m2000000 -w24
-   Each section under the node's lock waits for nothing, and is one atomic step. Each queue that is asked for a process is a step of its own,
+   Each section under the node's lock waits for nothing, and is one atomic step: so are short turns under the lock (turns.rt), at most TURNS in
+   one, with 0 none. Each queue that is asked for a process is a step of its own,
    and so is what an idle worker does under the lock of those that wait (il). Nobody holds both. Time: a worker that sleeps until a moment may
    wake at any step; a scan finds deadlines come or not, as it likes, unless it was made because one has come.
    A slice is short or not, as it likes (few), and after a short one a worker may try for the token (baton): how many it had isn't counted.
@@ -26,7 +27,9 @@
      NOS  who stops the workers wakes all
      NOT  an idle worker scans where that is wanted
      NOU  a worker that finds nothing gives the token back before it asks the queues for the last time
-     NOV  a worker stands back only while another one has the token */
+     NOV  a worker stands back only while another one has the token
+     NOW  turns under the lock that leave somebody ready are a change
+     NOX  a process that goes on after its turn has the state queued until it is checked out */
 #ifndef NW
 #define NW 2
 #endif
@@ -93,6 +96,15 @@
 #ifndef NOV
 #define NOV 0
 #endif
+#ifndef NOW
+#define NOW 0
+#endif
+#ifndef NOX
+#define NOX 0
+#endif
+#ifndef TURNS
+#define TURNS 2
+#endif
 #define NONE 0
 #define RUN 1
 #define WAIT 2
@@ -137,10 +149,15 @@ inline stop() { stopped=1; atomic { il==0 -> if :: NOS -> notify_one() :: else -
 /* RecentSlices: tries for the token, and gives it back if it has it */
 inline take_baton() { if :: !baton -> baton=1; has=1 :: else fi }
 inline give_baton() { if :: has -> baton=0; has=0 :: else fi }
+/* the next one that is ready, if it isn't checked out */
+inline next_ready() {
+  if :: over -> break :: else fi;
+  i=1; do :: i>NP -> break :: i<=NP && READY(i) && !held[i] && i!=q -> break :: else -> i++ od;
+  if :: i>NP -> i=0; break :: i<=NP && out[i] -> i=0; break :: else -> q=i; i=0 fi }
 inline took(at, one) { queue[at]?one; times[one]--; if :: at==w && own>0 -> own-- :: else fi }
 
 proctype worker(byte w) {
-  byte p=0, q=0, i=0, k=0, left=0, own=0; bit r=0, woke=0, refused=0, behind=0, fdue=0, isfull=0, few=0, more=0, apart=0, is_counted=0, has=0, gives=0, tries=0, back=0;
+  byte p=0, q=0, i=0, k=0, left=0, own=0; bit r=0, woke=0, nap=0, goes_on=0, over=0, refused=0, behind=0, fdue=0, isfull=0, few=0, more=0, apart=0, is_counted=0, has=0, gives=0, tries=0, back=0;
  turn_:
   if :: stopped -> goto end_ :: else fi;
   if
@@ -179,6 +196,31 @@ proctype worker(byte w) {
   k=0;
   if :: p==0 -> atomic { if :: NOU -> skip :: else -> give_baton() fi }; goto idle_ :: else fi;
  run_:
+  if :: own>0 -> wake() :: skip fi;                             /* something waits behind it, and nobody was woken just now */
+  if :: TURNS>0 -> skip :: TURNS==0 -> goto slice_ :: TURNS>0 -> goto slice_ fi;
+  atomic { /* have_turns: of p, and then of others that are ready */
+    marked[p]=0; q=p; k=0; goes_on=0; over=0;
+    do
+    :: !READY(q) || held[q] || out[q] -> k++; over=(k>=TURNS); next_ready()
+    :: READY(q) && !held[q] && !out[q] && transit[q] && REFUSED; goes_on=1; break
+    :: READY(q) && !held[q] && !out[q] ->
+       if :: transit[q] -> transit[q]=0; st[q]=RUN :: else fi;
+       if :: skip :: select(i : 1 .. NP); sends(w, i); i=0 fi;
+       if
+       :: st[q]=WAIT; dl[q]=0
+       :: st[q]=WAIT; dl[q]=1; due=1                            /* the moment is entered, and the wait begins */
+       :: dl[q] -> st[q]=WAIT; due=1
+       :: st[q]=RUN; goes_on=1; break                              /* it runs on, or its next row may take goes_on */
+       :: st[q]=ENDED; transit[q]=0; dl[q]=0; break
+       fi;
+       k++; over=(k>=TURNS); next_ready()
+    od;
+    if :: goes_on && !marked[q] && !out[q] -> p=q; if :: NOX -> skip :: else -> marked[q]=1 fi :: else -> p=0 fi;
+    i=1; do :: i>NP -> break :: i<=NP && READY(i) && !held[i] -> if :: NOW -> skip :: else -> changed=1 fi; break :: else -> i++ od;
+    i=0; k=0; q=0; over=0; more=0; gives=0;
+    if :: p==0 && !has -> tries=1 :: skip fi };
+  if :: p==0 -> goto done_ :: else -> goes_on=0; tries=0 fi;
+ slice_:
   atomic { /* check_out */
     marked[p]=0; r=0;
     if
@@ -218,6 +260,8 @@ proctype worker(byte w) {
     more=(!few && own>1); gives=(!few && has);
     if :: few && !has -> tries=1 :: skip fi;                    /* many short ones, one after another */
     p=0; q=0; few=0; apart=0 };
+ done_:
+  goes_on=0;
   if :: isfull -> isfull=0; stop() :: else fi;
   if :: refused -> atomic { refused=0; retry=1 } :: else fi;
   if
@@ -249,9 +293,9 @@ proctype worker(byte w) {
   :: else
   fi;
  wait_:
-  atomic { if :: NOU -> give_baton() :: else fi; if :: is_counted -> skip :: else -> sleepers++; is_counted=1 fi; waiting[w]=1; woke=(due||retry); il=0 };
+  atomic { if :: NOU -> give_baton() :: else fi; if :: is_counted -> skip :: else -> sleepers++; is_counted=1 fi; waiting[w]=1; woke=(due||retry||nap); nap=0; il=0 };
   if
-  :: atomic { !waiting[w] && il==0 -> woke=0 }
+  :: atomic { !waiting[w] && il==0 -> woke=0; nap=1 }
   :: atomic { waiting[w] && woke && il==0 -> waiting[w]=0 }
   fi;
  leave_:

@@ -211,12 +211,18 @@ impl Core {
     /// may take long. Where memory is refused after a first row, the rows that were executed stand; before it, `NoMemory`, and nothing
     /// changes. A row may take long if its cost grows with a term, a list
     /// of operands or a stack: none is executed that takes longer than some thousand instructions of the processor, but for what the last
-    /// owner of a large term takes to drop it.
-    pub fn short_rows(&mut self, pid: u32, limit: u32) -> Result<Option<(u32, Then)>, Refused>
+    /// owner of a large term takes to drop it. A wait with a timeout begins only where `has_moment`, that is, the clock has the present moment;
+    /// else its row counts among those that may take long.
+    pub fn short_rows(
+        &mut self,
+        pid: u32,
+        limit: u32,
+        has_moment: bool,
+    ) -> Result<Option<(u32, Then)>, Refused>
         requires { then_at self.old.processes pid ≡ Some Then.GoesOn }
         ensures { ShortHaltsAt pid self.old result self.new }
     {
-        short_rows(&self.code, &mut self.state, pid, limit)
+        short_rows(&self.code, &mut self.state, pid, limit, has_moment)
     }
 
     /// Rows of a process that were executed apart from the node take effect, and the row of the node before which they end is executed.

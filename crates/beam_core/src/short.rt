@@ -20,7 +20,7 @@ use beam_state::state::State;
 use std::alloc::AllocError;
 
 /// Executes private rows of a process that runs, and stops before one that may take long.
-fn private(code: &CodeTable, state: &mut State, pid: u32, limit: u32) -> Ran
+fn private(code: &CodeTable, state: &mut State, pid: u32, limit: u32, has_moment: bool) -> Ran
     requires runs { then_at state.old.processes pid ≡ Some Then.GoesOn }
     requires framed { IsFramedNode (node code.now state.old) }
     ensures most { result.count ≤ limit }
@@ -35,7 +35,7 @@ fn private(code: &CodeTable, state: &mut State, pid: u32, limit: u32) -> Ran
             ensures rows { LeadsTo code.entry.now result.count process.old process.new }
             ensures clear { ClearRows code.entry.now [] false result.count process.old }
             ensures stop { Halts code.entry.now [] false (asked_for limit result.count result.stop) result.count result.stop process.new }
-        { short::short_rows(code, process, limit) },
+        { short::short_rows(code, process, limit, has_moment) },
     )
 }
 
@@ -54,12 +54,18 @@ fn did(count: u32, then: Result<Then, AllocError>) -> ShortRowsDone
 
 /// Executes rows of a process that runs: those that concern it alone, and then the one that ends it or asks something of the node. It stops
 /// before a row that may take long.
-fn some_rows(code: &CodeTable, state: &mut State, pid: u32, limit: u32) -> ShortRowsDone
+fn some_rows(
+    code: &CodeTable,
+    state: &mut State,
+    pid: u32,
+    limit: u32,
+    has_moment: bool,
+) -> ShortRowsDone
     requires runs { then_at state.old.processes pid ≡ Some Then.GoesOn }
     requires framed { IsFramedNode (node code.now state.old) }
     ensures { SomeRowsAre code.now pid limit state.old result.count result.then state.new }
 {
-    let Ran { count, stop } = private(code, state, pid, limit);
+    let Ran { count, stop } = private(code, state, pid, limit, has_moment);
     match stop {
         StopReason::AtLimit => did(count, Ok(Then::GoesOn)),
         StopReason::Waits => did(count, Ok(Then::Waits)),
@@ -79,12 +85,13 @@ fn some_rows(code: &CodeTable, state: &mut State, pid: u32, limit: u32) -> Short
 
 /// Executes rows of a process that runs: at most `limit`, until it waits or ends, its next row may take long, or memory is refused after a
 /// first row. Answers how many, and how the process stands; `None` where its first row may take long. Then, and where memory is refused for
-/// the first row, nothing changes.
+/// the first row, nothing changes. A wait with a timeout begins only where `has_moment`.
 pub(crate) fn short_rows(
     code: &CodeTable,
     state: &mut State,
     pid: u32,
     limit: u32,
+    has_moment: bool,
 ) -> Result<Option<(u32, Then)>, Refused>
     requires runs { then_at state.old.processes pid ≡ Some Then.GoesOn }
     requires framed { IsFramedNode (node code.now state.old) }
@@ -92,7 +99,7 @@ pub(crate) fn short_rows(
 {
     let mut count = 0;
     while count < limit {
-        let done = some_rows(code, state, pid, limit - count);
+        let done = some_rows(code, state, pid, limit - count, has_moment);
         let ShortRowsDone { count: more, then } = done;
         count += more;
         match then {

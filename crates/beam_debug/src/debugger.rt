@@ -276,13 +276,19 @@ impl Debugger {
     /// Executes rows of a process: at most `limit`, until it waits or ends, or its next row may take long. Answers how many, and how the process
     /// then stands: state and answer are those of a `Steps` of that count. `None`, and nothing changes, where the first row
     /// may take long, a break spot is set, or the process doesn't run or is held. Where memory is refused after a first row, the rows that
-    /// were executed stand; before it, `NoMemory`, and nothing changes.
-    pub fn short_steps(&mut self, pid: u32, limit: u32) -> Result<Option<(u32, Then)>, Refused>
+    /// were executed stand; before it, `NoMemory`, and nothing changes. A wait with a timeout begins only where `has_moment`, that is, the
+    /// clock has the present moment; else its row counts among those that may take long.
+    pub fn short_steps(
+        &mut self,
+        pid: u32,
+        limit: u32,
+        has_moment: bool,
+    ) -> Result<Option<(u32, Then)>, Refused>
         requires { 0 < limit }
         ensures next { ShortAnswers self.old.state pid result self.new.state }
         ensures capacity { self.old.capacity ≤ self.new.capacity }
     {
-        short_steps(&mut self.core, &mut self.debug, pid, limit)
+        short_steps(&mut self.core, &mut self.debug, pid, limit, has_moment)
     }
 
     /// Sets a break spot: processes stop before the row that it names from now on. Tells whether it is new. `BadSpot` where it names no

@@ -21,13 +21,14 @@ fn rows_before_spots(
     passes: bool,
     pid: u32,
     limit: u32,
+    has_moment: bool,
 ) -> Result<Option<(u32, Then)>, Refused>
     requires runs { then_at core.old pid ≡ Some Then.GoesOn }
     requires none { spots.now ≡ [] }
     ensures { ShortHalts spots.now passes pid core.old result core.new }
 {
     let (_spots, _passes) = (spots, passes);
-    core.short_rows(pid, limit)
+    core.short_rows(pid, limit, has_moment)
 }
 
 /// Executes rows of a process that runs, at most `limit`, and none that may take long.
@@ -36,6 +37,7 @@ fn run_short(
     debug: &mut DebugState,
     pid: u32,
     limit: u32,
+    has_moment: bool,
 ) -> Result<Option<(u32, Then)>, Refused>
     requires runs { then_at core.old pid ≡ Some Then.GoesOn }
     requires free { is_among pid debug.old.held.items ≡ false }
@@ -47,7 +49,7 @@ fn run_short(
 {
     make_room_for(pid, limit, &mut debug.held)?;
     let passes = is_among(pid, &debug.passing);
-    match rows_before_spots(core, &debug.spots, passes, pid, limit)? {
+    match rows_before_spots(core, &debug.spots, passes, pid, limit, has_moment)? {
         None => Ok(None),
         Some((count, then)) => {
             pass_on(count, pid, &mut debug.passing);
@@ -63,6 +65,7 @@ pub(crate) fn short_steps(
     debug: &mut DebugState,
     pid: u32,
     limit: u32,
+    has_moment: bool,
 ) -> Result<Option<(u32, Then)>, Refused>
     requires { 0 < limit }
     ensures next { ShortAnswers (debugged core.old debug.old) pid result (debugged core.new debug.new) }
@@ -73,7 +76,7 @@ pub(crate) fn short_steps(
         return Ok(None);
     }
     match live(core, pid) {
-        Some(process) if !process.is_waiting() => run_short(core, debug, pid, limit),
+        Some(process) if !process.is_waiting() => run_short(core, debug, pid, limit, has_moment),
         _ => Ok(None),
     }
 }

@@ -103,8 +103,8 @@ fn is_cheap_binary(native: Binary) -> bool {
     )
 }
 
-/// Whether an instruction without a record of its own takes little time. A wait with a timeout isn't among them: it needs the moment at which
-/// it begins.
+/// Whether an instruction without a record of its own takes little time. A wait with a timeout isn't among them, since it may need the moment
+/// at which it begins.
 fn is_cheap_opcode(opcode: Opcode) -> bool {
     matches!(
         opcode,
@@ -218,9 +218,10 @@ fn is_cheap_at(image: &Image, process: &Process, opcode: Opcode, at: usize) -> b
 }
 
 /// Whether a row that isn't a quick one takes little time: it sends, waits, calls a native of the node, or ends the process by its last
-/// return. Any other row with a record of its own raises.
-fn asks_little(row: &LinkedRecord<'_>) -> bool {
+/// return. Any other row with a record of its own raises. `may_wait_for_time`: whether a wait with a timeout may begin.
+fn asks_little(row: &LinkedRecord<'_>, may_wait_for_time: bool) -> bool {
     match *row.rec {
+        Record::General(_, Opcode::WaitTimeout) => may_wait_for_time,
         Record::General(_, opcode) => is_cheap_opcode(opcode),
         Record::Send(_) | Record::Wait(..) | Record::Return(_) => true,
         Record::CallExt(_, import)
@@ -232,13 +233,14 @@ fn asks_little(row: &LinkedRecord<'_>) -> bool {
     }
 }
 
-/// Whether the next row of a process, which isn't a quick one, takes little time. The first row enters a function.
-pub(crate) fn admits_next(fetcher: &mut Fetcher<'_>, process: &Process) -> bool
+/// Whether the next row of a process, which isn't a quick one, takes little time. The first row enters a function. `has_moment`: whether
+/// the node's clock has the moment at which a wait with a timeout would begin; a wait that has begun goes on without it.
+pub(crate) fn admits_next(fetcher: &mut Fetcher<'_>, process: &Process, has_moment: bool) -> bool
     ensures code { fetcher.new ≡ fetcher.old }
 {
     match process.goes() {
         Goes::At(place) => match fetcher.record(*place) {
-            Some(row) => asks_little(&row),
+            Some(row) => asks_little(&row, has_moment || process.deadline().is_some()),
             None => false,
         },
         Goes::Enter { .. } => true,

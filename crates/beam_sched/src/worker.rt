@@ -9,7 +9,7 @@ use crate::shared::Shared;
 use crate::short_slice_token::RecentSlices;
 use crate::steal_turns::StealTurns;
 use crate::thread_context::ThreadContext;
-use crate::turns::TurnsDone;
+use crate::turns::{TurnMoment, TurnsDone};
 use crate::worker_action::{WorkerAction, idle_action};
 use crate::worker_times::WorkerTimes;
 use beam_debug::outcome::Outcome;
@@ -226,7 +226,8 @@ impl<B: NodeBrand + QueueBrand, G: Gate, C: Clock, R: Wait + time::Clock> Worker
         let shared = self.shared;
         let mut guard = shared.node.lock(self.rt);
         let locked = &mut *guard;
-        let done = locked.have_turns(&mut self.context, pid, shared.rows_in_place);
+        let mut moment = TurnMoment::new(self.clock, &shared.node_clock);
+        let done = locked.have_turns(&mut self.context, &mut moment, pid, shared.rows_in_place);
         shared.usage.note(&locked.node);
         let is_earlier = shared.scan_hint.publish(&locked.scan_state);
         drop(guard);

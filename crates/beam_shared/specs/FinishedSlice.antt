@@ -4,7 +4,7 @@ use Rattle.beam_machine.specs.declared.action.Action.{Action}
 use Rattle.beam_machine.specs.declared.action.Messaging.TheVariants.{WaitTimeout}
 use Rattle.beam_machine.specs.declared.action.Step.{Step}
 use Rattle.beam_machine.specs.declared.process.Goes.TheVariants.{At}
-use Rattle.beam_machine.specs.Prelude.{Code, step_of, Private, End, before_node_row, Process, is_ended}
+use Rattle.beam_machine.specs.Prelude.{Code, Debugged, step_of, Private, End, before_node_row, Process, is_ended, live_process}
 use Rattle.beam_model.specs.Prelude.{Place}
 use Rattle.beam_machine.specs.declared.action.Action.TheVariants.{Messaging}
 use Rattle.beam_machine.specs.declared.action.Messaging.{Messaging as TheMessaging}
@@ -50,6 +50,15 @@ is_timed_step None = false
 abbrev pub waits_at : Code → Goes → Bool
 waits_at code (At place) = is_timed_step (step_of code place)
 waits_at code _ = false
+
+-- whether the next row of this process waits for a time
+abbrev pub process_waits_next : Code → Option Process → Bool
+process_waits_next code (Some p) = waits_at code p.goes
+process_waits_next code None = false
+
+-- whether the next row of the process of a number, which hasn't ended, waits for a time
+abbrev pub waits_next : Debugged → ℕ → Bool
+waits_next d pid = process_waits_next d.node.code (live_process d.node.processes pid)
 
 -- the rows end before a row of the node that waits for a time; it is the node's only where the process has no deadline yet
 abbrev pub sets_deadline_at : Code → Process → End → Bool

@@ -45,7 +45,7 @@ fn is_timed(action: &Action<'_>) -> bool
 }
 
 /// Whether the next row, at the place where the process goes on, waits for a time.
-fn waits_at(code: &CodeTable, goes: &Goes) -> bool
+pub(crate) fn waits_at(code: &CodeTable, goes: &Goes) -> bool
     ensures { result ≡ waits_at code.now goes.now }
 {
     let Goes::At(place) = goes else {

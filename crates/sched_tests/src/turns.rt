@@ -19,7 +19,7 @@ use beam_receipts::seat::SeatReceipt;
 use beam_shared::node::Node;
 use node_testing::commands::Argument::Integer;
 use node_testing::commands::Commands;
-use node_testing::listings::LOOP;
+use node_testing::listings::{LOOP, SLEEP};
 use node_testing::stage::staged;
 use std::alloc::Global;
 use std::marker::Brand;
@@ -65,7 +65,7 @@ fn seen(outcome: &Outcome) -> TurnSeen {
 
 /// A short turn of the first process, of at most 256 rows.
 fn turn<B: NodeBrand>(node: &mut Node<B>, seat: &mut SeatReceipt<B>) -> TurnSeen {
-    match node.short_steps(seat, 1, 256) {
+    match node.short_steps(seat, 1, 256, false) {
         Some((_count, outcome)) => seen(&outcome),
         None => TurnSeen::None,
     }
@@ -147,6 +147,25 @@ fn a_turn_has_as_many_rows_as_it_may(rt: HostRuntime) -> Result<(), Fail> {
     Ok(())
 }
 
+/// The process waits for 20 ms: the wait begins where the clock has the moment, so by a command here.
+#[test]
+fn no_wait_begins_in_a_turn_without_the_moment(rt: HostRuntime) -> Result<(), Fail> {
+    let commands = Commands::new(rt.alloc())
+        .load(SLEEP)
+        .spawn("s", "sleep", &[Integer(20)]);
+    let turns = turns_here(rt.alloc(), commands)?;
+    assert_eq!(rt;
+        turns,
+        [
+            TurnSeen::GoesOn(1),
+            TurnSeen::None,
+            TurnSeen::Waits(1),
+            TurnSeen::None
+        ]
+    );
+    Ok(())
+}
+
 #[test]
 fn no_turn_is_had_where_a_break_spot_is_set(rt: HostRuntime) -> Result<(), Fail> {
     let commands = Commands::new(rt.alloc())
@@ -209,5 +228,18 @@ fn a_crowd_in_turns_with_four_workers(rt: HostRuntime) -> Result<(), Fail> {
 fn a_deadline_passes_under_turns(rt: HostRuntime) -> Result<(), Fail> {
     let played = play_here(&rt, 2, told(rt.alloc()).with_turns(ROWS))?;
     assert_eq!(rt; (played.counts.timeouts, played.replays), (1, true));
+    Ok(())
+}
+
+/// The process waits for 20 ms, and is never checked out: the worker enters the moment and begins the wait in a turn.
+#[test]
+fn a_wait_with_a_timeout_begins_in_a_turn(rt: HostRuntime) -> Result<(), Fail> {
+    let commands = Commands::new(rt.alloc())
+        .load(SLEEP)
+        .spawn("s", "sleep", &[Integer(20)]);
+    let scenario = Scenario::ending(rt.alloc(), commands, 1);
+    let played = play_here(&rt, 1, scenario.with_turns(ROWS))?;
+    assert_eq!(rt; (played.counts.timeouts, played.replays), (1, true));
+    assert_eq!(rt; played.report.outs, 0);
     Ok(())
 }
