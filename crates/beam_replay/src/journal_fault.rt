@@ -1,5 +1,5 @@
 //! Faults of a journal's file, as the program reports them.
-ghost use Rattle.std.specs.Prelude.{ℕ};
+ghost use Rattle.std.specs.Prelude.{ℕ, Option};
 ghost use Rattle.beam_tools.specs.Job.{IsOfPort};
 
 use beam_block_file::{OpenFault, ShelfFailed};
@@ -31,21 +31,21 @@ fn os_error(failed: ShelfFailed) -> OsError {
 }
 
 fn fault<'l>(name: &'l str, why: JournalFaultKind) -> JobFault<'l>
-    ensures { (port : ℕ) → IsOfPort port result }
+    ensures { (port : Option ℕ) → IsOfPort port result }
 {
     JobFault::Journal(JournalFault { name, why })
 }
 
 /// The fault of a file that can't be opened, read or made.
 pub(crate) fn unread_fault<'l>(name: &'l str, failed: ShelfFailed) -> JobFault<'l>
-    ensures { (port : ℕ) → IsOfPort port result }
+    ensures { (port : Option ℕ) → IsOfPort port result }
 {
     fault(name, JournalFaultKind::Unread(os_error(failed)))
 }
 
 /// The fault of a file that can't be opened.
 pub(crate) fn open_fault<'l>(name: &'l str, why: OpenFault) -> JobFault<'l>
-    ensures { (port : ℕ) → IsOfPort port result }
+    ensures { (port : Option ℕ) → IsOfPort port result }
 {
     match why {
         OpenFault::InUse => fault(name, JournalFaultKind::InUse),
@@ -55,7 +55,7 @@ pub(crate) fn open_fault<'l>(name: &'l str, why: OpenFault) -> JobFault<'l>
 
 /// The fault of a file that can't be read to its end.
 pub(crate) fn read_fault<'l>(name: &'l str, why: ReadFailed, place: ReadPlace) -> JobFault<'l>
-    ensures { (port : ℕ) → IsOfPort port result }
+    ensures { (port : Option ℕ) → IsOfPort port result }
 {
     match why {
         ReadFailed::NoJournal => fault(name, JournalFaultKind::NoJournal),
@@ -74,7 +74,7 @@ pub(crate) fn read_fault<'l>(name: &'l str, why: ReadFailed, place: ReadPlace) -
 
 /// The fault of a file that can't be written.
 pub fn write_fault<'l>(name: &'l str, why: WriteFailed) -> JobFault<'l>
-    ensures { (port : ℕ) → IsOfPort port result }
+    ensures { (port : Option ℕ) → IsOfPort port result }
 {
     match why {
         WriteFailed::Unwritten(failed) => {
@@ -88,7 +88,7 @@ pub fn write_fault<'l>(name: &'l str, why: WriteFailed) -> JobFault<'l>
 
 /// The fault of a file that has more entries than a node can have.
 pub(crate) fn full_fault<'l>(name: &'l str) -> JobFault<'l>
-    ensures { (port : ℕ) → IsOfPort port result }
+    ensures { (port : Option ℕ) → IsOfPort port result }
 {
     fault(name, JournalFaultKind::Full)
 }
@@ -99,7 +99,7 @@ pub(crate) fn recall_fault<'l>(
     why: RecallError<ReadFailed>,
     place: ReadPlace,
 ) -> JobFault<'l>
-    ensures { (port : ℕ) → IsOfPort port result }
+    ensures { (port : Option ℕ) → IsOfPort port result }
 {
     match why {
         RecallError::Refused {

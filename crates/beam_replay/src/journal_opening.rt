@@ -1,5 +1,5 @@
 //! A node's journal file, opened or made.
-ghost use Rattle.std.specs.Prelude.{ℕ, [], IfErr, IfOk};
+ghost use Rattle.std.specs.Prelude.{ℕ, [], Option, IfErr, IfOk};
 ghost use Rattle.beam_journal_file.specs.JournalRead.{HasRead};
 ghost use Rattle.beam_tools.specs.Job.{IsOfPort};
 
@@ -54,7 +54,7 @@ fn with_head<'l, R: rt::Files + Clock>(
     path: &'l str,
     shelf: FileShelf,
 ) -> Result<FileShelf, JobFault<'l>>
-    ensures { IfErr result (λ f. (port : ℕ) → IsOfPort port f) }
+    ensures { IfErr result (λ f. (port : Option ℕ) → IsOfPort port f) }
 {
     match write_head(alloc, shelf, &new_id(rt)) {
         Ok(shelf) => Ok(shelf),
@@ -69,7 +69,7 @@ fn create<'l, R: rt::Files<File = File> + Clock>(
     alloc: Global,
     path: &'l str,
 ) -> Result<FileShelf, JobFault<'l>>
-    ensures { IfErr result (λ f. (port : ℕ) → IsOfPort port f) }
+    ensures { IfErr result (λ f. (port : Option ℕ) → IsOfPort port f) }
 {
     let Ok(new_path) = format!(in alloc; "{path}.new") else {
         return Err(JobFault::NoMemory);
@@ -108,7 +108,7 @@ fn open_or_create<'l, R: rt::Files<File = File> + Clock>(
     alloc: Global,
     path: &'l str,
 ) -> Result<FileShelf, JobFault<'l>>
-    ensures { IfErr result (λ f. (port : ℕ) → IsOfPort port f) }
+    ensures { IfErr result (λ f. (port : Option ℕ) → IsOfPort port f) }
 {
     let mut shelf = match FileShelf::open(rt, path) {
         Ok(shelf) => shelf,
@@ -132,7 +132,7 @@ pub(crate) fn read_head<'l>(
     upto: u64,
 ) -> Result<JournalReader<FileShelf>, JobFault<'l>>
     ensures at_first { IfOk result (λ r. HasRead r []) }
-    ensures fault { IfErr result (λ f. (port : ℕ) → IsOfPort port f) }
+    ensures fault { IfErr result (λ f. (port : Option ℕ) → IsOfPort port f) }
 {
     match JournalReader::open(alloc, shelf, upto) {
         Ok(reader) => Ok(reader),
@@ -149,7 +149,7 @@ pub fn open_journal<'l, R: rt::Files<File = File> + Clock>(
     path: &'l str,
 ) -> Result<OpenJournal, JobFault<'l>>
     ensures at_first { IfOk result (λ o. HasRead o.reader []) }
-    ensures fault { IfErr result (λ f. (port : ℕ) → IsOfPort port f) }
+    ensures fault { IfErr result (λ f. (port : Option ℕ) → IsOfPort port f) }
 {
     let shelf = open_or_create(rt, alloc, path)?;
     let handle = match shelf.try_clone() {

@@ -1,5 +1,5 @@
 //! A node that comes back from its journal's file.
-ghost use Rattle.std.specs.Prelude.{◌≡◌, ℕ, [], map, true, IfErr, IfOk, OnOk};
+ghost use Rattle.std.specs.Prelude.{◌≡◌, ℕ, [], map, true, Option, IfErr, IfOk, OnOk};
 ghost use Rattle.beam_journal_file.specs.JournalRead.{HasRead, IsOver, JournalRead, ReadsOn};
 ghost use Rattle.beam_journal_file.specs.WrittenJournal.{HasWritten};
 ghost use Rattle.beam_machine.specs.Journal.{sent_event_of};
@@ -49,7 +49,7 @@ fn enter_some<'l, B: NodeBrand, S: Shelf + Drop>(
     ensures read { OnOk result (HasRead reader.old (map sent_event_of node.old.journal) → HasRead reader.new (map sent_event_of node.new.journal)) }
     ensures on { OnOk result (ReadsOn reader.old reader.new) }
     ensures over { IfOk result (λ is_over. is_over ≡ true → IsOver reader.new) }
-    ensures fault { IfErr result (λ f. (port : ℕ) → IsOfPort port f) }
+    ensures fault { IfErr result (λ f. (port : Option ℕ) → IsOfPort port f) }
 {
     match recall(alloc, node, seats, reader, PIECE) {
         Ok(is_over) => Ok(is_over),
@@ -80,7 +80,7 @@ pub(crate) fn enter_piece<'l, B: NodeBrand, S: Shelf + Drop>(
     ensures on { OnOk result (ReadsOn reader.old reader.new) }
     ensures over { IfOk result (λ is_over. is_over ≡ true → IsOver reader.new) }
     ensures receipt { OnOk result (receipt.new ≡ node.new.journal) }
-    ensures fault { IfErr result (λ f. (port : ℕ) → IsOfPort port f) }
+    ensures fault { IfErr result (λ f. (port : Option ℕ) → IsOfPort port f) }
 {
     let is_over = match enter_some(alloc, node, seats, reader, name) {
         Ok(is_over) => is_over,
@@ -115,7 +115,7 @@ fn enter_all<'l, B: NodeBrand, S: Shelf + Drop, T: Eprint + Clock>(
     ensures on { OnOk result (ReadsOn reader.old reader.new) }
     ensures over { OnOk result (IsOver reader.new) }
     ensures receipt { OnOk result (receipt.new ≡ node.new.journal) }
-    ensures fault { IfErr result (λ f. (port : ℕ) → IsOfPort port f) }
+    ensures fault { IfErr result (λ f. (port : Option ℕ) → IsOfPort port f) }
 {
     let mut left = Vec::new(alloc);
     for _ in 0..u64::MAX {
@@ -158,7 +158,7 @@ pub fn recover<'l, B: NodeBrand, S: Shelf + Drop, R: Log, T: Eprint + Clock>(
     ensures fresh { IfOk result (λ r. r.writer.taken ≡ 0) }
     ensures drained { IfOk result (λ r. r.receipt ≡ node.new.journal) }
     ensures whole { IfOk result (λ r. (last : JournalRead) × ReadsOn reader last × IsOver last × HasRead last (map sent_event_of node.new.journal)) }
-    ensures fault { IfErr result (λ f. (port : ℕ) → IsOfPort port f) }
+    ensures fault { IfErr result (λ f. (port : Option ℕ) → IsOfPort port f) }
 {
     let mut seats = Vec::new(alloc);
     let mut reader = reader;

@@ -16,8 +16,11 @@ use Rattle.beam_sched.specs.contracts.shared.Shared as Shared
 use Rattle.beam_serve.proofs.connection_thread.ServeOptions.TheSendSync as ServeOptions_crossing
 use Rattle.beam_serve.proofs.acceptor.Acceptor.TheSendSync as Acceptor_crossing
 use Rattle.beam_serve.proofs.memory_reserve.MemoryReserve.TheSendSync as MemoryReserve_crossing
+use Rattle.beam_serve.proofs.readiness.Readiness.TheSendSync as Readiness_crossing
+use Rattle.beam_sockets.proofs.listener.Listener.TheSendSync as Listener_crossing
 use Rattle.beam_sockets.proofs.open_sockets.OpenSockets.TheSendSync as OpenSockets_crossing
 use Rattle.beam_serve.specs.contracts.connection_thread.ConnectionThread as ConnectionThread
+use Rattle.beam_serve.specs.contracts.http_thread.HttpThread as HttpThread
 use Rattle.beam_serve.specs.contracts.acceptor.Acceptor as Acceptor
 use Rattle.beam_serve.specs.contracts.seat_desk.SeatDesk as SeatDesk
 use Rattle.beam_serve.specs.contracts.seat_desk.SeatDesk.TheInside as SeatDesk_inside
@@ -51,8 +54,12 @@ pub ConnectionThread_send : (l : NamedLft) (B R : RattleType) (g : NodeBrand.Gho
 ConnectionThread_send l B R g q r = declared_send (ConnectionThread.the_type l B R g q)
     (runtime_send l R r, (Global.the_send, (Shared_send l B g, (Acceptor_send l, ((search sendable), (SeatDesk_send l B R g q r, (ServeOptions_crossing.the_send, tt)))))))
 
+pub HttpThread_send : (l : NamedLft) (B R : RattleType) (g : NodeBrand.Ghosts B.Denot) → IsSync R → IsSend (HttpThread.the_row l B R g)
+HttpThread_send l B R g r = declared_send (HttpThread.the_type l B R g)
+    (runtime_send l R r, (Global.the_send, (Shared_send l B g, ((shr_send l.mir l.lft _ Listener_crossing.the_sync), (Acceptor_send l, ((search sendable), ((search sendable), tt)))))))
+
 pub ServeHelper_send : (l : NamedLft) (B R : RattleType) (g : NodeBrand.Ghosts B.Denot) (q : QueueBrand.Ghosts B.Denot) → IsSync R → IsSend (ServeHelper.the_row l B R g q)
-ServeHelper_send l B R g q r = variants_send (ServeHelper.enum l B R g q) ((ConnectionThread_send l B R g q r, tt), ((JournalThread_send l B R g r, tt), tt))
+ServeHelper_send l B R g q r = variants_send (ServeHelper.enum l B R g q) ((ConnectionThread_send l B R g q r, tt), ((JournalThread_send l B R g r, tt), ((HttpThread_send l B R g r, tt), tt)))
 
 pub ServeGate_sync : (l : NamedLft) (B R : RattleType) (g : NodeBrand.Ghosts B.Denot) → IsSync R → IsSync (ServeGate.the_row l B R g)
-ServeGate_sync l B R g r = declared_sync (ServeGate.the_type l B R g) (runtime_sync l R r, (Shared_ref_sync l B g, ((shr_sync l.mir l.lft _ OpenSockets_crossing.the_sync), ((shr_sync l.mir l.lft _ MemoryReserve_crossing.the_sync), ((Option.the_sync _ (JournalLink_sync l B g)), ((search sendable), ((search sendable), tt)))))))
+ServeGate_sync l B R g r = declared_sync (ServeGate.the_type l B R g) (runtime_sync l R r, (Shared_ref_sync l B g, ((shr_sync l.mir l.lft _ OpenSockets_crossing.the_sync), ((shr_sync l.mir l.lft _ MemoryReserve_crossing.the_sync), ((shr_sync l.mir l.lft _ Readiness_crossing.the_sync), ((Option.the_sync _ (JournalLink_sync l B g)), ((search sendable), ((search sendable), tt))))))))

@@ -1,10 +1,10 @@
 -- Faults that are of any port.
-use Rattle.std.proofs.Common.{ℕ, List}
+use Rattle.std.proofs.Common.{ℕ, List, Option, Some, None}
 use Rattle.beam_tools.specs.Prelude.{IsOfPort, StartingSays}
 use Rattle.beam_tools.specs.declared.job.JobFault.{JobFault}
 use Rattle.beam_tools.specs.declared.job.JobFault.TheVariants as fault
 
-pub starting_is : (port : ℕ) (module_name function_name : List ℕ) (f : JobFault) → StartingSays module_name function_name f → IsOfPort port f
+pub starting_is : (port : Option ℕ) (module_name function_name : List ℕ) (f : JobFault) → StartingSays module_name function_name f → IsOfPort port f
 starting_is port m n fault.LongName h = tt
 starting_is port m n fault.NoMemory h = tt
 starting_is port m n (fault.Pipe why os_error) h = absurd h
@@ -12,6 +12,7 @@ starting_is port m n (fault.Net p os_error) h = absurd h
 starting_is port m n (fault.File f) h = absurd h
 starting_is port m n (fault.Start refused) h = absurd h
 starting_is port m n (fault.Journal f) h = absurd h
+starting_is port m n (fault.Socket f) h = absurd h
 starting_is port m n (fault.NoProcess name) h = absurd h
 starting_is port m n (fault.LongView name) h = absurd h
 starting_is port m n fault.JournalFull h = absurd h

@@ -1,10 +1,10 @@
 //! Accepting connections.
 
-use beam_sockets::OpenSockets;
+use beam_sockets::{Listener, OpenSockets, Peer};
 use beam_tools::os_error::OsError;
 use log::{Log, warn};
 use std::io::{Error, ErrorKind};
-use std::net::{SocketAddr, TcpListener, TcpStream};
+use std::net::TcpStream;
 use std::sync::Wait;
 use std::time::{Clock, Duration};
 
@@ -51,13 +51,13 @@ fn failure_of(error: &Error) -> AcceptFailure {
     }
 }
 
-/// Waits for the next connection, and returns it with its peer's address. After a transient failure it tries again, after a pause, and the
-/// first failure of several is logged as a warning.
+/// Waits for the next connection, and returns it with its other end. After a transient failure it tries again, after a pause, and the first
+/// failure of several is logged as a warning.
 pub fn accept<R: Wait + Clock + Log>(
     rt: &R,
-    listener: &TcpListener,
+    listener: &Listener,
     sockets: &OpenSockets,
-) -> Result<(TcpStream, SocketAddr), NotAccepted> {
+) -> Result<(TcpStream, Peer), NotAccepted> {
     let mut is_reported = false;
     for _ in rt.forever() {
         let error = match listener.accept() {

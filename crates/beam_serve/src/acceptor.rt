@@ -1,10 +1,12 @@
-//! Where the threads of a node that serves a port get their connections.
+//! Where the threads of a node get their connections.
 
 use crate::accepting::{NotAccepted, accept};
-use crate::endpoint::Endpoint;
+use crate::endpoint::{Endpoint, ServedListener};
+use beam_sockets::Peer;
 use beam_tools::os_error::OsError;
 use log::Log;
-use std::net::{SocketAddr, TcpStream};
+use std::net::TcpStream;
+use std::sync::atomic::{AtomicUsize, Ordering};
 use std::sync::{Mutex, Wait};
 use std::time::Clock;
 
@@ -13,8 +15,12 @@ use std::time::Clock;
 pub enum Ended {
     /// As many were accepted as were asked for.
     Served,
-    /// The listener failed: the operating system's error.
-    NetFailed(OsError),
+    /// The node was asked to stop.
+    Asked,
+    /// The port's listener failed: the operating system's error.
+    PortFailed(OsError),
+    /// The socket's listener failed: the operating system's error.
+    SocketFailed(OsError),
     /// The sockets are shut.
     Shut,
     /// No worker runs processes.
@@ -41,11 +47,15 @@ impl Accepting {
     }
 }
 
-/// Hands out the connections to a listening endpoint. One thread at a time waits for the next connection, and the others for their turn, so
-/// that none is left waiting once no more are accepted.
+/// Hands out the connections to what a node listens on. At the port and at the socket one thread at a time waits for the next connection, and
+/// the others for their turn, so that none is left waiting once no more are accepted.
 pub struct Acceptor<'a> {
     endpoint: Endpoint<'a>,
     accepting: Mutex<Accepting>,
+    /// How many threads serve connections, once that is known.
+    threads: AtomicUsize,
+    /// How many of them serve no more.
+    left: AtomicUsize,
 }
 
 impl<'a> Drop for Acceptor<'a> {
@@ -53,52 +63,106 @@ impl<'a> Drop for Acceptor<'a> {
         let Acceptor {
             endpoint: _endpoint,
             accepting: _accepting,
+            threads: _threads,
+            left: _left,
         } = self;
     }
 }
 
 impl<'a> Acceptor<'a> {
-    /// An acceptor for a listening endpoint, for `count` connections; 0 for no end.
+    /// An acceptor for what a node listens on, for `count` connections in all; 0 for no end.
     pub fn new(endpoint: Endpoint<'a>, count: u32) -> Acceptor<'a> {
         Acceptor {
             endpoint,
             accepting: Mutex::new(Accepting::Open(count)),
+            threads: AtomicUsize::new(usize::MAX),
+            left: AtomicUsize::new(0),
         }
     }
 
-    /// The listening endpoint.
+    /// What it accepts connections to.
     pub fn endpoint(&self) -> Endpoint<'a> {
         self.endpoint
     }
 
-    /// Waits for the next connection, and returns it with its peer's address. `None` where no more are accepted.
-    pub fn next<R: Wait + Clock + Log>(&self, rt: &R) -> Option<(TcpStream, SocketAddr)> {
+    /// Counts a connection that came. False if no more are accepted; after the last one nothing is listened on.
+    fn admit<R: Wait>(&self, rt: &R) -> bool {
         let mut accepting = self.accepting.lock(rt);
         if let Accepting::Ended(_) = *accepting {
+            return false;
+        }
+        *accepting = accepting.after_one();
+        if let Accepting::Ended(_) = *accepting {
+            self.endpoint.sockets.stop_listening();
+        }
+        true
+    }
+
+    /// Waits for the next connection at a listener, where it is this thread's turn.
+    fn next_at<R: Wait + Clock + Log>(
+        &self,
+        rt: &R,
+        served: &ServedListener,
+    ) -> Option<(TcpStream, Peer)> {
+        if self.ended(rt).is_some() {
             return None;
         }
-        let ended = match accept(rt, self.endpoint.listener, self.endpoint.sockets) {
-            Ok(connection) => {
-                *accepting = accepting.after_one();
-                return Some(connection);
+        match accept(rt, &served.listener, self.endpoint.sockets) {
+            Ok(connection) if self.admit(rt) => Some(connection),
+            Ok(_connection) => None,
+            Err(NotAccepted::Shut) => {
+                self.close(rt, Ended::Shut);
+                None
             }
-            Err(NotAccepted::Shut) => Ended::Shut,
-            Err(NotAccepted::ListenerFailed(os_error)) => Ended::NetFailed(os_error),
-        };
-        *accepting = Accepting::Ended(ended);
-        None
+            Err(NotAccepted::ListenerFailed(os_error)) if served.is_port() => {
+                self.close(rt, Ended::PortFailed(os_error));
+                None
+            }
+            Err(NotAccepted::ListenerFailed(os_error)) => {
+                self.close(rt, Ended::SocketFailed(os_error));
+                None
+            }
+        }
     }
 
-    /// Accepts no more connections, for this reason.
+    /// Waits for the next connection that the thread of that number is to serve, and returns it with its other end. `None` where no more are
+    /// accepted.
+    pub fn next<R: Wait + Clock + Log>(&self, rt: &R, number: usize) -> Option<(TcpStream, Peer)> {
+        let served = self.endpoint.listeners.of(number)?;
+        let turn = served.turn.lock(rt);
+        let next = self.next_at(rt, served);
+        drop(turn);
+        next
+    }
+
+    /// Accepts no more connections, for this reason, if they still are accepted.
     pub fn close<R: Wait>(&self, rt: &R, ended: Ended) {
-        *self.accepting.lock(rt) = Accepting::Ended(ended);
+        let mut accepting = self.accepting.lock(rt);
+        if let Accepting::Open(_) = *accepting {
+            *accepting = Accepting::Ended(ended);
+        }
     }
 
-    /// Why no more connections are accepted; `None` if they still are. It blocks while a thread waits for the next connection.
+    /// Why no more connections are accepted; `None` if they still are.
     pub fn ended<R: Wait>(&self, rt: &R) -> Option<Ended> {
         match *self.accepting.lock(rt) {
             Accepting::Open(_) => None,
             Accepting::Ended(ended) => Some(ended),
         }
+    }
+
+    /// Notes how many threads serve connections.
+    pub fn expect_threads(&self, count: usize) {
+        self.threads.store(count, Ordering::SeqCst);
+    }
+
+    /// Notes that a thread serves no more connections.
+    pub fn leave(&self) {
+        let _ = self.left.fetch_add(1, Ordering::SeqCst);
+    }
+
+    /// Whether no thread serves connections any more.
+    pub fn all_left(&self) -> bool {
+        self.left.load(Ordering::SeqCst) >= self.threads.load(Ordering::SeqCst)
     }
 }

@@ -14,7 +14,7 @@ use std::alloc::Global;
 use std::sync::Wait;
 use std::time::{Clock, Duration};
 
-/// The settings of the threads that serve a port.
+/// The settings of the threads that serve connections.
 #[derive(Clone, Copy)]
 pub struct ServeOptions {
     /// For how long a peer may give nothing and take nothing.
@@ -23,6 +23,8 @@ pub struct ServeOptions {
     pub clients: usize,
     /// How many workers are wanted beside them.
     pub workers: usize,
+    /// Whether a thread answers requests beside them.
+    pub has_http: bool,
 }
 
 /// A thread that serves connections, one after another, and answers their commands by the desk of its thread context.
@@ -68,14 +70,16 @@ impl<'a, B: NodeBrand + QueueBrand, R> ConnectionThread<'a, B, R> {
 }
 
 impl<B: NodeBrand + QueueBrand, R: Wait + Clock + Log + AllocGlobal> ConnectionThread<'_, B, R> {
-    /// How many threads serve connections, where this number of helpers was started. Where the node has a journal's file the first helper is
-    /// its thread, which ends after those that serve connections.
+    /// How many threads serve connections, where this number of helpers was started. The first helpers are those that end after them: the
+    /// thread of the journal's file, and the one that answers requests.
     fn count_threads(&self, helpers: usize) -> usize {
-        let Some(link) = self.desk.journal() else {
-            return helpers.saturating_add(1);
-        };
-        let count = helpers.max(1);
-        link.journal.expect_senders(self.rt, count);
+        let others = usize::from(self.desk.journal().is_some())
+            + usize::from(self.options.has_http);
+        let count = helpers.saturating_sub(others).saturating_add(1);
+        if let Some(link) = self.desk.journal() {
+            link.journal.expect_senders(self.rt, count);
+        }
+        self.acceptor.expect_threads(count);
         count
     }
 
@@ -94,6 +98,7 @@ impl<B: NodeBrand + QueueBrand, R: Wait + Clock + Log + AllocGlobal> ConnectionT
         if let Some(link) = self.desk.journal() {
             link.journal.leave(rt);
         }
+        self.acceptor.leave();
         if !matches!(self.acceptor.ended(rt), Some(Ended::Served)) {
             self.shared.stop(rt);
             self.acceptor.endpoint().sockets.shut(rt);

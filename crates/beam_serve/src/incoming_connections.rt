@@ -1,14 +1,15 @@
-//! The connections to a port, with a session over each of them.
+//! The connections to a port or a socket, with a session over each of them.
 
 use crate::acceptor::Acceptor;
+use crate::endpoint::Endpoint;
 use crate::sessions::Incoming;
 use beam_remote::{ServeError, Served, SessionFailure};
-use beam_sockets::{ServedStream, TimedStream};
+use beam_sockets::{Peer, ServedStream, TimedStream};
 use beam_streams::Streams;
 use beam_tools::os_error::OsError;
 use log::{Log, info, warn};
 use std::alloc::{AllocError, Global};
-use std::net::{SocketAddr, TcpStream};
+use std::net::TcpStream;
 use std::sync::{Arc, Wait};
 use std::time::{Clock, Duration};
 
@@ -28,8 +29,8 @@ pub struct IncomingConnections<'a, R> {
     number: usize,
     /// For how long a peer may give nothing and take nothing.
     idle: Option<Duration>,
-    /// The peer of the session.
-    peer: Option<SocketAddr>,
+    /// The other end of the session's connection.
+    peer: Option<Peer>,
 }
 
 impl<'a, R> IncomingConnections<'a, R> {
@@ -52,17 +53,30 @@ impl<'a, R> IncomingConnections<'a, R> {
     }
 }
 
-/// Logs that the next connection has to wait, if each of several threads serves one now.
-fn log_places<R: Wait + Log>(rt: &R, acceptor: &Acceptor<'_>) {
-    match acceptor.endpoint().sockets.all_taken(rt) {
-        Some(count) if count > 1 => info!(rt; "{count} of {count} places are taken"),
-        _ => {}
+/// Logs that the next connection of this thread's listener has to wait, if each of several threads serves one now.
+fn log_places<R: Wait + Log>(rt: &R, acceptor: &Acceptor<'_>, number: usize) {
+    let Endpoint {
+        listeners,
+        sockets,
+        ..
+    } = acceptor.endpoint();
+    let Some(served) = listeners.of(number) else {
+        return;
+    };
+    let count = served.place_count();
+    if count < 2 || !sockets.are_taken(rt, &served.places) {
+        return;
+    }
+    if served.is_port() {
+        info!(rt; "{count} of {count} places are taken");
+    } else {
+        info!(rt; "{count} of {count} places of the socket are taken");
     }
 }
 
 /// Logs that a session failed: a warning with the refusal's name, and then, at info, the peer, the command after which it failed, and the
 /// operating system's error, if a stream failed.
-fn log_failure<R: Log>(rt: &R, peer: SocketAddr, error: &ServeError, os_error: Option<OsError>) {
+fn log_failure<R: Log>(rt: &R, peer: Peer, error: &ServeError, os_error: Option<OsError>) {
     warn!(rt; "{}", error);
     if let SessionFailure::BadFrame(fault) = error.why {
         info!(rt; "{peer}: {error} {fault} after command {}", error.done);
@@ -110,12 +124,12 @@ impl<'a, R: Wait + Clock + Log> IncomingConnections<'a, R> {
 impl<'a, R: Wait + Clock + Log> Incoming<Link<'a, R>> for IncomingConnections<'a, R> {
     fn next(&mut self) -> Option<Link<'a, R>> {
         for _ in self.rt.forever() {
-            let (stream, peer) = self.acceptor.next(self.rt)?;
+            let (stream, peer) = self.acceptor.next(self.rt, self.number)?;
             info!(self.rt; "{peer}: connected");
             self.acceptor.endpoint().reserve.begin_session(self.rt);
             if let Some(link) = self.open(stream) {
                 self.peer = Some(peer);
-                log_places(self.rt, self.acceptor);
+                log_places(self.rt, self.acceptor, self.number);
                 return Some(link);
             }
         }

@@ -3,6 +3,7 @@
 use crate::endpoint::Endpoint;
 use crate::exit_log::{log_exit, log_rows};
 use crate::memory_reserve::MemoryReserve;
+use crate::readiness::Readiness;
 use beam_debug::outcome::Outcome;
 use beam_disk_journal::JournalLink;
 use beam_receipts::brand::NodeBrand;
@@ -25,6 +26,7 @@ pub struct ServeGate<'a, B: NodeBrand, R> {
     shared: &'a Shared<B>,
     sockets: &'a OpenSockets,
     reserve: &'a MemoryReserve,
+    readiness: &'a Readiness,
     journal: Option<JournalLink<'a, B>>,
     limit: u32,
     stops_when_full: bool,
@@ -43,6 +45,7 @@ impl<'a, B: NodeBrand, R> ServeGate<'a, B, R> {
         let Endpoint {
             sockets,
             reserve,
+            readiness,
             ..
         } = endpoint;
         ServeGate {
@@ -50,6 +53,7 @@ impl<'a, B: NodeBrand, R> ServeGate<'a, B, R> {
             shared,
             sockets,
             reserve,
+            readiness,
             journal,
             limit,
             stops_when_full,
@@ -96,6 +100,7 @@ impl<B: NodeBrand, R: Wait + Clock + Log + AllocGlobal> Gate for ServeGate<'_, B
             return;
         }
         warn!(self.rt; "journal: full, {} entries", self.limit);
+        self.readiness.note_full();
         if self.stops_when_full {
             self.sockets.shut(self.rt);
         }

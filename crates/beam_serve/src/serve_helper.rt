@@ -1,6 +1,7 @@
 //! The threads beside the one that calls `serve`.
 
 use crate::connection_thread::ConnectionThread;
+use crate::http_thread::HttpThread;
 use beam_disk_journal::JournalThread;
 use beam_queue::QueueBrand;
 use beam_receipts::brand::NodeBrand;
@@ -9,11 +10,12 @@ use log::Log;
 use std::sync::Wait;
 use std::time::Clock;
 
-/// A thread that serves connections, or the one that writes the journal's file.
+/// A thread that serves connections, the one that writes the journal's file, or the one that answers requests.
 #[derive(Drop)]
 pub(crate) enum ServeHelper<'a, B: NodeBrand + QueueBrand, R> {
     Connections(ConnectionThread<'a, B, R>),
     Journal(JournalThread<'a, B, R>),
+    Http(HttpThread<'a, B, R>),
 }
 
 impl<B: NodeBrand + QueueBrand, R: Wait + Clock + Log + AllocGlobal> Helper
@@ -22,6 +24,7 @@ impl<B: NodeBrand + QueueBrand, R: Wait + Clock + Log + AllocGlobal> Helper
         match self {
             ServeHelper::Connections(thread) => thread.help(),
             ServeHelper::Journal(thread) => thread.help(),
+            ServeHelper::Http(thread) => thread.help(),
         }
     }
 }

@@ -1,5 +1,5 @@
-//! A node that serves a port: its scheduler threads, and the connections beside them.
-ghost use Rattle.std.specs.Prelude.{◌≡◌, ◌≢◌, ◌*◌, [], MatchOption, IfErr, IfOk, IfSome, OnOk};
+//! A node that serves a port or a socket: its scheduler threads, and the connections beside them.
+ghost use Rattle.std.specs.Prelude.{◌≡◌, ◌⊎◌, ◌*◌, [], MatchOption, IfErr, IfOk, IfSome, OnOk};
 ghost use Rattle.std.specs.Duration.{as_nanos};
 ghost use Rattle.beam_journal_file.specs.JournalRead.{HasRead};
 ghost use Rattle.beam_serve.specs.Limits.{limit_for};
@@ -9,10 +9,13 @@ use crate::acceptor::{Acceptor, Ended};
 use crate::closed_node::{ClosedNode, NotEnded};
 use crate::connection_thread::{ConnectionThread, ServeOptions};
 use crate::endpoint::Endpoint;
+use crate::http_thread::HttpThread;
 use crate::limits::{limit_of, most_behind_of};
+use crate::listening::{Listening, listen, place_count, port_fault, socket_fault};
 use crate::loading::load_and_start;
 use crate::logging::logged;
 use crate::memory_reserve::MemoryReserve;
+use crate::readiness::Readiness;
 use crate::seat_desk::SeatDesk;
 use crate::serve_gate::ServeGate;
 use crate::serve_helper::ServeHelper;
@@ -31,15 +34,15 @@ use beam_sched::shared::{ROWS_IN_PLACE, Shared};
 use beam_sched::thread_context::ThreadContext;
 use beam_sched::thread_contexts::{NewContexts, SeatsAndQueues, contexts};
 use beam_shared::node::Node;
-use beam_sockets::{OpenSockets, ServedConnections};
+use beam_sockets::{Listener, OpenSockets, ServedConnections};
 use beam_tools::files::{FileSystem, Files};
 use beam_tools::job::JobFault;
 use beam_tools::line::Serve;
 use beam_tools::os_error::OsError;
+use beam_tools::socket_fault::SocketFaultKind;
 use log::{Log, debug};
 use std::alloc::Global;
 use std::fs::File;
-use std::io::Error;
 use std::marker::Brand;
 use std::net::{Net, SocketAddr, TcpListener, TcpStream};
 use std::rt;
@@ -47,7 +50,7 @@ use std::sync::Wait;
 use std::thread::Threads;
 use std::time::{Clock, Duration};
 
-/// The thread contexts of a node that serves a port.
+/// The thread contexts of a node that serves connections.
 #[derive(Drop)]
 struct ThreadContexts<B: NodeBrand + QueueBrand> {
     schedulers: Vec<ThreadContext<B>>,
@@ -138,13 +141,25 @@ fn begin<'l, B: NodeBrand, R: Log, T: Eprint + Clock>(
     })
 }
 
-/// Loads the files and starts the process of the line, unless the node came back with entries, and prints the address on the console.
+/// Prints on the console where the node listens. False if that can't be written.
+fn prints_addresses<C: Print>(console: &C, address: Option<SocketAddr>, line: &Serve<'_>) -> bool {
+    let is_port_told = match address {
+        Some(address) => println!(console; "listening on {address}").is_ok(),
+        None => true,
+    };
+    match line.socket {
+        Some(socket) if is_port_told => println!(console; "listening on {}", socket.path).is_ok(),
+        _ => is_port_told,
+    }
+}
+
+/// Loads the files and starts the process of the line, unless the node came back with entries, and prints on the console where it listens.
 fn start_up<'l, F: Files, B: NodeBrand + QueueBrand, R: Wait + Log + AllocGlobal, C: Print>(
     console: &C,
     alloc: Global,
     files: &mut F,
     desk: &mut SeatDesk<'_, B, R>,
-    address: SocketAddr,
+    address: Option<SocketAddr>,
     is_new: bool,
     line: &Serve<'l>,
 ) -> Result<(), JobFault<'l>>
@@ -156,27 +171,15 @@ fn start_up<'l, F: Files, B: NodeBrand + QueueBrand, R: Wait + Log + AllocGlobal
     if let (Some(why), Some(name)) = (desk.journal_failure(), line.journal) {
         return Err(write_fault(name, why));
     }
-    if println!(console; "listening on {address}").is_err() {
+    if !prints_addresses(console, address, line) {
         return Err(JobFault::Unwritten);
     }
     Ok(())
 }
 
-/// The port of the line, or, if that is 0, the one that the operating system gave.
-fn port_of(line: &Serve, address: SocketAddr) -> u16
-    ensures { line.now.port ≢ 0 → result ≡ line.now.port }
-{
-    if line.port == 0 {
-        address.port()
-    } else {
-        line.port
-    }
-}
-
 /// The settings that the line asks for.
 fn options_of(line: &Serve) -> ServeOptions
     ensures idle { MatchOption result.idle (line.now.idle ≡ 0) (λ limit. as_nanos limit ≡ line.now.idle * 1_000_000_000) }
-    ensures clients { result.clients ≡ line.now.clients }
     ensures workers { result.workers ≡ line.now.schedulers }
 {
     ServeOptions {
@@ -184,19 +187,27 @@ fn options_of(line: &Serve) -> ServeOptions
             0 => None,
             seconds => Some(Duration::from_secs(u64::from(seconds))),
         },
-        clients: usize::from(line.clients),
+        clients: place_count(line),
         workers: usize::from(line.schedulers),
+        has_http: line.socket.is_some(),
     }
 }
 
 /// The outcome of a node that ended for this reason.
-fn outcome<'l>(line: &Serve<'l>, address: SocketAddr, ended: Ended) -> Result<(), JobFault<'l>>
-    ensures done { OnOk result (ended ≡ Ended.Served) }
+fn outcome<'l>(
+    line: &Serve<'l>,
+    address: Option<SocketAddr>,
+    ended: Ended,
+) -> Result<(), JobFault<'l>>
+    ensures done { OnOk result ((ended ≡ Ended.Served) ⊎ (ended ≡ Ended.Asked)) }
     ensures fault { IfErr result (IsOfPort line.now.port) }
 {
     match ended {
-        Ended::Served => Ok(()),
-        Ended::NetFailed(os_error) => Err(JobFault::Net(port_of(line, address), os_error)),
+        Ended::Served | Ended::Asked => Ok(()),
+        Ended::PortFailed(os_error) => Err(port_fault(line, address, os_error)),
+        Ended::SocketFailed(os_error) => {
+            Err(socket_fault(line, SocketFaultKind::Failed(os_error)))
+        }
         Ended::Shut => Err(JobFault::JournalFull),
         Ended::NoWorker => Err(JobFault::NoMemory),
     }
@@ -232,6 +243,26 @@ fn helpers_of<'a, B: NodeBrand + QueueBrand, R>(
     helpers
 }
 
+/// Adds the thread that answers requests behind the helpers that serve connections, so that it is started before them.
+fn with_http_thread<'a, B: NodeBrand + QueueBrand, R>(
+    rt: &'a R,
+    alloc: Global,
+    shared: &'a Shared<B>,
+    http: Option<&'a Listener>,
+    acceptor: &'a Acceptor<'a>,
+    helpers: Vec<ServeHelper<'a, B, R>>,
+) -> Vec<ServeHelper<'a, B, R>> {
+    let mut helpers = helpers;
+    let Some(listener) = http else {
+        return helpers;
+    };
+    let helper: ServeHelper<'a, B, R> = ServeHelper::Http(HttpThread::new(
+        rt, alloc, shared, listener, acceptor,
+    ));
+    let _ = helpers.push(helper);
+    helpers
+}
+
 /// Adds the thread of the journal's file as the last of the helpers, so that it is started first.
 fn with_journal_thread<'a, B: NodeBrand + QueueBrand, R>(
     rt: &'a R,
@@ -260,6 +291,7 @@ fn put_helpers<B: NodeBrand + QueueBrand, R>(
         match helper {
             ServeHelper::Connections(thread) => parts.put(thread.into_context()),
             ServeHelper::Journal(_thread) => {}
+            ServeHelper::Http(_thread) => {}
         }
     }
 }
@@ -297,6 +329,8 @@ fn serve_connections<
     );
     let mut first = ConnectionThread::new(rt, alloc, shared, acceptor, 0, desk, options);
     let helpers = helpers_of(rt, alloc, shared, acceptor, link, options, &mut clients);
+    let http = acceptor.endpoint().http;
+    let helpers = with_http_thread(rt, alloc, shared, http, acceptor, helpers);
     let helpers = with_journal_thread(rt, shared, link, handle, helpers);
     let (schedulers, helpers) = run_with_helpers(
         rt, shared, &gate, &clock, schedulers, helpers, &mut first,
@@ -430,10 +464,10 @@ fn closed<'l, B: NodeBrand + QueueBrand, R: Log>(
 
 /// How many queues a node has: one for each scheduler, and one for each thread that serves connections.
 fn queues_of(line: &Serve) -> usize {
-    usize::from(line.schedulers) + usize::from(line.clients)
+    usize::from(line.schedulers) + place_count(line)
 }
 
-/// Serves the connections to a listener with a node, which is new or comes back from its journal's file, and closes the node. `Mismatch`
+/// Serves the connections to what is listened on with a node, which is new or comes back from its journal's file, and closes the node. `Mismatch`
 /// where the thread contexts aren't all of the node's, `ProcessesOut` where a worker didn't commit a process that it had checked out,
 /// `NoMemory` where memory is refused for the pids that are left in the queues. The closed node, which is given back if all went well,
 /// shows that it was closed.
@@ -505,10 +539,87 @@ fn opened<'l, R: rt::Files<File = File> + Clock>(
     }
 }
 
-fn net_failed<'l>(line: &Serve<'l>, error: &Error) -> JobFault<'l>
-    ensures { IsOfPort line.now.port result }
+/// The sockets by which what is listened on, and the connections that are served, can be shut.
+fn open_sockets<'l>(
+    alloc: Global,
+    listening: &Listening,
+    line: &Serve<'l>,
+) -> Result<OpenSockets, JobFault<'l>>
+    ensures fault { IfErr result (IsOfPort line.now.port) }
 {
-    JobFault::Net(line.port, OsError::of(error))
+    let Ok(served) = ServedConnections::none(alloc, place_count(line)) else {
+        return Err(JobFault::NoMemory);
+    };
+    let mut sockets = OpenSockets::new(alloc, served);
+    if let Some(served) = &listening.listeners.port {
+        if let Err(error) = sockets.add(&served.listener) {
+            return Err(port_fault(line, None, OsError::of(&error)));
+        }
+    }
+    if let Some(served) = &listening.listeners.socket {
+        if let Err(error) = sockets.add(&served.listener) {
+            return Err(socket_fault(line, SocketFaultKind::Failed(OsError::of(&error))));
+        }
+    }
+    Ok(sockets)
+}
+
+/// Serves the connections to what is listened on with a node, as `serve` says.
+fn serve_at<
+    'l,
+    R: Net<Listener = TcpListener, Stream = TcpStream>
+        + Threads
+        + Wait
+        + Clock
+        + rt::Files<File = File>
+        + AllocGlobal
+        + Sync,
+    C: Print + Eprint + Clock + Sync,
+>(
+    rt: &R,
+    console: &C,
+    terminal: Option<&C>,
+    lines: &LogLines,
+    listening: &Listening,
+    opened: Option<OpenJournal>,
+    line: &Serve<'l>,
+) -> Result<(), JobFault<'l>>
+    requires at_first { IfSome opened (λ o. HasRead o.reader []) }
+    ensures fault { IfErr result (IsOfPort line.now.port) }
+{
+    let Ok(unbranded) = UnbrandedKeeper::new(rt.alloc()) else {
+        return Err(JobFault::NoMemory);
+    };
+    let Ok(queues) = queue::UnbrandedQueues::new(rt.alloc(), queues_of(line)) else {
+        return Err(JobFault::NoMemory);
+    };
+    let sockets = open_sockets(rt.alloc(), listening, line)?;
+    let reserve = MemoryReserve::new(rt.alloc());
+    let readiness = Readiness::new();
+    let endpoint = Endpoint {
+        listeners: &listening.listeners,
+        http: listening.http.as_ref(),
+        sockets: &sockets,
+        address: listening.address,
+        reserve: &reserve,
+        readiness: &readiness,
+    };
+    let log = logged(rt, console, lines, line.log);
+    match serve_node::<FileSystem<'_, R>, Brand, _, _>(
+        &log,
+        console,
+        terminal,
+        rt.alloc(),
+        unbranded,
+        queues,
+        endpoint,
+        opened,
+        &mut FileSystem(rt),
+        line,
+    ) {
+        Ok(_closed) => Ok(()),
+        Err(fault) => Err(fault),
+    }
 }
 
 /// Listens on the port of 127.0.0.1, loads the files and starts the process of the line, prints the address on the console, and serves the
@@ -548,48 +659,8 @@ pub fn serve<
     ensures fault { IfErr result (IsOfPort line.now.port) }
 {
     let opened = opened(rt, rt.alloc(), line)?;
-    let Ok(unbranded) = UnbrandedKeeper::new(rt.alloc()) else {
-        return Err(JobFault::NoMemory);
-    };
-    let Ok(queues) = queue::UnbrandedQueues::new(rt.alloc(), queues_of(line)) else {
-        return Err(JobFault::NoMemory);
-    };
-    let listener = match TcpListener::bind(rt, ("127.0.0.1", line.port)) {
-        Ok(listener) => listener,
-        Err(error) => return Err(net_failed(line, &error)),
-    };
-    let address = match listener.local_addr() {
-        Ok(address) => address,
-        Err(error) => return Err(net_failed(line, &error)),
-    };
-    let Ok(served) = ServedConnections::none(rt.alloc(), line.clients) else {
-        return Err(JobFault::NoMemory);
-    };
-    let sockets = match OpenSockets::new(&listener, served) {
-        Ok(sockets) => sockets,
-        Err(error) => return Err(net_failed(line, &error)),
-    };
-    let reserve = MemoryReserve::new(rt.alloc());
-    let endpoint = Endpoint {
-        listener: &listener,
-        sockets: &sockets,
-        address,
-        reserve: &reserve,
-    };
-    let log = logged(rt, console, lines, line.log);
-    match serve_node::<FileSystem<'_, R>, Brand, _, _>(
-        &log,
-        console,
-        terminal,
-        rt.alloc(),
-        unbranded,
-        queues,
-        endpoint,
-        opened,
-        &mut FileSystem(rt),
-        line,
-    ) {
-        Ok(_closed) => Ok(()),
-        Err(fault) => Err(fault),
-    }
+    let listening = listen(rt, rt.alloc(), line)?;
+    let ended = serve_at(rt, console, terminal, lines, &listening, opened, line);
+    listening.remove_files(rt);
+    ended
 }

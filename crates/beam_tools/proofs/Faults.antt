@@ -102,6 +102,9 @@ wrong_call words line (wrong.NoLevel text) is h = absurd h
 wrong_call words line (wrong.NoStart text) is h = absurd h
 wrong_call words line (wrong.NoSync text) is h = absurd h
 wrong_call words line wrong.StopsWithJournal is h = absurd h
+wrong_call words line (wrong.NoMode text) is h = absurd h
+wrong_call words line (wrong.LongSocket path) is h = absurd h
+wrong_call words line wrong.NoAddress is h = absurd h
 wrong_call words line (wrong.NoRange text) is h = absurd h
 wrong_call words line wrong.PipesAndPrints is h = absurd h
 

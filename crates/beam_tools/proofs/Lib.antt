@@ -4,6 +4,7 @@ pub mod Faults
 pub mod Jobs
 pub mod Left
 mod Loaded
+mod Modes
 mod Numbers
 pub mod TextLines
 mod Rows

@@ -35,6 +35,9 @@ before_word (wrong.NoLevel text) = codes "--log "
 before_word (wrong.NoStart text) = codes "--start "
 before_word (wrong.NoSync text) = codes "--sync "
 before_word wrong.StopsWithJournal = codes "--stop-when-full and --journal exclude each other"
+before_word (wrong.NoMode text) = codes "--socket-mode "
+before_word (wrong.LongSocket path) = codes "--socket "
+before_word wrong.NoAddress = codes "neither --port nor --socket"
 before_word (wrong.NoRange text) = codes "--print "
 before_word wrong.PipesAndPrints = codes "--pipe excludes --print and --inspect"
 
@@ -51,6 +54,9 @@ word_of (wrong.NoLevel text) = text.now
 word_of (wrong.NoStart text) = text.now
 word_of (wrong.NoSync text) = text.now
 word_of wrong.StopsWithJournal = []
+word_of (wrong.NoMode text) = text.now
+word_of (wrong.LongSocket path) = path.now
+word_of wrong.NoAddress = []
 word_of (wrong.NoRange text) = text.now
 word_of wrong.PipesAndPrints = []
 
@@ -61,6 +67,8 @@ after_word (wrong.NoList text) = codes " is no list of at most 255 terms"
 after_word (wrong.NoLevel text) = codes " is none of error, warn and info"
 after_word (wrong.NoStart text) = codes " is no M:F"
 after_word (wrong.NoSync text) = codes " is none of always, second and no"
+after_word (wrong.NoMode text) = codes " is no mode of one to four octal digits up to 777"
+after_word (wrong.LongSocket path) = codes " has more than 102 bytes"
 after_word (wrong.NoRange text) = codes " is no FROM..TO"
 after_word _ = []
 

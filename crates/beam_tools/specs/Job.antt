@@ -1,14 +1,14 @@
 -- What a command line of `beamnode` leaves to be done, and the messages about its end.
-use Rattle.std.specs.Prelude.{◌≡◌, ◌≢◌, ◌++◌, ◌<◌, ◌⊎◌, ⊤, ℕ, List, [], Option, Some, codes, if◌then◌else◌, length}
+use Rattle.std.specs.Prelude.{◌≡◌, ◌≢◌, ◌++◌, ◌<◌, ◌⊎◌, ⊤, ℕ, List, [], Option, Some, None, codes, if◌then◌else◌, length}
 use Rattle.std.specs.Str.{chars}
 use Rattle.std.specs.Fmt.{decimal}
 use Rattle.clap.specs.Words.{Text}
 use Rattle.beam_machine.specs.declared.event.Refused.{Refused}
 use Rattle.beam_remote.specs.declared.error.SessionFailure.{SessionFailure as SessionWhy}
 use Rattle.beam_tools.specs.Fault.{is_verbose, message_of}
-use Rattle.beam_tools.specs.Names.{journal_fault_name, newline, refusal_name, session_name}
+use Rattle.beam_tools.specs.Names.{journal_fault_name, newline, refusal_name, session_name, socket_fault_name}
 use Rattle.beam_tools.specs.Options.{Line, pipe, replay, replay_line, serve, serve_line}
-use Rattle.beam_tools.specs.Place.{file_place, journal_place, os_error_line}
+use Rattle.beam_tools.specs.Place.{file_place, journal_place, os_error_line, socket_place}
 use Rattle.beam_tools.specs.declared.fault.RunFault.TheVariants.{File}
 use Rattle.beam_tools.specs.declared.job.Job.{Job}
 use Rattle.beam_tools.specs.declared.job.Job.TheVariants.{Done, Pipe, Replay, Serve}
@@ -16,8 +16,9 @@ use Rattle.beam_tools.specs.declared.job.JobFault.{JobFault}
 use Rattle.beam_tools.specs.declared.job.JobFault.TheVariants as fault
 use Rattle.beam_tools.specs.declared.journal_fault.JournalFault.{JournalFault}
 use Rattle.beam_tools.specs.declared.program.Program.TheVariants.{Node}
+use Rattle.beam_tools.specs.declared.socket_fault.SocketFault.{SocketFault}
 
--- a line that asks for a session over the standard streams, to serve a port, or for a replay
+-- a line that asks for a session over the standard streams, to serve connections, or for a replay
 abbrev pub IsService : Option Line → Type 0
 IsService (Some pipe) = ⊤
 IsService (Some (serve line)) = ⊤
@@ -52,10 +53,15 @@ start_message refused = codes "beamnode: serve: " ++ refusal_name refused ++ new
 abbrev pub journal_message : JournalFault → List ℕ
 journal_message f = codes "beamnode: " ++ f.name.now ++ codes ": " ++ journal_fault_name f.why ++ newline
 
+-- the message about a socket
+abbrev pub socket_message : SocketFault → List ℕ
+socket_message f = codes "beamnode: " ++ f.path.now ++ codes ": " ++ socket_fault_name f.why ++ newline
+
 -- the message about a job that isn't done to its end
 abbrev pub job_message : JobFault → List ℕ
 job_message (fault.Pipe why os_error) = session_message why
 job_message (fault.Net port os_error) = port_message port
+job_message (fault.Socket f) = socket_message f
 job_message (fault.File f) = message_of Node (File f)
 job_message (fault.Start refused) = start_message refused
 job_message fault.LongName = codes "beamnode: serve: TooLong\n"
@@ -72,6 +78,7 @@ job_message (fault.LongView name) = codes "beamnode: " ++ name.now ++ codes ": T
 abbrev pub job_place : JobFault → List ℕ
 job_place (fault.Pipe why (Some os_error)) = os_error_line os_error
 job_place (fault.Net port os_error) = os_error_line os_error
+job_place (fault.Socket f) = socket_place f.why
 job_place (fault.File f) = file_place [] f.why
 job_place (fault.Journal f) = journal_place f.why
 job_place _ = []
@@ -80,10 +87,15 @@ job_place _ = []
 abbrev pub job_text : List Text → JobFault → List ℕ
 job_text words f = job_message f ++ (if is_verbose words then job_place f else [])
 
--- a network fault is of this port; if that is 0, of the port that the operating system gave
-abbrev pub IsOfPort : ℕ → JobFault → Type 0
+-- the port that was asked for; if that is 0, any; no port, where none was asked for
+abbrev pub IsAskedPort : Option ℕ → ℕ → Type 0
+IsAskedPort (Some port) p = port ≢ 0 → p ≡ port
+IsAskedPort None p = ⊥
+
+-- a network fault is of this port; if that is 0, of the port that the operating system gave; without a port there is none
+abbrev pub IsOfPort : Option ℕ → JobFault → Type 0
 IsOfPort port (fault.Pipe why os_error) = ⊥
-IsOfPort port (fault.Net p os_error) = port ≢ 0 → p ≡ port
+IsOfPort port (fault.Net p os_error) = IsAskedPort port p
 IsOfPort port _ = ⊤
 
 -- why no atom has this text; an allocation failure implies nothing

@@ -7,7 +7,7 @@ use Rattle.clap.specs.declared.error.kind.ErrorKind.{ErrorKind}
 use Rattle.clap.specs.declared.error.kind.ErrorKind.TheVariants as kind
 use Rattle.beam_term.specs.Prelude.{TermValue}
 use Rattle.beam_tools.specs.Call.{AreArguments}
-use Rattle.beam_tools.specs.Options.{CallLine, Line, call, inspect_in, is_pipe_set, is_stop_set, level_of, line_in, line_of, node_app, range_of, replay_in, serve_in, start_of, sync_of}
+use Rattle.beam_tools.specs.Options.{CallLine, Line, call, inspect_in, is_pipe_set, is_stop_set, level_of, line_in, line_of, mode_of, node_app, range_of, replay_in, serve_in, start_of, sync_of}
 use Rattle.beam_tools.specs.Program.{help_of, version_of}
 use Rattle.beam_tools.specs.declared.fault.RunFault.{RunFault}
 use Rattle.beam_tools.specs.declared.fault.RunFault.TheVariants as fault
@@ -53,6 +53,9 @@ ServeIsWrong rows (wrong.NoLevel text) = (first_of (codes "log") rows ≡ Some t
 ServeIsWrong rows (wrong.NoStart text) = (first_of (codes "start") rows ≡ Some text.now) × (start_of text.now ≡ None)
 ServeIsWrong rows (wrong.NoSync text) = (first_of (codes "sync") rows ≡ Some text.now) × (sync_of text.now ≡ None)
 ServeIsWrong rows wrong.StopsWithJournal = (is_stop_set rows ≡ true) × ((name : Text) × (first_of (codes "journal") rows ≡ Some name))
+ServeIsWrong rows (wrong.NoMode text) = (first_of (codes "socket-mode") rows ≡ Some text.now) × (mode_of text.now ≡ None)
+ServeIsWrong rows (wrong.LongSocket path) = (first_of (codes "socket") rows ≡ Some path.now) × (102 < length path.now)
+ServeIsWrong rows wrong.NoAddress = (first_of (codes "port") rows ≡ None) × (first_of (codes "socket") rows ≡ None)
 ServeIsWrong rows wrong.NoCommand = serve_in rows ≡ None
 ServeIsWrong rows _ = ⊥
 
@@ -97,6 +100,9 @@ WrongSays app words (wrong.NoLevel text) = AskToServeWrongly words (wrong.NoLeve
 WrongSays app words (wrong.NoStart text) = AskToServeWrongly words (wrong.NoStart text)
 WrongSays app words (wrong.NoSync text) = AskToServeWrongly words (wrong.NoSync text)
 WrongSays app words wrong.StopsWithJournal = AskToServeWrongly words wrong.StopsWithJournal
+WrongSays app words (wrong.NoMode text) = AskToServeWrongly words (wrong.NoMode text)
+WrongSays app words (wrong.LongSocket path) = AskToServeWrongly words (wrong.LongSocket path)
+WrongSays app words wrong.NoAddress = AskToServeWrongly words wrong.NoAddress
 WrongSays app words (wrong.NoRange text) = AskToReplayWrongly words (wrong.NoRange text)
 WrongSays app words wrong.PipesAndPrints = AskToReplayWrongly words wrong.PipesAndPrints
 
@@ -139,6 +145,9 @@ OptionsStop entered (stop.Wrong (wrong.NoLevel text)) = EntersWrongly entered (w
 OptionsStop entered (stop.Wrong (wrong.NoStart text)) = EntersWrongly entered (wrong.NoStart text)
 OptionsStop entered (stop.Wrong (wrong.NoSync text)) = EntersWrongly entered (wrong.NoSync text)
 OptionsStop entered (stop.Wrong wrong.StopsWithJournal) = EntersWrongly entered wrong.StopsWithJournal
+OptionsStop entered (stop.Wrong (wrong.NoMode text)) = EntersWrongly entered (wrong.NoMode text)
+OptionsStop entered (stop.Wrong (wrong.LongSocket path)) = EntersWrongly entered (wrong.LongSocket path)
+OptionsStop entered (stop.Wrong wrong.NoAddress) = EntersWrongly entered wrong.NoAddress
 OptionsStop entered (stop.Wrong (wrong.NoRange text)) = EntersReplayWrongly entered (wrong.NoRange text)
 OptionsStop entered (stop.Wrong wrong.PipesAndPrints) = EntersReplayWrongly entered wrong.PipesAndPrints
 OptionsStop entered stop.NoMemory = ⊤

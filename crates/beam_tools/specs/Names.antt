@@ -16,6 +16,8 @@ use Rattle.beam_tools.specs.declared.files.ReadError.{ReadError}
 use Rattle.beam_tools.specs.declared.files.ReadError.TheVariants as read
 use Rattle.beam_tools.specs.declared.journal_fault.JournalFaultKind.{JournalFaultKind}
 use Rattle.beam_tools.specs.declared.journal_fault.JournalFaultKind.TheVariants as journal
+use Rattle.beam_tools.specs.declared.socket_fault.SocketFaultKind.{SocketFaultKind}
+use Rattle.beam_tools.specs.declared.socket_fault.SocketFaultKind.TheVariants as socket
 
 abbrev pub read_name : ReadError → List ℕ
 read_name (read.ReadFailed os_error) = codes "ReadFailed"
@@ -71,6 +73,12 @@ journal_fault_name journal.Full = codes "JournalFull"
 journal_fault_name (journal.Unwritten os_error) = codes "WriteFailed"
 journal_fault_name (journal.Unsynced os_error) = codes "SyncFailed"
 journal_fault_name journal.Unspelled = codes "Unspelled"
+
+-- why a socket isn't listened on
+abbrev pub socket_fault_name : SocketFaultKind → List ℕ
+socket_fault_name socket.InUse = codes "SocketInUse"
+socket_fault_name socket.NoSocket = codes "NoSocket"
+socket_fault_name (socket.Failed os_error) = codes "NetFailed"
 
 abbrev pub newline : List ℕ
 newline = 10 ∷ []

@@ -1,8 +1,9 @@
 -- The command line of `beamnode`: the command, and what a line asks for.
 use Rattle.std.specs.Prelude.{◌∷◌, ◌==◌, ◌&&◌, ℕ, Bool, List, [], Option, Some, None, if◌then◌else◌, codes, false, length, map, nat_le, nat_lt, option_and_then, option_map, pos, true, unwrap_or}
 use Rattle.std.specs.Borrow.{Bor}
+use Rattle.std.specs.Char.{digit_value}
 use Rattle.std.specs.Str.{bytes_eq}
-use Rattle.std.specs.List.{after_first, before_first, position_or_len}
+use Rattle.std.specs.List.{after_first, before_first, list_all, position_or_len}
 use Rattle.std.specs.Option.{option_map_or}
 use Rattle.std.specs.Str.Parse.{digits_value, without_leading_plus}
 use Rattle.clap.specs.ValueTests.{is_unsigned_in}
@@ -19,10 +20,12 @@ use Rattle.beam_tools.specs.declared.line.Replay.{Replay as ReplayOptions}
 use Rattle.beam_tools.specs.declared.line.ReplayGoal.{ReplayGoal}
 use Rattle.beam_tools.specs.declared.line.ReplayGoal.TheVariants as goal
 use Rattle.beam_tools.specs.declared.line.Serve.{Serve as ServeOptions}
+use Rattle.beam_tools.specs.declared.line.SocketOptions.{SocketOptions}
 use Rattle.beam_tools.specs.declared.line.Start.{Start}
 use Rattle.beam_tools.specs.declared.line.SyncMode.{SyncMode}
 use Rattle.beam_tools.specs.declared.line.SyncMode.TheVariants.{Always, No, Second}
 use Rattle.beam_tools.specs.declared.line.Options.TheVariants as options
+use Rattle.beam_tools.specs.declared.serve_options.Addresses.{Addresses}
 use Rattle.beam_tools.specs.declared.serve_options.ServeNumbers.{ServeNumbers}
 
 -- ---- the command
@@ -52,7 +55,22 @@ steps_rule = record (option_rule (codes "steps")) {
 
 -- `--port P`, a number of 16 bits
 abbrev pub port_rule : Rule
-port_rule = record (option_rule (codes "port")) { required = true; parser = Some (vp.Signed (pos 0) (pos 65535)) }
+port_rule = record (option_rule (codes "port")) { parser = Some (vp.Signed (pos 0) (pos 65535)) }
+
+-- `--socket PATH`
+abbrev pub socket_rule : Rule
+socket_rule = option_rule (codes "socket")
+
+-- `--socket-mode MODE`, 600 where it is left out
+abbrev pub socket_mode_rule : Rule
+socket_mode_rule = record (option_rule (codes "socket-mode")) { defaults = codes "600" ∷ [] }
+
+-- `--socket-clients S`, from 1 to 16, 4 where it is left out
+abbrev pub socket_clients_rule : Rule
+socket_clients_rule = record (option_rule (codes "socket-clients")) {
+  defaults = codes "4" ∷ [];
+  parser = Some (vp.Signed (pos 1) (pos 16));
+}
 
 -- `--connections K`, a number of 32 bits, 0 where it is left out
 abbrev pub connections_rule : Rule
@@ -125,16 +143,20 @@ call_app =
 abbrev pub pipe_app : App
 pipe_app = with_rule (new_app (codes "pipe")) verbose_rule
 
--- `serve`, of which these are the first options
-abbrev pub port_app : App
-port_app =
-    with_rule (with_rule (with_rule (with_rule (with_rule (new_app (codes "serve")) verbose_rule) port_rule) connections_rule) clients_rule)
-    schedulers_rule
+-- `serve`, of which these are the first options: where it listens
+abbrev pub address_app : App
+address_app =
+    with_rule (with_rule (with_rule (with_rule (with_rule (new_app (codes "serve")) verbose_rule) port_rule) socket_rule) socket_mode_rule)
+    socket_clients_rule
 
--- then come those about its log and its journal
+-- then come those about its connections and its threads
+abbrev pub threads_app : App
+threads_app = with_rule (with_rule (with_rule address_app connections_rule) clients_rule) schedulers_rule
+
+-- and those about its log and its journal
 abbrev pub journal_app : App
 journal_app =
-    with_rule (with_rule (with_rule (with_rule (with_rule (with_rule port_app log_rule) idle_rule) stop_rule) journal_rule) journal_file_rule) sync_rule
+    with_rule (with_rule (with_rule (with_rule (with_rule (with_rule threads_app log_rule) idle_rule) stop_rule) journal_rule) journal_file_rule) sync_rule
 
 abbrev pub serve_app : App
 serve_app = with_rule (with_rule journal_app start_rule) more_files_rule
@@ -186,12 +208,19 @@ pub record StartLine : Type 0 where
   pub module_name : Text
   pub function_name : Text
 
--- the arguments of `serve`: the port; how many connections are served, 0 for no end, and how many at once; how many scheduler threads run;
--- how much is logged; the seconds after which a silent session ends, 0 for never; whether the node ends when its journal is full; how many
--- entries the journal may have; the files to load; the function with which a process starts then; the file that keeps the journal, and
--- when it is put on the device
+-- a Unix-domain socket: its path, the mode of its file, and how many of its connections are served at once
+pub record SocketLine : Type 0 where
+  pub path : Text
+  pub mode : ℕ
+  pub clients : ℕ
+
+-- the arguments of `serve`: the port, if any, and the socket, if any; how many connections are served, 0 for no end, and how many of the
+-- port at once; how many scheduler threads run; how much is logged; the seconds after which a silent session ends, 0 for never; whether the
+-- node ends when its journal is full; how many entries the journal may have; the files to load; the function with which a process starts
+-- then; the file that keeps the journal, and when it is put on the device
 pub record ServeLine : Type 0 where
-  pub port : ℕ
+  pub port : Option ℕ
+  pub socket : Option SocketLine
   pub connections : ℕ
   pub clients : ℕ
   pub schedulers : ℕ
@@ -266,20 +295,65 @@ start_with (c ∷ cs) (d ∷ ds) = Some (record { module_name = c ∷ cs; functi
 abbrev pub start_of : Text → Option StartLine
 start_of text = start_with (before_first is_colon text) (after_first is_colon text)
 
+-- one to four octal digits
+abbrev pub is_octal : Text → Bool
+is_octal text = nat_lt 0 (length text) && nat_le (length text) 4 && list_all (λ c. nat_lt (digit_value c) 8) text
+
+-- the mode that one to four octal digits write, up to 777
+abbrev pub mode_of : Text → Option ℕ
+mode_of text = if is_octal text && nat_le (digits_value 8 text) 511 then Some (digits_value 8 text) else None
+
+-- where a service listens: at a port of 127.0.0.1, at a socket, or at both
+pub record AddressLines : Type 0 where
+  pub port : Option ℕ
+  pub socket : Option SocketLine
+
+-- the port, where one is given
+abbrev pub port_given : Option Text → Option ℕ → Option (Option ℕ)
+port_given None port = Some None
+port_given (Some text) port = option_map Some port
+
+abbrev pub port_in : List Row → Option (Option ℕ)
+port_in rows = port_given (first_of (codes "port") rows) (option_and_then port_of (one_of (codes "port") rows))
+
+abbrev pub mode_in : List Row → Option ℕ
+mode_in rows = option_and_then mode_of (first_of (codes "socket-mode") rows)
+
+-- the socket of this path, which has at most 102 bytes
+abbrev pub socket_at : ℕ → ℕ → Text → Option SocketLine
+socket_at mode clients path = if nat_lt 102 (length path) then None else Some (record { path = path; mode = mode; clients = clients })
+
+-- the socket, where a path is given
+abbrev pub socket_with : Option ℕ → Option ℕ → Option Text → Option (Option SocketLine)
+socket_with (Some mode) (Some clients) None = Some None
+socket_with (Some mode) (Some clients) (Some path) = option_map Some (socket_at mode clients path)
+socket_with _ _ _ = None
+
+abbrev pub socket_in : List Row → Option (Option SocketLine)
+socket_in rows = socket_with (mode_in rows) (option_and_then count_of (one_of (codes "socket-clients") rows)) (first_of (codes "socket") rows)
+
+-- the addresses of a service, of which there is at least one
+abbrev pub addresses_with : Option (Option ℕ) → Option (Option SocketLine) → Option AddressLines
+addresses_with (Some (Some port)) (Some socket) = Some (record { port = Some port; socket = socket })
+addresses_with (Some None) (Some (Some socket)) = Some (record { port = None; socket = Some socket })
+addresses_with _ _ = None
+
+abbrev pub addresses_in : List Row → Option AddressLines
+addresses_in rows = addresses_with (port_in rows) (socket_in rows)
+
 -- the numbers of a service, if each of them is there
-abbrev pub numbers_with : Option ℕ → Option ℕ → Option ℕ → Option ℕ → Option ℕ → Option ℕ → Option ServeNumbers
-numbers_with (Some port) (Some connections) (Some clients) (Some schedulers) (Some idle) (Some limit) = Some (record {
-  port = port;
+abbrev pub numbers_with : Option ℕ → Option ℕ → Option ℕ → Option ℕ → Option ℕ → Option ServeNumbers
+numbers_with (Some connections) (Some clients) (Some schedulers) (Some idle) (Some limit) = Some (record {
   connections = connections;
   clients = clients;
   schedulers = schedulers;
   idle = idle;
   journal_limit = limit;
 })
-numbers_with _ _ _ _ _ _ = None
+numbers_with _ _ _ _ _ = None
 
 abbrev pub numbers_in : List Row → Option ServeNumbers
-numbers_in rows = numbers_with (option_and_then port_of (one_of (codes "port") rows)) (option_and_then number_of (one_of (codes "connections") rows))
+numbers_in rows = numbers_with (option_and_then number_of (one_of (codes "connections") rows))
     (option_and_then count_of (one_of (codes "clients") rows)) (option_and_then count_of (one_of (codes "schedulers") rows))
     (option_and_then number_of (one_of (codes "idle") rows)) (option_and_then number_of (one_of (codes "journal-limit") rows))
 
@@ -319,9 +393,11 @@ files_in rows = unwrap_or (all_of (codes "file") rows) []
 
 -- a service with these parts, if each of them is there
 abbrev pub serve_with :
-    Option ServeNumbers → Option LogLevel → Option (Option StartLine) → Option (Option Text) → Option SyncMode → Bool → List Text → Option Line
-serve_with (Some n) (Some log) (Some start) (Some journal) (Some sync) stops files = Some (serve (record {
-  port = n.port;
+    Option ServeNumbers → Option AddressLines → Option LogLevel → Option (Option StartLine) → Option (Option Text) → Option SyncMode → Bool → List Text
+    → Option Line
+serve_with (Some n) (Some addresses) (Some log) (Some start) (Some journal) (Some sync) stops files = Some (serve (record {
+  port = addresses.port;
+  socket = addresses.socket;
   connections = n.connections;
   clients = n.clients;
   schedulers = n.schedulers;
@@ -334,11 +410,12 @@ serve_with (Some n) (Some log) (Some start) (Some journal) (Some sync) stops fil
   journal = journal;
   sync = sync;
 }))
-serve_with _ _ _ _ _ _ _ = None
+serve_with _ _ _ _ _ _ _ _ = None
 
 -- the service in the matches of `serve`
 abbrev pub serve_in : List Row → Option Line
-serve_in rows = serve_with (numbers_in rows) (log_in rows) (start_in rows) (journal_in rows) (sync_in rows) (is_stop_set rows) (files_in rows)
+serve_in rows = serve_with (numbers_in rows) (addresses_in rows) (log_in rows) (start_in rows) (journal_in rows) (sync_in rows) (is_stop_set rows)
+    (files_in rows)
 
 -- a number is less than the end of a range, if there is one
 abbrev pub is_before : ℕ → Option ℕ → Bool
@@ -447,9 +524,16 @@ call_line c = record {
 abbrev pub start_line : Start → StartLine
 start_line s = record { module_name = s.module.now; function_name = s.function.now }
 
+abbrev pub socket_line : SocketOptions → SocketLine
+socket_line s = record { path = s.path.now; mode = s.mode; clients = s.clients }
+
+abbrev pub address_lines : Addresses → AddressLines
+address_lines a = record { port = a.port; socket = option_map socket_line a.socket }
+
 abbrev pub serve_line : ServeOptions → ServeLine
 serve_line s = record {
   port = s.port;
+  socket = option_map socket_line s.socket;
   connections = s.connections;
   clients = s.clients;
   schedulers = s.schedulers;

@@ -13,6 +13,8 @@ use Rattle.beam_tools.specs.declared.files.ReadError.TheVariants.{ReadFailed}
 use Rattle.beam_tools.specs.declared.journal_fault.JournalFaultKind.{JournalFaultKind}
 use Rattle.beam_tools.specs.declared.journal_fault.JournalFaultKind.TheVariants as journal
 use Rattle.beam_tools.specs.declared.os_error.OsError.{OsError}
+use Rattle.beam_tools.specs.declared.socket_fault.SocketFaultKind.{SocketFaultKind}
+use Rattle.beam_tools.specs.declared.socket_fault.SocketFaultKind.TheVariants.{Failed}
 use Rattle.beam_tools.specs.declared.early_exit.Wrong.{Wrong as WrongLine}
 use Rattle.beam_tools.specs.declared.early_exit.Wrong.TheVariants.{Words}
 
@@ -98,6 +100,11 @@ journal_place (journal.Unwritten os_error) = os_error_line os_error
 journal_place (journal.Unsynced os_error) = os_error_line os_error
 journal_place (journal.Bad at entry) = bad_line at entry
 journal_place _ = []
+
+-- more about the fault of a socket: the operating system's error
+abbrev pub socket_place : SocketFaultKind → List ℕ
+socket_place (Failed os_error) = os_error_line os_error
+socket_place _ = []
 
 -- where a fault lies, or nothing where that isn't known; of an exit, the lines about the end of process 1
 abbrev pub place_text : List ℕ → RunFault → List ℕ

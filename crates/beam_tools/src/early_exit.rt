@@ -26,6 +26,12 @@ pub enum Wrong<'a> {
     NoSync(&'a str),
     /// A node that ends when its journal is full is to keep the journal in a file.
     StopsWithJournal,
+    /// Text that isn't the mode of a socket's file: one to four octal digits, up to 777.
+    NoMode(&'a str),
+    /// The path of a socket that has more than 102 bytes.
+    LongSocket(&'a str),
+    /// Neither a port nor a socket is named.
+    NoAddress,
     /// Text that isn't two numbers with two full stops between, of which the first is at most the second.
     NoRange(&'a str),
     /// A replay that answers commands is to print entries or a process.
@@ -47,6 +53,9 @@ impl Drop for Wrong<'_> {
             | Wrong::NoStart(_)
             | Wrong::NoSync(_)
             | Wrong::StopsWithJournal
+            | Wrong::NoMode(_)
+            | Wrong::LongSocket(_)
+            | Wrong::NoAddress
             | Wrong::NoRange(_)
             | Wrong::PipesAndPrints => {}
         }

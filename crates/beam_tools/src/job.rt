@@ -4,7 +4,7 @@ ghost use Rattle.std.specs.Io.KnownBytes.{append_known};
 ghost use Rattle.clap.specs.Walk.{texts};
 ghost use Rattle.beam_machine.specs.declared.event.Event.TheVariants.{Spawn};
 ghost use Rattle.beam_tools.specs.Job.{NamingSays, StartingSays, job_message, job_place, job_text};
-ghost use Rattle.beam_tools.specs.Job.{journal_message, port_message, session_message, start_message};
+ghost use Rattle.beam_tools.specs.Job.{journal_message, port_message, session_message, socket_message, start_message};
 ghost use Rattle.beam_tools.specs.Names.{session_name};
 
 use crate::errors::{Errors, tell_three, tell_two};
@@ -12,9 +12,10 @@ use crate::fault::{FileFault, refusal_name};
 use crate::journal_fault::JournalFault;
 use crate::line::{Replay, Serve, Start};
 use crate::os_error::OsError;
-use crate::place::{tell_file_place, tell_journal_place, tell_os_error};
+use crate::place::{tell_file_place, tell_journal_place, tell_os_error, tell_socket_place};
 use crate::program::Program;
 use crate::report::{is_verbose, tell_file};
+use crate::socket_fault::SocketFault;
 use beam_image::Image;
 use beam_machine::event::{Event, Refused, SpawnArguments};
 use beam_remote::SessionFailure;
@@ -29,7 +30,7 @@ pub enum Job<'a> {
     Done(u8),
     /// The commands on standard input are answered on standard output.
     Pipe,
-    /// The commands of connections to a port are answered.
+    /// The commands of connections to a port or to a socket are answered.
     Serve(Serve<'a>),
     /// The entries of a journal's file are run again.
     Replay(Replay<'a>),
@@ -42,6 +43,8 @@ pub enum JobFault<'a> {
     Pipe(SessionFailure, Option<OsError>),
     /// Listening or accepting fails at this port of 127.0.0.1: the operating system's error.
     Net(u16, OsError),
+    /// The socket can't be listened on, or accepting at it fails.
+    Socket(SocketFault<'a>),
     /// A file can't be loaded.
     File(FileFault<'a>),
     /// The node refuses to start the process.
@@ -115,6 +118,13 @@ fn tell_journal<E: Errors>(fault: &JournalFault<'_>, errors: &mut E)
     tell_two(fault.why.name().as_bytes(), b"\n", errors);
 }
 
+fn tell_socket<E: Errors>(fault: &SocketFault<'_>, errors: &mut E)
+    ensures { E.told errors.new ≡ append_known (E.told errors.old) (socket_message fault.now) }
+{
+    tell_three(b"beamnode: ", fault.path.as_bytes(), b": ", errors);
+    tell_two(fault.why.name().as_bytes(), b"\n", errors);
+}
+
 fn tell_file_end<E: Errors>(name: &str, end: &[u8], errors: &mut E)
     ensures { E.told errors.new ≡ append_known (E.told errors.old) (codes "beamnode: " ++ name.now ++ end.now) }
 {
@@ -127,6 +137,7 @@ fn tell_fault<E: Errors>(fault: &JobFault<'_>, errors: &mut E)
     match fault {
         JobFault::Pipe(why, _) => tell_session(*why, errors),
         JobFault::Net(port, _) => tell_net(*port, errors),
+        JobFault::Socket(socket) => tell_socket(socket, errors),
         JobFault::File(file) => tell_file(Program::Node, file, errors),
         JobFault::Start(refused) => tell_start(*refused, errors),
         JobFault::LongName => errors.tell(b"beamnode: serve: TooLong\n"),
@@ -148,6 +159,7 @@ fn tell_cause<E: Errors>(fault: &JobFault<'_>, errors: &mut E)
     match fault {
         JobFault::Pipe(_, Some(os_error)) => tell_os_error(*os_error, errors),
         JobFault::Net(_, os_error) => tell_os_error(*os_error, errors),
+        JobFault::Socket(socket) => tell_socket_place(socket.why, errors),
         JobFault::File(file) => tell_file_place(file.why, &[], errors),
         JobFault::Journal(journal) => tell_journal_place(journal.why, errors),
         _ => {}

@@ -34,6 +34,7 @@ pub mod report;
 mod reserved_word;
 pub mod rounds;
 pub mod serve_options;
+pub mod socket_fault;
 pub mod table;
 pub mod thread;
 pub mod values;

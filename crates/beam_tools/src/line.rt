@@ -9,7 +9,7 @@ pub enum Options<'a> {
     Call(Call<'a>),
     /// Answer the commands on standard input.
     Pipe,
-    /// Answer the commands of connections to a port.
+    /// Answer the commands of connections to a port or to a socket.
     Serve(Serve<'a>),
     /// Run the entries of a journal's file again.
     Replay(Replay<'a>),
@@ -41,7 +41,7 @@ impl Drop for Call<'_> {
     }
 }
 
-/// How much is logged while a port is served.
+/// How much is logged while connections are served.
 #[derive(Clone, Copy)]
 pub enum LogLevel {
     /// Only what goes wrong.
@@ -72,13 +72,26 @@ pub struct Start<'a> {
     pub function: &'a str,
 }
 
+/// A Unix-domain socket that is listened on.
+#[derive(Clone, Copy)]
+pub struct SocketOptions<'a> {
+    /// Its path, of at most 102 bytes.
+    pub path: &'a str,
+    /// The mode of its file, from 0 to 0o777.
+    pub mode: u32,
+    /// How many of its connections are served at once, from 1 to 16.
+    pub clients: u8,
+}
+
 /// The options of `beamnode serve`.
 pub struct Serve<'a> {
-    /// The port of 127.0.0.1; 0 for one that is free.
-    pub port: u16,
+    /// The port of 127.0.0.1; 0 for one that is free; none where there is a socket alone.
+    pub port: Option<u16>,
+    /// The socket, if any. There is a port, a socket or both.
+    pub socket: Option<SocketOptions<'a>>,
     /// How many connections are served; 0 for no end.
     pub connections: u32,
-    /// How many connections are served at once, from 1 to 16.
+    /// How many connections to the port are served at once, from 1 to 16.
     pub clients: u8,
     /// How many scheduler threads run, from 1 to 64.
     pub schedulers: u8,
@@ -104,6 +117,7 @@ impl Drop for Serve<'_> {
     fn drop(self) {
         let Serve {
             port: _port,
+            socket: _socket,
             connections: _connections,
             clients: _clients,
             schedulers: _schedulers,

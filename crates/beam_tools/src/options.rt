@@ -78,8 +78,8 @@ const TABLE: CommandTable = CommandTable {
 /// What the words ask for. The first of them is the program's name.
 ///
 /// `Wrong` where the command doesn't take the words: an unknown or a repeated name, a missing one, a number of steps that doesn't fit 32
-/// bits, no file for `call` or `replay`, an impossible value for `serve` or `replay`; or where they name no subcommand. `Help` and
-/// `Version` where they ask for them, and `NoMemory`.
+/// bits, no file for `call` or `replay`, neither a port nor a socket for `serve`, an impossible value for `serve` or `replay`; or where
+/// they name no subcommand. `Help` and `Version` where they ask for them, and `NoMemory`.
 pub fn options<'a>(alloc: Global, words: &'a [&'a str]) -> Result<Options<'a>, EarlyExit<'a>>
     ensures told { IfOk result (λ o. line_of (texts words.entry.now) ≡ Some (as_line o)) }
     ensures taken { IfOk result (λ _. fault_of node_app (texts words.entry.now) ≡ []) }

@@ -3,7 +3,7 @@ ghost use Rattle.std.specs.Prelude.{◌≡◌, ◌++◌};
 ghost use Rattle.std.specs.Fmt.{decimal};
 ghost use Rattle.std.specs.Io.KnownBytes.{append_known};
 ghost use Rattle.beam_tools.specs.Place.{after_mark, bad_line, byte_text, culprit, file_place, journal_place, line_in, opcode_line};
-ghost use Rattle.beam_tools.specs.Place.{operand_line, place_text, os_error_line, text_line, up_to, word_line};
+ghost use Rattle.beam_tools.specs.Place.{operand_line, place_text, os_error_line, socket_place, text_line, up_to, word_line};
 
 use crate::early_exit::Wrong;
 use crate::errors::{Errors, tell_three, tell_two};
@@ -11,6 +11,7 @@ use crate::fault::{FileFaultKind, RunFault};
 use crate::files::ReadError;
 use crate::journal_fault::JournalFaultKind;
 use crate::os_error::OsError;
+use crate::socket_fault::SocketFaultKind;
 use beam_code::CodeError;
 use beam_disasm::FileError;
 use itoa::Buffer;
@@ -170,6 +171,15 @@ pub fn tell_journal_place<E: Errors>(why: JournalFaultKind, errors: &mut E)
         | JournalFaultKind::Unsynced(os_error) => tell_os_error(os_error, errors),
         JournalFaultKind::Bad { at, entry } => tell_bad(at, entry, errors),
         _ => {}
+    }
+}
+
+/// Writes more about the fault of a socket, as a line: the operating system's error. Writes nothing where there is none.
+pub fn tell_socket_place<E: Errors>(why: SocketFaultKind, errors: &mut E)
+    ensures { E.told errors.new ≡ append_known (E.told errors.old) (socket_place why) }
+{
+    if let SocketFaultKind::Failed(os_error) = why {
+        tell_os_error(os_error, errors);
     }
 }
 

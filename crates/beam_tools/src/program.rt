@@ -41,7 +41,8 @@ const NODE_HELP: &str = "Runs compiled Erlang modules.
 
 usage: beamnode [-v] call --module M --function F [--args LIST] [--steps N] FILE..
        beamnode [-v] pipe
-       beamnode [-v] serve --port P [--connections K] [--clients C]
+       beamnode [-v] serve [--port P] [--socket PATH] [--socket-mode MODE]
+                [--socket-clients S] [--connections K] [--clients C]
                 [--schedulers N] [--log LEVEL] [--idle SECONDS]
                 [--stop-when-full] [--journal-limit N] [--journal FILE]
                 [--sync WHEN] [--start M:F] [FILE..]
@@ -51,32 +52,36 @@ usage: beamnode [-v] call --module M --function F [--args LIST] [--steps N] FILE
 call loads the files in order and prints the value of a function.
 pipe answers the commands on standard input.
 serve loads the files in order, starts a process with M:F, and answers the
-  commands of connections to 127.0.0.1.
+  commands of connections to 127.0.0.1 or to a socket.
 replay runs the entries of a journal's file again, and says what they are.
 
-  --module M         the module's name
-  --function F       the function's name
-  --args LIST        its arguments, a list as Erlang text (default: [])
-  --steps N          the most rows that are run (default: 1000000)
-  --port P           the port, below 65536; 0 is one that is free
-  --connections K    how many are served (default: 0, no end)
-  --clients C        how many are served at once, 1 to 16 (default: 1)
-  --schedulers N     the threads that run processes, 1 to 64 (default: 2)
-  --log LEVEL        what is told: error, warn or info (default: warn)
-  --idle SECONDS     a session ends that is silent so long (default: 0, never)
-  --stop-when-full   the node ends when its journal is full
-  --journal-limit N  its most entries, 1 to 16777216 (default: 16777216)
-  --journal FILE     keeps the journal in FILE; a node that has one comes back
-  --sync WHEN        when FILE is on the device: always before an answer,
-                     each second, or no (default: second)
-  --start M:F        a function without arguments that a process starts with
-  --upto N           ends before entry N
-  --print FROM..TO   prints a line for each entry n with FROM <= n < TO
-  --inspect PID      prints process PID, as it is after the last entry
-  --pipe             answers the commands on standard input from there on
-  -v, --verbose      after a fault, a second line tells where
-  -h, --help         prints this text
-  -V, --version      prints name and version
+  --module M          the module's name
+  --function F        the function's name
+  --args LIST         its arguments, a list as Erlang text (default: [])
+  --steps N           the most rows that are run (default: 1000000)
+  --port P            the port, below 65536; 0 is one that is free
+  --socket PATH       a Unix-domain socket beside the port, or without one
+  --socket-mode MODE  who may connect to it, as chmod has it (default: 600)
+  --socket-clients S  how many of its connections are served at once, 1 to 16
+                      (default: 4)
+  --connections K     how many connections are served (default: 0, no end)
+  --clients C         how many of the port's at once, 1 to 16 (default: 1)
+  --schedulers N      the threads that run processes, 1 to 64 (default: 2)
+  --log LEVEL         what is told: error, warn or info (default: warn)
+  --idle SECONDS      a session ends that is silent so long (default: 0, never)
+  --stop-when-full    the node ends when its journal is full
+  --journal-limit N   its most entries, 1 to 16777216 (default: 16777216)
+  --journal FILE      keeps the journal in FILE; a node that has one comes back
+  --sync WHEN         when FILE is on the device: always before an answer,
+                      each second, or no (default: second)
+  --start M:F         a function without arguments that a process starts with
+  --upto N            ends before entry N
+  --print FROM..TO    prints a line for each entry n with FROM <= n < TO
+  --inspect PID       prints process PID, as it is after the last entry
+  --pipe              answers the commands on standard input from there on
+  -v, --verbose       after a fault, a second line tells where
+  -h, --help          prints this text
+  -V, --version       prints name and version
 
 status: 0 success; 1 a file, a process, a stream, the output or memory is
   refused; 2 a wrong command line; 3 process 1 ended with another reason;
@@ -86,7 +91,8 @@ status: 0 success; 1 a file, a process, a stream, the output or memory is
 const NODE_USAGE: &str =
     "usage: beamnode [-v] call --module M --function F [--args LIST] [--steps N] FILE..
        beamnode [-v] pipe
-       beamnode [-v] serve --port P [--connections K] [--clients C]
+       beamnode [-v] serve [--port P] [--socket PATH] [--socket-mode MODE]
+                [--socket-clients S] [--connections K] [--clients C]
                 [--schedulers N] [--log LEVEL] [--idle SECONDS]
                 [--stop-when-full] [--journal-limit N] [--journal FILE]
                 [--sync WHEN] [--start M:F] [FILE..]

@@ -29,6 +29,9 @@ impl Wrong<'_> {
             Wrong::NoStart(_) => "--start ",
             Wrong::NoSync(_) => "--sync ",
             Wrong::StopsWithJournal => "--stop-when-full and --journal exclude each other",
+            Wrong::NoMode(_) => "--socket-mode ",
+            Wrong::LongSocket(_) => "--socket ",
+            Wrong::NoAddress => "neither --port nor --socket",
             Wrong::NoRange(_) => "--print ",
             Wrong::PipesAndPrints => "--pipe excludes --print and --inspect",
         }
@@ -44,6 +47,7 @@ impl Wrong<'_> {
             | Wrong::NoCommand
             | Wrong::NoFile
             | Wrong::StopsWithJournal
+            | Wrong::NoAddress
             | Wrong::PipesAndPrints => &[],
             Wrong::Same(word)
             | Wrong::LongModule(word)
@@ -52,6 +56,8 @@ impl Wrong<'_> {
             | Wrong::NoLevel(word)
             | Wrong::NoStart(word)
             | Wrong::NoSync(word)
+            | Wrong::NoMode(word)
+            | Wrong::LongSocket(word)
             | Wrong::NoRange(word) => word.as_bytes(),
         }
     }
@@ -66,6 +72,8 @@ impl Wrong<'_> {
             Wrong::NoLevel(_) => " is none of error, warn and info",
             Wrong::NoStart(_) => " is no M:F",
             Wrong::NoSync(_) => " is none of always, second and no",
+            Wrong::NoMode(_) => " is no mode of one to four octal digits up to 777",
+            Wrong::LongSocket(_) => " has more than 102 bytes",
             Wrong::NoRange(_) => " is no FROM..TO",
             _ => "",
         }

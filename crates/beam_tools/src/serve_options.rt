@@ -1,26 +1,50 @@
 //! The command line of `beamnode serve`.
-ghost use Rattle.std.specs.Prelude.{◌≡◌, IfErr, IfOk, Some, map, option_map};
-ghost use Rattle.clap.specs.Words.{found_of, rows_of};
+ghost use Rattle.std.specs.Prelude.{◌≡◌, IfErr, IfOk, None, Some, codes, map, option_map};
+ghost use Rattle.clap.specs.Words.{first_of, found_of, rows_of};
 ghost use Rattle.beam_tools.specs.Lines.{ServeStops};
-ghost use Rattle.beam_tools.specs.Options.{as_line, files_in, is_stop_set, journal_in, level_of, log_in, numbers_in, serve_in};
-ghost use Rattle.beam_tools.specs.Options.{start_in, start_line, start_of, sync_in, sync_of};
+ghost use Rattle.beam_tools.specs.Options.{address_lines, addresses_in, as_line, files_in, is_stop_set, journal_in, level_of, log_in};
+ghost use Rattle.beam_tools.specs.Options.{mode_in, mode_of, numbers_in, port_in, serve_in, socket_in, socket_line, start_in};
+ghost use Rattle.beam_tools.specs.Options.{start_line, start_of, sync_in, sync_of};
 
 use crate::command::text_of;
 use crate::early_exit::{EarlyExit, Wrong};
-use crate::line::{LogLevel, Options, Serve, Start, SyncMode};
+use crate::line::{LogLevel, Options, Serve, SocketOptions, Start, SyncMode};
 use crate::table::{ArgumentForm, ArgumentRow, FLAG, OPTION, POSITIONAL, VERBOSE};
 use crate::values::{count_of, number_of, port_of, texts_of};
 use clap::{ArgAction, ArgMatches};
 use std::alloc::Global;
 
+/// The most bytes of a socket's path.
+const MOST_PATH_BYTES: usize = 102;
+
+/// The greatest mode of a socket's file.
+const MOST_MODE: u32 = 0o777;
+
 /// The arguments of `serve`.
-pub const SERVE: [ArgumentRow; 13] = [
+pub const SERVE: [ArgumentRow; 16] = [
     VERBOSE,
     ArgumentRow {
         id: "port",
         form: ArgumentForm::Number(0, 65_535),
         value_names: &["P"],
-        required: true,
+        ..OPTION
+    },
+    ArgumentRow {
+        id: "socket",
+        value_names: &["PATH"],
+        ..OPTION
+    },
+    ArgumentRow {
+        id: "socket-mode",
+        value_names: &["MODE"],
+        defaults: &["600"],
+        ..OPTION
+    },
+    ArgumentRow {
+        id: "socket-clients",
+        form: ArgumentForm::Number(1, 16),
+        value_names: &["S"],
+        defaults: &["4"],
         ..OPTION
     },
     ArgumentRow {
@@ -127,10 +151,23 @@ fn start_of(text: &str) -> Option<Start<'_>>
     }
 }
 
+// The mode that one to four octal digits write, up to 777.
+fn mode_of(text: &str) -> Option<u32>
+    ensures { result ≡ mode_of text.now }
+{
+    if text.len() > 4 || text.starts_with('+') {
+        return None;
+    }
+    match u32::from_str_radix(text, 8) {
+        Ok(mode) if mode <= MOST_MODE => Some(mode),
+        Ok(_) => None,
+        Err(_) => None,
+    }
+}
+
 // The numbers of a service.
 #[derive(Clone, Copy)]
 struct ServeNumbers {
-    port: u16,
     connections: u32,
     clients: u8,
     schedulers: u8,
@@ -142,13 +179,86 @@ fn numbers_in(matches: &ArgMatches<'_>) -> Option<ServeNumbers>
     ensures { result ≡ numbers_in (rows_of (found_of matches.now)) }
 {
     Some(ServeNumbers {
-        port: port_of(matches, "port")?,
         connections: number_of(matches, "connections")?,
         clients: count_of(matches, "clients")?,
         schedulers: count_of(matches, "schedulers")?,
         idle: number_of(matches, "idle")?,
         journal_limit: number_of(matches, "journal-limit")?,
     })
+}
+
+// Where a service listens: at a port of 127.0.0.1, at a socket, or at both.
+#[derive(Clone, Copy)]
+struct Addresses<'a> {
+    port: Option<u16>,
+    socket: Option<SocketOptions<'a>>,
+}
+
+// The port that is listened on, if one is named.
+#[tactic(auto, using(crate::proofs::Services::no_port))]
+fn port_in<'a>(matches: &ArgMatches<'a>) -> Result<Option<u16>, EarlyExit<'a>>
+    ensures port { IfOk result (λ port. port_in (rows_of (found_of matches.now)) ≡ Some port) }
+    ensures named { IfOk result (λ port. port ≡ None → first_of (codes "port") (rows_of (found_of matches.now)) ≡ None) }
+    ensures stop { IfErr result (ServeStops (rows_of (found_of matches.now))) }
+{
+    if text_of(matches, "port").is_none() {
+        return Ok(None);
+    }
+    match port_of(matches, "port") {
+        Some(port) => Ok(Some(port)),
+        None => Err(EarlyExit::Wrong(Wrong::NoCommand)),
+    }
+}
+
+#[tactic(auto, using(crate::proofs::Services::no_mode))]
+fn mode_in<'a>(matches: &ArgMatches<'a>) -> Result<u32, EarlyExit<'a>>
+    ensures mode { IfOk result (λ mode. mode_in (rows_of (found_of matches.now)) ≡ Some mode) }
+    ensures stop { IfErr result (ServeStops (rows_of (found_of matches.now))) }
+{
+    let Some(text) = text_of(matches, "socket-mode") else {
+        return Err(EarlyExit::Wrong(Wrong::NoCommand));
+    };
+    match mode_of(text) {
+        Some(mode) => Ok(mode),
+        None => Err(EarlyExit::Wrong(Wrong::NoMode(text))),
+    }
+}
+
+// The socket that is listened on, if one is named.
+#[tactic(auto, using(crate::proofs::Services::no_socket_clients))]
+fn socket_in<'a>(matches: &ArgMatches<'a>) -> Result<Option<SocketOptions<'a>>, EarlyExit<'a>>
+    ensures socket { IfOk result (λ socket. socket_in (rows_of (found_of matches.now)) ≡ Some (option_map socket_line socket)) }
+    ensures path { IfOk result (λ socket. option_map (λ s. s.path.now) socket ≡ first_of (codes "socket") (rows_of (found_of matches.now))) }
+    ensures stop { IfErr result (ServeStops (rows_of (found_of matches.now))) }
+{
+    let mode = mode_in(matches)?;
+    let Some(clients) = count_of(matches, "socket-clients") else {
+        return Err(EarlyExit::Wrong(Wrong::NoCommand));
+    };
+    let Some(path) = text_of(matches, "socket") else {
+        return Ok(None);
+    };
+    if path.len() > MOST_PATH_BYTES {
+        return Err(EarlyExit::Wrong(Wrong::LongSocket(path)));
+    }
+    Ok(Some(SocketOptions {
+        path,
+        mode,
+        clients,
+    }))
+}
+
+// The addresses of a service, of which there is at least one.
+fn addresses_in<'a>(matches: &ArgMatches<'a>) -> Result<Addresses<'a>, EarlyExit<'a>>
+    ensures addresses { IfOk result (λ a. addresses_in (rows_of (found_of matches.now)) ≡ Some (address_lines a)) }
+    ensures stop { IfErr result (ServeStops (rows_of (found_of matches.now))) }
+{
+    let port = port_in(matches)?;
+    let socket = socket_in(matches)?;
+    if port.is_none() && socket.is_none() {
+        return Err(EarlyExit::Wrong(Wrong::NoAddress));
+    }
+    Ok(Addresses { port, socket })
 }
 
 #[tactic(auto, using(crate::proofs::Services::no_log))]
@@ -230,8 +340,10 @@ fn files_in<'a>(alloc: Global, matches: &ArgMatches<'a>) -> Result<Vec<&'a str>,
 
 /// The service in the matches of `serve`.
 ///
-/// `Wrong` where the level of the log is unknown, where the function to start has no name or no module, where a journal's file is named
-/// and the node is to end when its journal is full, and where the time is unknown at which that file is put on the device; `NoMemory`.
+/// `Wrong` where the mode of the socket's file isn't one to four octal digits up to 777, where the socket's path has more than 102 bytes,
+/// where there is neither a port nor a socket, where the level of the log is unknown, where the function to start has no name or no module,
+/// where a journal's file is named and the node is to end when its journal is full, and where the time is unknown at which that file is put
+/// on the device; `NoMemory`.
 pub fn serve_in<'a>(alloc: Global, matches: &ArgMatches<'a>) -> Result<Options<'a>, EarlyExit<'a>>
     ensures told { IfOk result (λ o. serve_in (rows_of (found_of matches.now)) ≡ Some (as_line o)) }
     ensures stop { IfErr result (ServeStops (rows_of (found_of matches.now))) }
@@ -239,13 +351,15 @@ pub fn serve_in<'a>(alloc: Global, matches: &ArgMatches<'a>) -> Result<Options<'
     let Some(numbers) = numbers_in(matches) else {
         return Err(EarlyExit::Wrong(Wrong::NoCommand));
     };
+    let addresses = addresses_in(matches)?;
     let log = log_in(matches)?;
     let start = start_in(matches)?;
     let journal = journal_in(matches)?;
     let sync = sync_in(matches)?;
     let files = files_in(alloc, matches)?;
     Ok(Options::Serve(Serve {
-        port: numbers.port,
+        port: addresses.port,
+        socket: addresses.socket,
         connections: numbers.connections,
         clients: numbers.clients,
         schedulers: numbers.schedulers,

@@ -8,7 +8,10 @@ use std::time::{Clock, Duration};
 use std::{io, str};
 
 /// Before the port in the line that a node prints.
-const LISTENING: &str = "listening on 127.0.0.1:";
+const LISTENING_AT_PORT: &str = "listening on 127.0.0.1:";
+
+/// Before the path of a socket in such a line.
+const LISTENING_AT_SOCKET: &str = "listening on /";
 
 /// A console whose output and error output a test reads, while the node runs and afterwards. Its time is always the beginning of 1970.
 #[derive(Drop)]
@@ -37,8 +40,19 @@ impl<'a, R: Wait + AllocGlobal> TestConsole<'a, R> {
     /// The port in the line that the node printed, if it printed that.
     pub fn port(&self) -> Option<u16> {
         let printed = self.printed.lock(self.rt);
-        let port = printed.as_str().strip_prefix(LISTENING)?;
-        port.trim_end().parse::<u16>().ok()
+        let (port, _) = printed
+            .as_str()
+            .strip_prefix(LISTENING_AT_PORT)?
+            .split_once('\n')?;
+        port.parse::<u16>().ok()
+    }
+
+    /// The path of the socket in the line that the node printed, if it printed that and there is memory for it.
+    pub fn socket(&self) -> Option<String> {
+        let printed = self.printed.lock(self.rt);
+        let (_, after) = printed.as_str().split_once(LISTENING_AT_SOCKET)?;
+        let (path, _) = after.split_once('\n')?;
+        format!(in self.rt.alloc(); "/{path}").ok()
     }
 
     /// Notes that the node has ended.

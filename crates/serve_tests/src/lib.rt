@@ -17,3 +17,7 @@ mod serving;
 mod serving_rows;
 #[cfg(test)]
 mod serving_tests;
+#[cfg(test)]
+mod socket_rows;
+#[cfg(test)]
+mod socket_tests;

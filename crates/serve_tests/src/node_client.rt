@@ -8,8 +8,12 @@ use std::alloc::Global;
 use std::fs::File;
 use std::io::{ErrorKind, Read, Write};
 use std::net::{Net, Shutdown, TcpStream};
+use std::os::fd::OwnedFd;
+use std::os::unix::fs::PermissionsExt;
+use std::os::unix::net::UnixStream;
 use std::sync::Wait;
 use std::time::{Clock, Duration};
+use std::{fs, rt};
 
 /// For how many seconds a call of a connection waits: a little less than the 60 seconds after which `rt` ends a test.
 const SECONDS: u64 = 50;
@@ -21,8 +25,14 @@ const LAST_CONNECTIONS: u32 = 8;
 /// words.
 #[derive(Clone, Copy)]
 pub enum Step {
-    /// Makes the next connection.
+    /// Makes the next connection, to the port.
     Connect,
+    /// Makes the next connection, to the socket.
+    ConnectToSocket,
+    /// The response to this request, over the socket of requests.
+    Ask(&'static str, &'static str),
+    /// The files of the sockets have this mode.
+    Mode(u32),
     /// Sends these frames.
     Send(usize, &'static str),
     /// The next bytes are these frames.
@@ -68,6 +78,18 @@ fn next_frame(alloc: Global, stream: &TcpStream) -> Vec<u8> {
     frame
 }
 
+/// A request that stops a node.
+const STOP: &str = "POST /stop HTTP/1.1\r\nX-Kanguriwe: 1\r\n\r\n";
+
+/// Sets how long calls of a connection wait.
+fn limited(stream: TcpStream) -> Result<TcpStream, &'static str> {
+    let wait = Some(Duration::from_secs(SECONDS));
+    if stream.set_read_timeout(wait).is_err() || stream.set_write_timeout(wait).is_err() {
+        return Err("no time limit");
+    }
+    Ok(stream)
+}
+
 /// Whether no more bytes come.
 fn is_at_end(stream: &TcpStream) -> bool {
     let mut stream = stream;
@@ -78,7 +100,10 @@ fn is_at_end(stream: &TcpStream) -> bool {
     }
 }
 
-impl<'a, R: Net<Stream = TcpStream> + Wait + Clock + AllocGlobal> NodeClient<'a, R> {
+impl<
+    'a,
+    R: Net<Stream = TcpStream> + Wait + Clock + rt::Files<File = File> + AllocGlobal,
+> NodeClient<'a, R> {
     /// A client without a connection. The file tells how many threads run.
     pub fn new(
         rt: &'a R,
@@ -115,15 +140,80 @@ impl<'a, R: Net<Stream = TcpStream> + Wait + Clock + AllocGlobal> NodeClient<'a,
         let Ok(stream) = TcpStream::connect(self.rt, ("127.0.0.1", port)) else {
             return Err("no connection");
         };
-        let wait = Some(Duration::from_secs(SECONDS));
-        if stream.set_read_timeout(wait).is_err() || stream.set_write_timeout(wait).is_err() {
-            return Err("no time limit");
-        }
+        let stream = limited(stream)?;
         let _ = stream.set_nodelay(true);
+        self.keep(stream)
+    }
+
+    fn keep(&mut self, stream: TcpStream) -> Result<(), &'static str> {
         match self.streams.push(stream) {
             Ok(()) => Ok(()),
             Err(_) => Err("no memory"),
         }
+    }
+
+    /// Waits until the node has printed the path of its socket. `None` if it ended before, or didn't in time.
+    fn wait_for_socket(&self) -> Option<String> {
+        for _ in 0..u32::MAX {
+            if let Some(path) = self.console.socket() {
+                return Some(path);
+            }
+            if self.console.has_ended() || !self.deadline.lasts(self.rt) {
+                break;
+            }
+        }
+        None
+    }
+
+    /// A connection to the node's socket, or to the one of requests, whose path ends so.
+    fn to_socket(&self, end: &str) -> Result<TcpStream, &'static str> {
+        let Some(path) = self.wait_for_socket() else {
+            return Err("it doesn't listen");
+        };
+        let Ok(path) = format!(in self.rt.alloc(); "{path}{end}") else {
+            return Err("no memory");
+        };
+        match UnixStream::connect(self.rt, path.as_str()) {
+            Ok(stream) => limited(TcpStream::from(OwnedFd::from(stream))),
+            Err(_) => Err("no connection"),
+        }
+    }
+
+    fn connect_to_socket(&mut self) -> Result<(), &'static str> {
+        let stream = self.to_socket("")?;
+        self.keep(stream)
+    }
+
+    fn ask(&mut self, request: &str, response: &str) -> Result<(), &'static str> {
+        let mut stream = self.to_socket(".http")?;
+        if stream.write_all(request.as_bytes()).is_err() {
+            return Err("not sent");
+        }
+        let mut came = Vec::new(self.rt.alloc());
+        let is_whole = stream.read_to_end(&mut came).is_ok();
+        let is_wanted = is_whole && came.as_slice() == response.as_bytes();
+        self.came = came;
+        if is_wanted {
+            Ok(())
+        } else {
+            Err("another response")
+        }
+    }
+
+    fn has_mode(&self, mode: u32) -> Result<(), &'static str> {
+        let Some(path) = self.wait_for_socket() else {
+            return Err("it doesn't listen");
+        };
+        for end in ["", ".http"] {
+            let Ok(path) = format!(in self.rt.alloc(); "{path}{end}") else {
+                return Err("no memory");
+            };
+            match fs::metadata(self.rt, path.as_str()) {
+                Ok(metadata) if metadata.permissions().mode() % 512 == mode => {}
+                _ => return Err("another mode"),
+            }
+        }
+        Ok(())
     }
 
     fn send(&self, number: usize, text: &'static str) -> Result<(), &'static str> {
@@ -223,6 +313,9 @@ impl<'a, R: Net<Stream = TcpStream> + Wait + Clock + AllocGlobal> NodeClient<'a,
     fn step(&mut self, step: Step) -> Result<(), &'static str> {
         match step {
             Step::Connect => self.connect(),
+            Step::ConnectToSocket => self.connect_to_socket(),
+            Step::Ask(request, response) => self.ask(request, response),
+            Step::Mode(mode) => self.has_mode(mode),
             Step::Send(number, text) => self.send(number, text),
             Step::Receive(number, text) => self.receive(number, text),
             Step::Poll(number, command, reply) => self.poll(number, command, reply),
@@ -232,9 +325,12 @@ impl<'a, R: Net<Stream = TcpStream> + Wait + Clock + AllocGlobal> NodeClient<'a,
         }
     }
 
-    /// Closes its connections, and makes others, so that a node that waits for them ends.
+    /// Closes its connections, and makes others or asks the node to stop, so that a node that waits for them ends.
     fn give_up(&mut self) {
         self.streams.clear();
+        if self.console.socket().is_some() {
+            let _ = self.ask(STOP, "");
+        }
         let Some(port) = self.console.port() else {
             return;
         };

@@ -26,7 +26,7 @@ const PROCESS_STATUS: &str = "/proc/self/status";
 
 /// A word of a command line, which is put into the folder if it is the name of a file.
 fn word_in(alloc: Global, folder: &str, word: &str) -> Result<String, AllocError> {
-    if word.ends_with(".beam") || word.ends_with(".journal") {
+    if word.ends_with(".beam") || word.ends_with(".journal") || word.ends_with(".socket") {
         format!(in alloc; "{folder}/{word}")
     } else {
         format!(in alloc; "{word}")
@@ -101,16 +101,15 @@ fn log_text(alloc: Global, log: &str) -> Result<String, AllocError> {
     Ok(text)
 }
 
-/// `listens` where the address was printed, and nothing else; otherwise what was printed.
+/// What was printed, with `listens` in the place of the line about the port.
 fn printed_text(alloc: Global, port: Option<u16>, printed: &str) -> Result<String, AllocError> {
     let Some(port) = port else {
         return format!(in alloc; "{printed}");
     };
     let wanted = format!(in alloc; "listening on 127.0.0.1:{port}\n")?;
-    if printed == wanted.as_str() {
-        format!(in alloc; "listens\n")
-    } else {
-        format!(in alloc; "{printed}")
+    match printed.strip_prefix(wanted.as_str()) {
+        Some(rest) => format!(in alloc; "listens\n{rest}"),
+        None => format!(in alloc; "{printed}"),
     }
 }
 
@@ -118,7 +117,13 @@ fn printed_text(alloc: Global, port: Option<u16>, printed: &str) -> Result<Strin
 fn start_client<
     's,
     E,
-    R: Net<Listener = TcpListener, Stream = TcpStream> + Wait + Clock + AllocGlobal + Sync + 's,
+    R: Net<Listener = TcpListener, Stream = TcpStream>
+        + Wait
+        + Clock
+        + rt::Files<File = File>
+        + AllocGlobal
+        + Sync
+        + 's,
 >(
     scope: &Scope<'s, E>,
     rt: &'s R,

@@ -14,6 +14,7 @@ use beam_tools::line::{Replay, ReplayGoal, Serve};
 use beam_tools::load::load_files;
 use beam_tools::node::node_run;
 use beam_tools::os_error::OsError;
+use beam_tools::socket_fault::{SocketFault, SocketFaultKind};
 use std::alloc::{AllocError, Global};
 use std::io::ErrorKind;
 
@@ -63,7 +64,7 @@ fn piped<'a>(alloc: Global, device: &mut Memory) -> Result<(), JobFault<'a>> {
     }
 }
 
-// Begins a service with its journal, its files and its process, where no journal's file can be written, and each port is in use.
+// Begins a service with its journal, its files and its process, where no journal's file can be written, and each port and socket is in use.
 fn unserved<'a, F: Files>(
     alloc: Global,
     line: &Serve<'a>,
@@ -88,13 +89,21 @@ fn unserved<'a, F: Files>(
             return Err(JobFault::Start(refused));
         }
     }
-    Err(JobFault::Net(
-        line.port,
-        OsError {
-            kind: ErrorKind::AddrInUse,
-            code: 98,
-        },
-    ))
+    match (line.port, line.socket) {
+        (Some(port), _) => Err(JobFault::Net(
+            port,
+            OsError {
+                kind: ErrorKind::AddrInUse,
+                code: 98,
+            },
+        )),
+        (None, Some(socket)) => Err(JobFault::Socket(SocketFault {
+            path: socket.path,
+            why: SocketFaultKind::InUse,
+        })),
+        // Each line of a service has one of them.
+        (None, None) => Err(JobFault::NoMemory),
+    }
 }
 
 // Replays a journal's file. For a session it has no entries. Else process 1 has a text that is too long in it, there is no other process,

@@ -1,5 +1,5 @@
 use Rattle.beam_serve.specs.Limits.{limit_for}
-use Rattle.beam_serve.proofs.serving.serve.Given as goal
+use Rattle.beam_serve.proofs.serving.serve_at.Given as goal
 
 abbrev pub ghosts-serve_node-B-NodeBrand : goal.ghosts-serve_node-B-NodeBrand
 ghosts-serve_node-B-NodeBrand g a = record { table = a.unbranded; limit = limit_for a.line.now.journal a.line.now.journal_limit }

@@ -1,0 +1,190 @@
+//! Runs of `beamnode serve` with a socket. Functions without contracts give them, so that the proofs of the tests compute nothing of them.
+
+use crate::node_client::Step::{Ask, Connect, ConnectToSocket, End, Finish, Mode, Receive, Send};
+use crate::serving_rows::NodeRow;
+
+/// No instance of a module.
+const NONE: &str = "00000009050000000000000000";
+
+/// A request that stops the node, and its response.
+const STOP: &str =
+    "POST /stop HTTP/1.1\r\nHost: localhost\r\nX-Kanguriwe: 1\r\nContent-Length: 0\r\n\r\n";
+
+const STOPPING: &str =
+    "HTTP/1.1 202 Accepted\r\nContent-Type: text/plain; charset=utf-8\r\nCache-Control: no-store\r\nConnection: close\r\nContent-Length: 18\r\n\r\n{\"stopping\":true}\n";
+
+const OK: &str =
+    "HTTP/1.1 200 OK\r\nContent-Type: text/plain; charset=utf-8\r\nCache-Control: no-store\r\nConnection: close\r\nContent-Length: 3\r\n\r\nok\n";
+
+const FORBIDDEN: &str =
+    "HTTP/1.1 403 Forbidden\r\nContent-Type: text/plain; charset=utf-8\r\nCache-Control: no-store\r\nConnection: close\r\nContent-Length: 23\r\n\r\nX-Kanguriwe is missing\n";
+
+const NOT_ALLOWED: &str =
+    "HTTP/1.1 405 Method Not Allowed\r\nContent-Type: text/plain; charset=utf-8\r\nCache-Control: no-store\r\nConnection: close\r\nContent-Length: 19\r\n\r\nnot by this method\n";
+
+const NOT_FOUND: &str =
+    "HTTP/1.1 404 Not Found\r\nContent-Type: text/plain; charset=utf-8\r\nCache-Control: no-store\r\nConnection: close\r\nContent-Length: 17\r\n\r\nnothing is there\n";
+
+const BAD_REQUEST: &str =
+    "HTTP/1.1 400 Bad Request\r\nContent-Type: text/plain; charset=utf-8\r\nCache-Control: no-store\r\nConnection: close\r\nContent-Length: 11\r\n\r\nno request\n";
+
+const SOCKETS: [NodeRow; 6] = [
+    NodeRow {
+        title: "a socket alone",
+        words: "beamnode serve --socket s.socket --connections 2",
+        is_closed: false,
+        steps: &[
+            ConnectToSocket,
+            ConnectToSocket,
+            Send(1, "LOAD"),
+            Receive(1, "LOADED"),
+            Send(0, "VERSIONS"),
+            Receive(0, "LOADED"),
+            Mode(0o600),
+            Finish(0),
+            End(0),
+            Finish(1),
+            End(1),
+        ],
+        wanted: "listening on s.socket\nstatus 0\n",
+    },
+    // The port's one place is taken, and the socket has its own.
+    NodeRow {
+        title: "a socket beside a port that is taken",
+        words: "beamnode serve --port 0 --socket s.socket --socket-mode 660 --connections 2",
+        is_closed: false,
+        steps: &[
+            Connect,
+            Send(0, "VERSIONS"),
+            Receive(0, NONE),
+            ConnectToSocket,
+            Send(1, "LOAD"),
+            Receive(1, "LOADED"),
+            Mode(0o660),
+            Send(0, "VERSIONS"),
+            Receive(0, "LOADED"),
+            Finish(1),
+            End(1),
+            Finish(0),
+            End(0),
+        ],
+        wanted: "listens\nlistening on s.socket\nstatus 0\n",
+    },
+    // The second connection to the socket is served once the first one has left.
+    NodeRow {
+        title: "one place of the socket",
+        words: "beamnode serve --port 0 --socket s.socket --socket-clients 1 --connections 2",
+        is_closed: false,
+        steps: &[
+            ConnectToSocket,
+            ConnectToSocket,
+            Send(1, "VERSIONS"),
+            Send(0, "LOAD"),
+            Receive(0, "LOADED"),
+            Finish(0),
+            End(0),
+            Receive(1, "LOADED"),
+            Finish(1),
+            End(1),
+        ],
+        wanted: "listens\nlistening on s.socket\nstatus 0\n",
+    },
+    NodeRow {
+        title: "a stop in good order",
+        words: "beamnode serve --port 0 --clients 2 --socket s.socket --log info",
+        is_closed: false,
+        steps: &[
+            Connect,
+            Send(0, "LOAD"),
+            Receive(0, "LOADED"),
+            Ask("GET /readyz HTTP/1.1\r\n\r\n", OK),
+            Ask(STOP, STOPPING),
+            End(0),
+        ],
+        wanted: "listens\nlistening on s.socket
+[INFO  beam_serve::incoming_connections] client: connected
+[INFO  beam_serve::command_log] load t: current 1, old none
+[INFO  beam_serve::http_thread] asked to stop
+status 0\n",
+    },
+    NodeRow {
+        title: "a stop of a node that nobody asked for anything",
+        words: "beamnode serve --socket s.socket --socket-mode 0640",
+        is_closed: false,
+        steps: &[Mode(0o640), Ask(STOP, STOPPING)],
+        wanted: "listening on s.socket\nstatus 0\n",
+    },
+    NodeRow {
+        title: "requests by which nothing is done",
+        words: "beamnode serve --socket s.socket --connections 1",
+        is_closed: false,
+        steps: &[
+            Ask("GET /healthz HTTP/1.1\r\nHost: localhost\r\n\r\n", OK),
+            Ask("GET /readyz HTTP/1.1\r\nHost: localhost\r\n\r\n", OK),
+            Ask("POST /stop HTTP/1.1\r\nHost: localhost\r\n\r\n", FORBIDDEN),
+            Ask("GET /stop HTTP/1.1\r\nX-Kanguriwe: 1\r\n\r\n", NOT_ALLOWED),
+            Ask(
+                "POST /readyz HTTP/1.1\r\nX-Kanguriwe: 1\r\n\r\n",
+                NOT_ALLOWED,
+            ),
+            Ask("GET /stopp HTTP/1.1\r\n\r\n", NOT_FOUND),
+            Ask("\u{0}\u{0}\u{0}\u{1}c", BAD_REQUEST),
+            ConnectToSocket,
+            Send(0, "VERSIONS"),
+            Receive(0, NONE),
+            Finish(0),
+            End(0),
+        ],
+        wanted: "listening on s.socket\nstatus 0\n",
+    },
+];
+
+/// What clients of a socket get, and how a node is stopped.
+pub fn sockets() -> &'static [NodeRow] {
+    &SOCKETS
+}
+
+const IN_USE: [NodeRow; 1] = [NodeRow {
+    title: "a socket on which another program listens",
+    words: "beamnode serve --socket s.socket --connections 1",
+    is_closed: false,
+    steps: &[],
+    wanted: "beamnode: s.socket: SocketInUse\nstatus 1\n",
+}];
+
+/// A socket on which another program listens.
+pub fn in_use() -> &'static [NodeRow] {
+    &IN_USE
+}
+
+const LEFT: [NodeRow; 1] = [NodeRow {
+    title: "a socket that a dead node has left",
+    words: "beamnode serve --socket s.socket --connections 1",
+    is_closed: false,
+    steps: &[
+        ConnectToSocket,
+        Send(0, "VERSIONS"),
+        Receive(0, NONE),
+        Finish(0),
+        End(0),
+    ],
+    wanted: "listening on s.socket\nstatus 0\n",
+}];
+
+/// A socket that a dead node has left.
+pub fn left() -> &'static [NodeRow] {
+    &LEFT
+}
+
+const NO_SOCKET: [NodeRow; 1] = [NodeRow {
+    title: "a file that is no socket",
+    words: "beamnode serve --socket s.socket --connections 1",
+    is_closed: false,
+    steps: &[],
+    wanted: "beamnode: s.socket: NoSocket\nstatus 1\n",
+}];
+
+/// A file that is no socket.
+pub fn no_socket() -> &'static [NodeRow] {
+    &NO_SOCKET
+}
