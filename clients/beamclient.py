@@ -3,16 +3,18 @@
     session = Session(4000, timeout=None)
     print(answer(17, session.ask(17, b"t")).text)       current 1, old none
 
-The first line asks for nothing; 17 is the command Versions of docs/PROTOCOL.md. beamctl.py is built of this. Needs Python 3.10
-and its standard library alone.
+The first line asks for nothing; 17 is the command Versions of docs/PROTOCOL.md. 4000 is the node's port; the path of its Unix socket
+may stand in that place, as text. beamctl.py is built of this. Needs Python 3.10 and its standard library alone.
 """
 
 import collections
 import contextlib
 import dataclasses
+import math
 import re
 import socket
 import struct
+import time
 from collections.abc import Iterable, Iterator
 
 LONGEST_FRAME = 8_388_608
@@ -282,14 +284,45 @@ class Reply:
 # ---- A session: commands as frames, and replies
 
 
+def connect(address: int | str, timeout: float | None) -> socket.socket:
+    """A connection to a port of 127.0.0.1, or to the Unix socket of that path."""
+    if isinstance(address, int):
+        connection = socket.create_connection(("127.0.0.1", address), timeout)
+        connection.setsockopt(socket.IPPROTO_TCP, socket.TCP_NODELAY, 1)
+        return connection
+    connection = socket.socket(socket.AF_UNIX)
+    try:
+        connection.settimeout(timeout)
+        end = time.monotonic() + (timeout or math.inf)
+        while not is_connected(connection, address):
+            if time.monotonic() >= end:
+                raise TimeoutError
+            time.sleep(0.01)
+    except BaseException:
+        connection.close()
+        raise
+    return connection
+
+
+def is_connected(connection: socket.socket, path: str) -> bool:
+    """Connects a Unix socket. False where so many others wait to be accepted that the system refuses this one for now."""
+    try:
+        connection.connect(path)
+    except BlockingIOError:
+        return False
+    return True
+
+
 class Session:
-    """A session with the node, which begins with the first command. While it lasts it occupies one of the node's client threads.
+    """A session with the node, which begins with the first command. While it lasts it occupies one of the node's client threads. The
+    address is the node's port, or the path of its Unix socket.
 
     What is sent while all of these are occupied waits in the system's buffers, and is done when one is free, also if the client has
     given up by then. So a connection begins with a command that does nothing, and no other one is sent before its reply is there."""
 
-    def __init__(self, port: int, timeout: float | None):
-        self.port = port
+    def __init__(self, address: int | str, timeout: float | None):
+        self.address = address
+        self.where = f"127.0.0.1:{address}" if isinstance(address, int) else address
         self.timeout = timeout
         self.connection: socket.socket | None = None
         self.replies = None
@@ -303,8 +336,7 @@ class Session:
     def begin(self) -> None:
         """Connects, and waits for the first reply."""
         try:
-            connection = socket.create_connection(("127.0.0.1", self.port), self.timeout)
-            connection.setsockopt(socket.IPPROTO_TCP, socket.TCP_NODELAY, 1)
+            connection = connect(self.address, self.timeout)
             self.connection, self.replies = connection, connection.makefile("rb")
             self.write(*FIRST_COMMAND)
             first = self.receive()
@@ -362,7 +394,7 @@ class Session:
         except TimeoutError:
             raise self.no_reply() from None
         except OSError as fault:
-            raise Failed(f"127.0.0.1:{self.port}: {fault.strerror or fault}") from None
+            raise Failed(f"{self.where}: {fault.strerror or fault}") from None
         finally:
             if waiting:
                 self.leave()

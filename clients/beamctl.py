@@ -9,16 +9,18 @@
     <0.2.0>
     $ beamctl.py --port 4000 wait 2
     <0.2.0> ended normal
+    $ beamctl.py --socket /run/kanguriwe/node stop
+    stopped
 
 Without a command it reads commands from standard input, a line each, in one session; on a terminal each line is a session,
 so that others get in meanwhile. A process is its number or <0.NUMBER.0>. Terms are Erlang text: integers, atoms, strings,
-tuples, lists and pids. After `call`, `ask` and `kill` the node has the module beamctl_helper, which is
-in the same folder as this file.
+tuples, lists and pids. After `call`, `ask` and `kill` the node has the module beamctl_helper, whose file is in beamctl's folder.
 
 Status 0: the node did what was asked. 1: it refused, nothing came in time, or the connection or a file failed; the refusal's
-name is on standard error. 2: a wrong command line. 3: the function that was called raised an exception. After `no reply within
-N seconds` the command may still be done; after `no first reply within N seconds` it wasn't sent. The protocol is in
-docs/PROTOCOL.md. Needs Python 3.10 and its standard library alone.
+name is on standard error. 2: a wrong command line. 3: the function that was called raised an exception.
+
+After `no reply within N seconds` the command may still be done; after `no first reply within N seconds` it wasn't sent. The
+protocol is in docs/PROTOCOL.md. beamctl needs Python 3.10 and its standard library alone.
 """
 
 import argparse
@@ -34,14 +36,15 @@ import time
 from collections.abc import Iterator, Sequence
 
 from beamclient import (
-    FRAME_ERRORS, LONGEST_FRAME, PIPELINED, REFUSALS, Answer, Failed, Reply, Session, TermReader, answer, atom, integer, list_of,
-    pid, pid_text, term, tuple_of, utf8, whole)
+    FRAME_ERRORS, LONGEST_FRAME, PIPELINED, REFUSALS, Answer, Failed, Reply, Session, TermReader, answer, atom, connect, integer,
+    list_of, pid, pid_text, term, tuple_of, utf8, whole)
 
 MOST_PROCESSES = 2**28 - 1
 HELPER = "beamctl_helper"
-HELPER_FILE = os.path.join(os.path.dirname(os.path.abspath(__file__)), HELPER + ".beam")
+HELPER_FILE = os.path.join(os.path.dirname(os.path.realpath(__file__)), HELPER + ".beam")
 SECONDS_FOR_A_REPLY = 10.0
 SECONDS_FOR_AN_ANSWER = 5.0
+SECONDS_FOR_AN_END = 10.0
 # The greatest time that a process can wait for, apart from infinity.
 MOST_MILLISECONDS = 2**32 - 1
 TOO_LONG = "too long to show"
@@ -553,6 +556,53 @@ def top_answer(seen: list[dict], lines: int) -> Answer:
     return Answer(f"{clear}{head}\n{text}\n", {"processes": len(seen), **states, "top": seen[:lines]})
 
 
+# ---- The end of a node, for which a socket beside its own is asked, by HTTP
+
+
+def http(path: str, request: str, fields: str, timeout: float | None) -> tuple[int, str]:
+    """The status of the answer to a request over the Unix socket of that path, and the answer's text."""
+    with connect(path, timeout) as connection, connection.makefile("rb") as reply:
+        connection.sendall(f"{request} HTTP/1.1\r\nHost: localhost\r\n{fields}\r\n".encode())
+        head, _, body = reply.read(LONGEST_FRAME).partition(b"\r\n\r\n")
+    found = re.match(rb"HTTP/1\.[01] ([0-9]{3})\b", head)
+    if not found:
+        raise Failed("a reply that can't be read")
+    return int(found[1]), body.decode(errors="replace").strip()
+
+
+def what_is_left(path: str, timeout: float) -> str | None:
+    """What a node that is to end still does, in its words; None if it has ended."""
+    try:
+        return http(path, "GET /readyz", "", timeout)[1]
+    except (FileNotFoundError, ConnectionRefusedError):
+        return None
+    except (OSError, Failed):
+        # It ended while it was asked, or is too busy to answer.
+        return ""
+
+
+def stop(client: Client, given):
+    if isinstance(client.session.address, int):
+        raise WrongWords("stop needs --socket")
+    client.session.leave()
+    path = client.session.address + ".http"
+    try:
+        status, said = http(path, "POST /stop", "X-Kanguriwe: 1\r\nContent-Length: 0\r\n", client.session.timeout)
+    except TimeoutError:
+        raise client.session.no_reply() from None
+    except OSError as fault:
+        raise Failed(f"{path}: {fault.strerror or fault}") from None
+    if status != 202:
+        raise Failed(f"{path}: {status} {said}")
+    end, said = time.monotonic() + given.wait, ""
+    while (left := what_is_left(path, max(1.0, end - time.monotonic()))) is not None:
+        said = left or said
+        if time.monotonic() >= end:
+            raise Failed(f"the node hasn't ended within {given.wait:g} seconds" + (f": {said}" if said else ""))
+        time.sleep(0.05)
+    yield Answer("stopped", "stopped")
+
+
 # ---- The command line
 
 
@@ -623,6 +673,8 @@ COMMANDS = [
     ("deliver", plain("deliver", "process"), "deliver what is on its way to a process" + NOT_HERE, [PROCESS]),
     ("clock", plain("clock", "milliseconds"), "set the clock" + NOT_HERE, [("milliseconds", {"metavar": "MS"})]),
     ("timeout", plain("timeout", "process"), "wake a process whose deadline has come" + NOT_HERE, [PROCESS]),
+    ("stop", stop, "end the node in good order, and wait until it has ended; it needs --socket",
+     [("--wait", {"type": seconds, "default": SECONDS_FOR_AN_END, "metavar": "SECONDS", "help": "how long (10 if left out)"})]),
 ]
 
 
@@ -644,8 +696,10 @@ def add_commands(parser: argparse.ArgumentParser, **more) -> None:
 
 
 def command_line() -> Words:
-    parser = Words("beamctl.py", description=__doc__, formatter_class=argparse.RawDescriptionHelpFormatter)
-    parser.add_argument("--port", type=port, required=True, help="where `beamnode serve` listens on 127.0.0.1")
+    parser = Words(description=__doc__, formatter_class=argparse.RawDescriptionHelpFormatter)
+    address = parser.add_mutually_exclusive_group(required=True)
+    address.add_argument("--port", dest="address", type=port, metavar="PORT", help="where `beamnode serve` listens on 127.0.0.1")
+    address.add_argument("--socket", dest="address", metavar="PATH", help="its Unix socket")
     add_options(parser)
     add_commands(parser)
     return parser
@@ -772,7 +826,7 @@ def main() -> int:
             stream.reconfigure(errors=errors)
     try:
         given = command_line().parse_args()
-        client = Client(Session(given.port, SECONDS_FOR_A_REPLY))
+        client = Client(Session(given.address, SECONDS_FOR_A_REPLY))
         return run(client, given) if hasattr(given, "run") else prompt(client, given)
     except WrongWords as fault:
         print(f"{fault.usage}{fault}", file=sys.stderr)

@@ -12,7 +12,8 @@
 %% ended. A process is its number or a pid; pid/1 is the pid of a number. A session occupies one client thread of the node.
 %%
 %% connect waits for a place at the node, and sends nothing before that does anything. So {error, timeout} of connect means that
-%% nothing was done, and all places may be taken; of another call, that it may still be done.
+%% nothing was done, and all places may be taken; of another call, that it may still be done. connect({local, Path}) goes to the
+%% node's Unix socket, where {error, closed} may also mean that too many connections wait.
 %%
 %% steps, deliver, clock and timeout are for nodes without schedulers: here they are mostly not_ready, busy or backward_clock.
 -module(kanguriwe).
@@ -44,13 +45,17 @@
 %% Commands that are sent before the first reply is read: few enough for the buffers of any socket.
 -define(PIPELINED, 64).
 
--spec connect(inet:port_number()) -> answer(session()).
-connect(Port) -> connect(Port, infinity).
+%% To the node's port, or to its Unix socket, {local, Path}.
+-spec connect(inet:port_number() | inet:local_address()) -> answer(session()).
+connect(Address) -> connect(Address, infinity).
 
 %% With a time in milliseconds, after which a missing reply is {error, timeout}; the session can't be used any more then.
--spec connect(inet:port_number(), timeout()) -> answer(session()).
-connect(Port, Timeout) ->
-    case gen_tcp:connect({127, 0, 0, 1}, Port, [binary, {packet, 4}, {active, false}, {nodelay, true}], Timeout) of
+-spec connect(inet:port_number() | inet:local_address(), timeout()) -> answer(session()).
+connect({local, _} = Address, Timeout) -> connect(Address, 0, Timeout);
+connect(Port, Timeout) -> connect({127, 0, 0, 1}, Port, Timeout).
+
+connect(Address, Port, Timeout) ->
+    case gen_tcp:connect(Address, Port, [binary, {packet, 4}, {active, false}, {nodelay, true}], Timeout) of
         {ok, Socket} -> first_reply({Socket, Timeout});
         {error, Why} -> {error, Why}
     end.

@@ -57,15 +57,16 @@ written("opcode.beam", file[: code + 28], b"\x0e", file[code + 29 :])
 written("nocode.beam", file[:code], b"Kode", file[code + 4 :])
 CODE
 
-# Starts a node in the place of the last one; port is where it listens.
+# Starts a node in the place of the last one; port is where it listens, and so is the socket of that name.
 start() {
     kill $server 2>/dev/null
     : >listening
-    "$node" serve --port 0 --schedulers 2 >listening 2>warnings &
+    "$node" serve --port 0 --socket socket --schedulers 2 >listening 2>warnings &
     server=$!
     disown
     for _ in $(seq 100); do
-        port=$(sed -n 's/^listening on 127\.0\.0\.1://p' listening) && [[ -n $port ]] && return
+        # The line of the port comes before that of the socket.
+        grep -q '^listening on socket$' listening && port=$(sed -n 's/^listening on 127\.0\.0\.1://p' listening) && return
         sleep 0.05
     done
     echo "the node doesn't listen: $(<warnings)" >&2
@@ -73,16 +74,31 @@ start() {
 }
 start
 
-ctl() { python3 "$root/clients/beamctl.py" --port "$port" "$@"; }
+beamctl() { python3 "$root/clients/beamctl.py" "$@"; }
+ctl() { beamctl --port "$port" "$@"; }
+by_socket() { beamctl --socket socket "$@"; }
 
-# occupied SECONDS WORD..: the node's only place is taken for so long, and beamctl tries.
+# occupied SECONDS COMMAND WORD..: the port's only place is taken for so long, and the command tries.
 occupied() {
     local seconds=$1
     shift
     exec 9<>"/dev/tcp/127.0.0.1/$port"
     (sleep "$seconds") 9<&9 &
     exec 9>&-
-    ctl "$@"
+    "$@"
+}
+
+# alone COMMAND WORD..: runs a command beside a node that has no port, but the socket `alone`, and prints the node's status at its end.
+alone() {
+    : >alone.out
+    "$node" serve --socket alone --log error >alone.out 2>&1 &
+    for _ in $(seq 100); do
+        grep -q '^listening on alone$' alone.out && break
+        sleep 0.05
+    done
+    "$@"
+    wait $!
+    echo "the node's status: $?"
 }
 
 # held PID: waits until the process is held.
@@ -572,11 +588,26 @@ current none, old none
 $ ctl unknown 2>&1 | cut -c 1-50 | tail -1
 beamctl: argument COMMAND: invalid choice: 'unknow
 (status 2)
-$ python3 "$root/clients/beamctl.py" --port 65536 ps 2>&1 | tail -1
+$ beamctl --port 65536 ps 2>&1 | tail -1
 beamctl: argument --port: invalid port value: '65536'
 (status 2)
-$ python3 "$root/clients/beamctl.py" --port 1 ps
+$ beamctl --port 1 ps
 beamctl: 127.0.0.1:1: Connection refused
+(status 1)
+$ beamctl ps 2>&1 | tail -1
+beamctl: one of the arguments --port --socket is required
+(status 2)
+$ beamctl --port 1 --socket socket ps 2>&1 | tail -1
+beamctl: argument --socket: not allowed with argument --port
+(status 2)
+$ beamctl --socket missing ps
+beamctl: missing: No such file or directory
+(status 1)
+$ beamctl --socket t.S ps
+beamctl: t.S: Connection refused
+(status 1)
+$ beamctl --socket "$(printf 'a%.0s' {1..108})" ps 2>&1 | tail -c 22
+AF_UNIX path too long
 (status 1)
 $ ctl ps --help | head -1
 usage: beamctl.py ps [-h] [--json] [--timeout SECONDS] [--all] [--last N]
@@ -673,16 +704,84 @@ PID       STATE  MAILBOX  TRANSIT  AT
 <0.52.0>  ended                    too long to show
 
 # ---- The only place is taken: what was given up isn't done later
-$ occupied 3 --timeout 0.2 load t.beam
+$ occupied 3 ctl --timeout 0.2 load t.beam
 beamctl: no first reply within 0.2 seconds: nothing was sent that changes anything. All places may be taken
 (status 1)
-$ occupied 3 --timeout 0.2 --json load t.beam
+$ occupied 3 ctl --timeout 0.2 --json load t.beam
 {"error": "NoPlace"}
 (status 1)
-$ occupied 1 versions t
+$ occupied 1 ctl versions t
 current 10, old 9
-$ occupied 1 --timeout none versions t
+$ occupied 1 ctl --timeout none versions t
 current 10, old 9
+
+# ---- The socket, which has places of its own
+$ by_socket versions t
+current 10, old 9
+$ occupied 2 by_socket --timeout 1 --json versions t
+{"current": 10, "old": 9}
+$ by_socket --timeout 20 call erlang:abs '[-4]'
+4
+$ printf 'versions nothing\nask 46 hello\nps\ninspect x\n' | by_socket --timeout 20
+current none, old none
+hello
+PID       STATE    MAILBOX  TRANSIT  AT
+<0.46.0>  waiting  0        0        grow:hold/2 label 3 + 0 instance 18
+beamctl: x is no process: a number, or <0.NUMBER.0>
+(status 2)
+$ stat -c '%A %F' socket socket.http
+srw------- socket
+srw------- socket
+$ ctl versions t
+current 10, old 9
+
+# ---- beamctl as it is installed: its other files are beside the one that the link names
+$ "$root/clients/install" --prefix "$PWD/usr" && cd usr && find . ! -type d | sort
+./bin/beamctl
+./lib/kanguriwe/beamclient.py
+./lib/kanguriwe/beamctl.py
+./lib/kanguriwe/beamctl_helper.beam
+./share/man/man1/beamctl.1
+$ usr/bin/beamctl --help | head -1 | cut -c 1-14
+usage: beamctl
+$ "$root/clients/install" --to usr
+usage: clients/install [--prefix PREFIX]
+(status 2)
+
+# ---- The end of a node in good order
+$ ctl stop
+beamctl: stop needs --socket
+(status 2)
+$ by_socket stop --wait 0 2>&1 | tail -1
+beamctl: argument --wait: invalid seconds value: '0'
+(status 2)
+$ by_socket stop
+stopped
+$ ls socket socket.http 2>/dev/null
+(status 2)
+$ ctl versions t 2>&1 | sed 's/[0-9]*: C/PORT: C/'
+beamctl: 127.0.0.1:PORT: Connection refused
+(status 1)
+$ by_socket versions t
+beamctl: socket: No such file or directory
+(status 1)
+$ by_socket stop
+beamctl: socket.http: No such file or directory
+(status 1)
+$ by_socket --json stop
+{"error": "socket.http: No such file or directory"}
+(status 1)
+$ alone beamctl --socket alone stop
+stopped
+the node's status: 0
+$ alone beamctl --socket alone --json stop --wait 20
+"stopped"
+the node's status: 0
+$ printf 'call erlang:abs [-4]\nstop\nstop\n' | alone usr/bin/beamctl --socket alone
+4
+stopped
+beamctl: alone.http: No such file or directory
+the node's status: 0
 END_OF_LINES
 compare
 
@@ -692,7 +791,7 @@ if command -v erlc >/dev/null; then
     start
     cp "$root"/clients/beamctl_helper.beam .
     erlc -Wall -Werror "$root/clients/kanguriwe.erl" "$root/tests/ctl_calls.erl" &&
-        erl -noshell -run ctl_calls main "$port" || failed=$((failed + 1))
+        erl -noshell -run ctl_calls main "$port" socket || failed=$((failed + 1))
 else
     echo "erlc isn't installed: clients/kanguriwe.erl isn't tried"
 fi

@@ -5,10 +5,10 @@
 
 -define(IS(Wanted, Call), {??Call, fun() -> Call end, Wanted}).
 
-main([Word]) ->
+main([Word, Path]) ->
     Port = list_to_integer(Word),
     {ok, Node} = kanguriwe:connect(Port, 5000),
-    Found = [holds(Text, catch Call(), Wanted) || {Text, Call, Wanted} <- calls(Port, Node)],
+    Found = [holds(Text, catch Call(), Wanted) || {Text, Call, Wanted} <- calls(Port, Node) ++ calls_by_socket(Path)],
     io:format("ctl_calls: ~b of ~b hold~n", [length([held || true <- Found]), length(Found)]),
     halt(case lists:all(fun(Held) -> Held end, Found) of true -> 0; false -> 1 end).
 
@@ -105,6 +105,15 @@ calls(Port, Node) ->
      ?IS({error, bad_command}, kanguriwe:set_break(Node, nowhere)),
      ?IS({error, closed}, kanguriwe:versions(Node, t)),
      ?IS(ok, kanguriwe:close(Node))].
+
+calls_by_socket(Path) ->
+    {ok, Node} = kanguriwe:connect({local, Path}, 5000),
+    [?IS({ok, {9, 6}}, kanguriwe:versions(Node, t)),
+     ?IS({ok, 10}, kanguriwe:call(Node, t, sum, [4])),
+     ?IS({ok, {11, 10}}, kanguriwe:load_strict(Node, "grow.beam")),
+     ?IS(ok, kanguriwe:close(Node)),
+     ?IS({error, enoent}, kanguriwe:connect({local, "missing"})),
+     ?IS({error, econnrefused}, kanguriwe:connect({local, <<"t.beam">>}, 5000))].
 
 %% Where a process is held.
 held(_, _, 0) -> not_held;

@@ -1,16 +1,18 @@
 #!/usr/bin/env python3
 """What clients/beamctl.py makes of replies: each refusal, frame error and fault of a file by its number, replies that are no
-replies, and none at all, at each command and as the first reply of a connection. A small server in this process gives them.
-Prints how many hold; status 1 names what doesn't."""
+replies, and none at all, at each command and as the first reply of a connection; and what `stop` makes of the answers of a node's
+socket for HTTP. Small servers in this process give them. Prints how many hold; status 1 names what doesn't."""
 
 import contextlib
 import io
+import itertools
 import json
 import os
 import random
 import socket
 import struct
 import sys
+import tempfile
 import threading
 import traceback
 
@@ -62,11 +64,12 @@ def frame(*body: int) -> bytes:
     return struct.pack(">I", len(body)) + bytes(body)
 
 
-def control(port: int, words: list[str], timeout: str | None) -> tuple[object, str]:
+def control(address: int | str, words: list[str], timeout: str | None) -> tuple[object, str]:
     """The status, and what is printed; a traceback, if there is one."""
     printed = io.StringIO()
     printed.reconfigure = lambda **_: None
-    sys.argv = ["beamctl.py", "--port", str(port), *(["--timeout", timeout] if timeout else []), *words]
+    option = "--port" if isinstance(address, int) else "--socket"
+    sys.argv = ["beamctl.py", option, str(address), *(["--timeout", timeout] if timeout else []), *words]
     with contextlib.redirect_stdout(printed), contextlib.redirect_stderr(printed):
         try:
             status = beamctl.main()
@@ -145,8 +148,9 @@ def main() -> int:
                 kind, frame(beamctl_reply(kind), *random.randbytes(random.randrange(12))))
             found = control(server.port, words, "0.05")
             check(f"{words[0]} of {replies}", found[0] in (0, 1, 3), found)
-    for name, (found, wanted) in without_replies(server).items():
-        check(name, found == wanted, found)
+    with tempfile.TemporaryDirectory() as folder:
+        for name, (found, wanted) in {**without_replies(server), **over_sockets(folder)}.items():
+            check(name, found == wanted, found)
     for _ in range(20):
         found = long_among_many(server)
         check("ps of processes that are too long to show", found == (COUNT, list(LONG)), found)
@@ -183,6 +187,78 @@ def without_replies(server: Answers) -> dict[str, tuple[object, object]]:
         frame(6, 4) if server.connections == begun + 1 else REFUSED if kind == 8 else frame(4, *b"pid 1 ended normal\n"))
     beamctl.SECONDS_FOR_A_REPLY = 0.05
     checks["wait without a place meanwhile"] = control(server.port, ["wait", "1"], None), (0, "<0.1.0> ended normal\n")
+    return checks
+
+
+# What `stop` has to send.
+STOP = b"POST /stop HTTP/1.1\r\nHost: localhost\r\nX-Kanguriwe: 1\r\nContent-Length: 0\r\n\r\n"
+READY = b"GET /readyz HTTP/1.1\r\nHost: localhost\r\n\r\n"
+STOPPING = 202, '{"stopping":true}'
+LEFT = 503, "stopping: 2 sessions are open"
+
+
+def http(status: int, text: str) -> bytes:
+    return f"HTTP/1.1 {status} text\r\nContent-Length: {len(text)}\r\nConnection: close\r\n\r\n{text}".encode()
+
+
+def give_http(path: str, answers) -> None:
+    """Listens at a path and gives the answers, one a connection, the first of them to STOP and the others to READY. None is no answer.
+    After the last one the socket refuses."""
+    listener = socket.socket(socket.AF_UNIX)
+    listener.bind(path)
+    listener.listen()
+
+    def serve():
+        with listener:
+            for wanted, answer in zip(itertools.chain([STOP], itertools.repeat(READY)), answers):
+                connection, _ = listener.accept()
+                with connection, contextlib.suppress(OSError):
+                    if connection.recv(65536) != wanted:
+                        connection.sendall(http(400, "another request"))
+                    elif answer is None:
+                        connection.recv(1)
+                    else:
+                        connection.sendall(answer)
+    threading.Thread(target=serve, daemon=True).start()
+
+
+def over_sockets(folder: str) -> dict[str, tuple[object, object]]:
+    """By what is tried over a Unix socket: what comes, and what has to come."""
+    forever = itertools.repeat(http(*LEFT))
+    late = "the node hasn't ended within 0.2 seconds"
+    tried = {
+        "stop": ([http(*STOPPING), *[http(*LEFT)] * 3], ["stop"], "5", (0, "stopped\n")),
+        "stop --json": ([http(*STOPPING)], ["stop", "--json"], "5", (0, '"stopped"\n')),
+        "stop of a node that ends while it is asked": ([http(*STOPPING), b"", http(*LEFT)[:9], b"\xff" * 99], ["stop"], "5", (0, "stopped\n")),
+        "stop of a node that doesn't end":
+            (itertools.chain([http(*STOPPING)], forever), ["stop", "--wait", "0.2"], "5", (1, f"beamctl: {late}: {LEFT[1]}\n")),
+        "stop --json of a node that doesn't end":
+            (itertools.chain([http(*STOPPING)], forever), ["--json", "stop", "--wait", "0.2"], "5", (1, f'{{"error": "{late}: {LEFT[1]}"}}\n')),
+        "stop of a node that says nothing more":
+            (itertools.chain([http(*STOPPING)], itertools.repeat(None)), ["stop", "--wait", "0.2"], "5", (1, f"beamctl: {late}\n")),
+        "stop without an answer": ([None], ["stop"], "0.05", (1, NO_REPLY)),
+        "stop of what is no HTTP": ([b"220 ready\r\n"], ["stop"], "5", (1, "beamctl: a reply that can't be read\n")),
+        "stop with an empty answer": ([b""], ["stop"], "5", (1, "beamctl: a reply that can't be read\n")),
+        "stop that is refused": ([http(403, "no field")], ["stop"], "5", (1, "beamctl: PATH.http: 403 no field\n")),
+    }
+    checks = {}
+    for number, (name, (answers, words, timeout, wanted)) in enumerate(tried.items()):
+        path = os.path.join(folder, str(number))
+        give_http(path + ".http", answers)
+        status, text = control(path, words, timeout)
+        checks[name] = (status, text.replace(path, "PATH")), wanted
+
+    path = os.path.join(folder, "full")
+    with contextlib.ExitStack() as stack:
+        listener = stack.enter_context(socket.socket(socket.AF_UNIX))
+        listener.bind(path)
+        listener.listen(0)
+        with contextlib.suppress(BlockingIOError):
+            while True:
+                waiting = stack.enter_context(socket.socket(socket.AF_UNIX))
+                waiting.setblocking(False)
+                waiting.connect(path)
+        checks["a socket where too many wait"] = control(path, ["versions", "t"], "0.05"), (1, NO_PLACE)
     return checks
 
 
