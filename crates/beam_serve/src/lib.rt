@@ -26,3 +26,4 @@ mod socket_file;
 pub use seat_desk::SeatDesk;
 pub use serving::serve;
 pub use sessions::{Incoming, serve_sessions, session};
+pub use socket_file::{SocketFile, listen_at};

@@ -9,11 +9,9 @@ use std::fs::File;
 use std::io::{ErrorKind, Read, Write};
 use std::net::{Net, Shutdown, TcpStream};
 use std::os::fd::OwnedFd;
-use std::os::unix::fs::PermissionsExt;
 use std::os::unix::net::UnixStream;
 use std::sync::Wait;
 use std::time::{Clock, Duration};
-use std::{fs, rt};
 
 /// For how many seconds a call of a connection waits: a little less than the 60 seconds after which `rt` ends a test.
 const SECONDS: u64 = 50;
@@ -31,8 +29,6 @@ pub enum Step {
     ConnectToSocket,
     /// The response to this request, over the socket of requests.
     Ask(&'static str, &'static str),
-    /// The files of the sockets have this mode.
-    Mode(u32),
     /// Sends these frames.
     Send(usize, &'static str),
     /// The next bytes are these frames.
@@ -100,10 +96,7 @@ fn is_at_end(stream: &TcpStream) -> bool {
     }
 }
 
-impl<
-    'a,
-    R: Net<Stream = TcpStream> + Wait + Clock + rt::Files<File = File> + AllocGlobal,
-> NodeClient<'a, R> {
+impl<'a, R: Net<Stream = TcpStream> + Wait + Clock + AllocGlobal> NodeClient<'a, R> {
     /// A client without a connection. The file tells how many threads run.
     pub fn new(
         rt: &'a R,
@@ -198,22 +191,6 @@ impl<
         } else {
             Err("another response")
         }
-    }
-
-    fn has_mode(&self, mode: u32) -> Result<(), &'static str> {
-        let Some(path) = self.wait_for_socket() else {
-            return Err("it doesn't listen");
-        };
-        for end in ["", ".http"] {
-            let Ok(path) = format!(in self.rt.alloc(); "{path}{end}") else {
-                return Err("no memory");
-            };
-            match fs::metadata(self.rt, path.as_str()) {
-                Ok(metadata) if metadata.permissions().mode() % 512 == mode => {}
-                _ => return Err("another mode"),
-            }
-        }
-        Ok(())
     }
 
     fn send(&self, number: usize, text: &'static str) -> Result<(), &'static str> {
@@ -315,7 +292,6 @@ impl<
             Step::Connect => self.connect(),
             Step::ConnectToSocket => self.connect_to_socket(),
             Step::Ask(request, response) => self.ask(request, response),
-            Step::Mode(mode) => self.has_mode(mode),
             Step::Send(number, text) => self.send(number, text),
             Step::Receive(number, text) => self.receive(number, text),
             Step::Poll(number, command, reply) => self.poll(number, command, reply),

@@ -117,13 +117,7 @@ fn printed_text(alloc: Global, port: Option<u16>, printed: &str) -> Result<Strin
 fn start_client<
     's,
     E,
-    R: Net<Listener = TcpListener, Stream = TcpStream>
-        + Wait
-        + Clock
-        + rt::Files<File = File>
-        + AllocGlobal
-        + Sync
-        + 's,
+    R: Net<Listener = TcpListener, Stream = TcpStream> + Wait + Clock + AllocGlobal + Sync + 's,
 >(
     scope: &Scope<'s, E>,
     rt: &'s R,

@@ -1,6 +1,6 @@
 //! Runs of `beamnode serve` with a socket. Functions without contracts give them, so that the proofs of the tests compute nothing of them.
 
-use crate::node_client::Step::{Ask, Connect, ConnectToSocket, End, Finish, Mode, Receive, Send};
+use crate::node_client::Step::{Ask, Connect, ConnectToSocket, End, Finish, Receive, Send};
 use crate::serving_rows::NodeRow;
 
 /// No instance of a module.
@@ -40,7 +40,6 @@ const SOCKETS: [NodeRow; 6] = [
             Receive(1, "LOADED"),
             Send(0, "VERSIONS"),
             Receive(0, "LOADED"),
-            Mode(0o600),
             Finish(0),
             End(0),
             Finish(1),
@@ -60,7 +59,6 @@ const SOCKETS: [NodeRow; 6] = [
             ConnectToSocket,
             Send(1, "LOAD"),
             Receive(1, "LOADED"),
-            Mode(0o660),
             Send(0, "VERSIONS"),
             Receive(0, "LOADED"),
             Finish(1),
@@ -111,7 +109,7 @@ status 0\n",
         title: "a stop of a node that nobody asked for anything",
         words: "beamnode serve --socket s.socket --socket-mode 0640",
         is_closed: false,
-        steps: &[Mode(0o640), Ask(STOP, STOPPING)],
+        steps: &[Ask(STOP, STOPPING)],
         wanted: "listening on s.socket\nstatus 0\n",
     },
     NodeRow {
