@@ -196,7 +196,7 @@ proctype worker(byte w) {
   k=0;
   if :: p==0 -> atomic { if :: NOU -> skip :: else -> give_baton() fi }; goto idle_ :: else fi;
  run_:
-  if :: own>0 -> wake() :: skip fi;                             /* something waits behind it, and nobody was woken just now */
+  if :: own>0 -> wake() :: skip fi;                             /* another process is in its own queue, and nobody was woken just now */
   if :: TURNS>0 -> skip :: TURNS==0 -> goto slice_ :: TURNS>0 -> goto slice_ fi;
   atomic { /* have_turns: of p, and then of others that are ready */
     marked[p]=0; q=p; k=0; goes_on=0; over=0;

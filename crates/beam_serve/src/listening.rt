@@ -107,7 +107,7 @@ fn listen_at_port<'l, R: Net<Listener = TcpListener, Stream = TcpStream>>(
     }
 }
 
-/// Listens on a socket, and on the one of requests beside it, whose path has `.http` behind it. If one of them can't be had there is none.
+/// Listens on a socket, and on the one of requests, whose path ends in `.http`. If one of them can't be had there is none.
 fn listen_at_sockets<R: Net<Listener = TcpListener, Stream = TcpStream> + rt::Files<File = File>>(
     rt: &R,
     alloc: Global,
