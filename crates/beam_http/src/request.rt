@@ -1,5 +1,5 @@
 //! What a request asks for.
-ghost use Rattle.std.specs.Prelude.{◌≡◌, ℕ, List, Bool, Ok, IfOk, OnSome, IfSome};
+ghost use Rattle.std.specs.Prelude.{◌≡◌, ℕ, List, Bool, Ok, IfOk, IfSome};
 ghost use Rattle.httparse.specs.Grammar.{ReadsRequest, RequestHead};
 ghost use Rattle.beam_http.specs.Requests.{by_get, by_post, request_at};
 

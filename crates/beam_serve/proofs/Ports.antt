@@ -1,5 +1,5 @@
 -- Faults that are of any port.
-use Rattle.std.proofs.Common.{ℕ, List, Option, Some, None}
+use Rattle.std.proofs.Common.{ℕ, List, Option}
 use Rattle.beam_tools.specs.Prelude.{IsOfPort, StartingSays}
 use Rattle.beam_tools.specs.declared.job.JobFault.{JobFault}
 use Rattle.beam_tools.specs.declared.job.JobFault.TheVariants as fault
