@@ -249,6 +249,7 @@ fn wait_once<B: NodeBrand + QueueBrand + Send + Sync, R: Threads + Wait + time::
     queues: queue::UnbrandedQueues,
     commands: Commands,
     begins: u64,
+    rows_in_place: u32,
 ) -> Result<WaitResult, Fail>
     requires node { unbranded ≡ B.table }
     requires limit { B.limit ≡ most_entries }
@@ -259,7 +260,7 @@ fn wait_once<B: NodeBrand + QueueBrand + Send + Sync, R: Threads + Wait + time::
         reads: AtomicU64::new(0),
     };
     let (node, workers, context, _) = staged::<B>(alloc, unbranded, queues, MOST_ENTRIES, 1)?;
-    let shared = Shared::new(alloc, node, 0);
+    let shared = Shared::new(alloc, node, rows_in_place);
     let (contexts, early, unfinished) = run(
         rt, alloc, &shared, &clock, workers, context, commands, begins,
     );
@@ -276,6 +277,7 @@ fn wait_here<R: Threads + Wait + time::Clock + Sync>(
     rt: &R,
     alloc: Global,
     begins: u64,
+    rows_in_place: u32,
 ) -> Result<WaitResult, Fail> {
     let unbranded = UnbrandedKeeper::new(alloc)?;
     let queues = queue::UnbrandedQueues::new(alloc, 2)?;
@@ -283,15 +285,24 @@ fn wait_here<R: Threads + Wait + time::Clock + Sync>(
         .load(SLEEP)
         .spawn("s", "sleep", &[Integer(100)]);
     commands.made()?;
-    wait_once::<Brand, R>(rt, alloc, unbranded, queues, commands, begins)
+    wait_once::<Brand, R>(
+        rt,
+        alloc,
+        unbranded,
+        queues,
+        commands,
+        begins,
+        rows_in_place,
+    )
 }
 
-/// The process waits from 200 to 300, and no other time is entered, if the commands are given at `begins`.
+/// The process waits from 200 to 300, and no other time is entered, if the commands are given at `begins`, and a short turn has that many rows.
 fn waits_from_200<R: Threads + Wait + time::Clock + Sync + Abort + AllocGlobal>(
     rt: &R,
     begins: u64,
+    rows_in_place: u32,
 ) -> Result<(), Fail> {
-    let waited = wait_here(rt, rt.alloc(), begins)?;
+    let waited = wait_here(rt, rt.alloc(), begins, rows_in_place)?;
     if let Some(unfinished) = waited.unfinished {
         return Err(unfinished.fail());
     }
@@ -305,11 +316,17 @@ fn waits_from_200<R: Threads + Wait + time::Clock + Sync + Abort + AllocGlobal>(
 /// The node was idle until 200.
 #[test]
 fn a_wait_begins_at_its_moment(rt: HostRuntime) -> Result<(), Fail> {
-    waits_from_200(&rt, 200)
+    waits_from_200(&rt, 200, 0)
+}
+
+/// The node was idle until 200, and the wait begins in a short turn.
+#[test]
+fn a_wait_in_a_turn_begins_at_its_moment(rt: HostRuntime) -> Result<(), Fail> {
+    waits_from_200(&rt, 200, 256)
 }
 
 /// The process began to compute at 0.
 #[test]
 fn a_wait_begins_when_its_slice_comes_back(rt: HostRuntime) -> Result<(), Fail> {
-    waits_from_200(&rt, 0)
+    waits_from_200(&rt, 0, 0)
 }
