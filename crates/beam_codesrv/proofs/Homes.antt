@@ -1,5 +1,5 @@
 -- Where the listing of an instance is found, and that changes of modules keep it so.
-use Rattle.std.proofs.Common.{◌≡◌, ℕ, zero, suc, ◌+◌, ◌≤◌, Bool, true, false, ◌==◌, ◌||◌, nat_lt, cond, not, List, [], ◌∷◌, refl, sym, ap, subst, ◌∙◌, arith, Option, Some, None, option_and_then, unwrap_or, is_some, eqb-true}
+use Rattle.std.proofs.Common.{◌≡◌, ℕ, zero, suc, ◌+◌, ◌≤◌, Bool, true, false, ◌==◌, ◌||◌, nat_lt, cond, not, List, [], ◌∷◌, length, slice_get, option_map, refl, sym, ap, subst, ◌∙◌, arith, Option, Some, None, option_and_then, unwrap_or, is_some, eqb-true}
 use Rattle.std.proofs.lemmas.Bool.Decides.{nat_tests}
 use Rattle.std.specs.Cmp.Lexicographic.{nat_list_eq_equiv}
 use Rattle.std.specs.List.{IsDistinct, AllByRecursion}
@@ -425,3 +425,14 @@ first_stands home new i name ms after code view h fresh named none is homes =
     nothing_old : (o : Option Pair) → is_some o ≡ false → option_and_then old_number o ≡ None
     nothing_old None e = refl
     nothing_old (Some v) e = cc
+
+-- ---- by index
+
+pub as_many : (ms : List ModuleEntry) → length (code_of ms) ≡ length ms
+as_many [] = refl
+as_many (m ∷ ms) = ap suc (as_many ms)
+
+pub at_index : (ms : List ModuleEntry) (i : ℕ) → slice_get (code_of ms) i ≡ option_map versions_in (slice_get ms i)
+at_index [] i = refl
+at_index (m ∷ ms) zero = refl
+at_index (m ∷ ms) (suc i) = at_index ms i

@@ -6,6 +6,7 @@ pub mod code_table;
 mod comparing;
 mod copying;
 pub mod error;
+mod module_list;
 pub mod upgrading;
 pub mod versions;
 

@@ -165,6 +165,14 @@ impl Process {
         self.frames.walk()
     }
 
+    /// How many words its frames count: one for each frame, and one for each y register. At most 65,536.
+    pub fn stack_words(&self) -> usize
+        ensures value { result ≡ words_of self.now.frames }
+        ensures most { result ≤ 65536 }
+    {
+        self.frames.words()
+    }
+
     /// Where its newest frame returns. `None` where there is no frame, or it returns nowhere.
     pub fn newest_back(&self) -> Option<Place>
         ensures { result ≡ newest_back self.now.frames }

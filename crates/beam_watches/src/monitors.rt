@@ -1,5 +1,5 @@
 //! The monitors of a process.
-ghost use Rattle.std.specs.Prelude.{◌≡◌, ◌==◌, [], ◌∷◌, ◌++◌, OnOk, OnErr, IfOk, option_map, length};
+ghost use Rattle.std.specs.Prelude.{◌≡◌, ◌==◌, [], ◌∷◌, ◌++◌, OnOk, OnErr, IfOk, option_map, length, ◌-◌, ◌^◌, min};
 ghost use Rattle.std.specs.List.{list_any};
 ghost use Rattle.std.specs.Option.{option_copied};
 ghost use Rattle.std.specs.Iterator.{at_most};
@@ -132,6 +132,13 @@ impl Monitors {
         ensures { result ≡ (length self.now == 0) }
     {
         self.older.is_none() && self.newest.is_none()
+    }
+
+    /// How many there are; 2^64 - 1 if there are more.
+    pub fn len(&self) -> usize
+        ensures { result ≡ min (length self.now) (2 ^ 64 - 1) }
+    {
+        self.older.count().saturating_add(self.newest.count())
     }
 
     /// The pid that is monitored under a reference.

@@ -52,7 +52,7 @@ impl Segment {
     }
 
     /// How many are kept.
-    fn count(&self) -> usize
+    pub(crate) fn count(&self) -> usize
         ensures { result ≡ length self.now }
     {
         match &self.shared {
