@@ -1,6 +1,7 @@
 //! The lines of the log on their way to the thread that writes them.
 
 use crate::end_limit::EndLimit;
+use crate::recent_lines::{RecentLine, RecentLines};
 use crossbeam_queue::ArrayQueue;
 use std::alloc::{AllocError, Global};
 use std::mem;
@@ -53,6 +54,25 @@ impl Drop for NextLine {
     }
 }
 
+impl LogLine {
+    /// Its time and its text.
+    fn into_text(self) -> (Duration, String) {
+        let LogLine { time, text, .. } = self;
+        (time, text)
+    }
+}
+
+impl NextLine {
+    /// The time and the text of a line that was logged.
+    fn into_text(self) -> Option<(Duration, String)> {
+        match self {
+            NextLine::Logged(line) => Some(line.into_text()),
+            NextLine::Lost(_) | NextLine::EndsNotLogged(_) => None,
+            NextLine::Last(_bytes) => None,
+        }
+    }
+}
+
 /// How far the log is.
 #[derive(Drop)]
 struct LogState {
@@ -72,6 +92,10 @@ pub struct LogLines {
     lines: ArrayQueue<LogLine>,
     /// How many lines were lost since the last one that waits.
     lost: AtomicU64,
+    /// How many lines were lost in all.
+    all_lost: AtomicU64,
+    /// The last lines that were written.
+    recent: Mutex<RecentLines>,
     ends: EndLimit,
     /// How many times the writer has taken what is next.
     taken: AtomicU64,
@@ -90,6 +114,8 @@ impl LogLines {
             alloc,
             lines: ArrayQueue::new(alloc, ROOM)?,
             lost: AtomicU64::new(0),
+            all_lost: AtomicU64::new(0),
+            recent: Mutex::new(RecentLines::new(alloc)?),
             ends: EndLimit::new(),
             taken: AtomicU64::new(0),
             is_waiting: AtomicBool::new(false),
@@ -114,6 +140,7 @@ impl LogLines {
 
     /// Counts lines that are lost, and wakes the writer.
     fn lose<R: Wait>(&self, rt: &R, count: u64) {
+        let _ = self.all_lost.fetch_add(1, Ordering::SeqCst);
         let _ = self.lost.fetch_add(count, Ordering::SeqCst);
         self.wake(rt);
     }
@@ -141,6 +168,28 @@ impl LogLines {
             Ok(()) => self.wake(rt),
             Err(line) => self.lose(rt, line.lost_before.saturating_add(1)),
         }
+    }
+
+    /// Keeps a line that was written among the last ones.
+    pub(crate) fn keep<R: Wait>(&self, rt: &R, written: NextLine) {
+        if let Some((time, text)) = written.into_text() {
+            self.recent.lock(rt).push(time, text);
+        }
+    }
+
+    /// Copies of those of the last 500 lines that come behind a number, and how many behind it are no longer there.
+    pub fn recent<R: Wait>(
+        &self,
+        rt: &R,
+        alloc: Global,
+        number: u64,
+    ) -> Result<(Vec<RecentLine>, u64), AllocError> {
+        self.recent.lock(rt).after(alloc, number)
+    }
+
+    /// How many lines were lost, for want of room or of memory.
+    pub fn lost(&self) -> u64 {
+        self.all_lost.load(Ordering::SeqCst)
     }
 
     /// Wakes the writer, if it waits or is about to. It notes that before it looks for lines for the last time, so either it finds the

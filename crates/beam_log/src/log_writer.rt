@@ -99,6 +99,7 @@ pub fn write_lines<R: Wait + Clock, C: Eprint + Clock>(rt: &R, console: &C, line
                 return lines.end(rt);
             }
         }
+        lines.keep(rt, next);
     }
 }
 
