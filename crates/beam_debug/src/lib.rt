@@ -7,7 +7,7 @@ pub mod debugger;
 mod inspect;
 mod installing;
 mod label_or_rows;
-mod location;
+pub mod location;
 mod numbers;
 pub mod outcome;
 mod places;

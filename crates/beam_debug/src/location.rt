@@ -138,8 +138,9 @@ fn last_label(image: &Image, at: usize) -> (u32, usize)
     (0, rows)
 }
 
-/// Where a row of an image stands.
-fn location_in(image: &Image, place: Place) -> Result<Location, AllocError>
+/// Where a row of an image stands: at this place, of whose number nothing is read but what is told. It takes time linear in the row's function,
+/// and memory for the function's name alone.
+pub fn location_in(image: &Image, place: Place) -> Result<Location, AllocError>
     ensures { IfOk result (λ s. location_seen s ≡ location_in place image.now.instructions) }
 {
     let (label, rows) = last_label(image, place.at());

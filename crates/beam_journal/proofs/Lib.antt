@@ -1,3 +1,4 @@
 pub mod Replayed
 pub mod DrainedEntries
+pub mod Counts
 mod Walks

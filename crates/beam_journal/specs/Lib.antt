@@ -1,3 +1,4 @@
+pub mod Counts
 pub mod Drained
 pub mod Entering
 pub mod Refusal

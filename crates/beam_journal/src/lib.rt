@@ -4,6 +4,7 @@
 mod cut;
 mod drained_events;
 pub mod entry;
+pub mod entry_counts;
 pub mod error;
 pub mod journal;
 pub mod node_journal;

@@ -3,11 +3,13 @@ ghost use Rattle.std.specs.Prelude.{◌≡◌, ◌≢◌, ◌⊎◌, ◌+◌, �
 ghost use Rattle.beam_machine.specs.DebugRun.{debug_after};
 ghost use Rattle.beam_machine.specs.Journal.{IsLawful, replay, sent_event_of};
 ghost use Rattle.beam_debug.specs.Answers.{reply_of};
+ghost use Rattle.beam_journal.specs.Counts.{counts_of};
 ghost use Rattle.beam_journal.specs.Entering.{Accepts, entry_of, in_memory, most_entries};
 
 use crate::cut::cut_event;
 use crate::drained_events::{DrainedEvents, Leaving};
 use crate::entry::Entry;
+use crate::entry_counts::{EntryCounts, kind_of};
 use crate::error::JournalError;
 use crate::journal::Journal;
 use beam_debug::outcome::Outcome;
@@ -31,6 +33,8 @@ pub struct NodeJournal {
     entries: Vec<Entry>,
     /// How many entries can be in memory.
     limit: u32,
+    /// How many entries of each kind there are, with those that have left memory.
+    counts: EntryCounts,
 }
 
 impl Drop for NodeJournal {
@@ -41,6 +45,7 @@ impl Drop for NodeJournal {
             drained: _drained,
             entries: _entries,
             limit: _limit,
+            counts: _counts,
         } = self;
     }
 }
@@ -50,6 +55,7 @@ impl Model for NodeJournal {
     ghost use Rattle.std.specs.Coded.{codes};
     ghost use Rattle.beam_term.specs.Coding.{term_code};
     ghost use Rattle.beam_machine.specs.Journal.{IsLawful};
+    ghost use Rattle.beam_journal.specs.Counts.{counts_of};
     ghost use Rattle.beam_journal.specs.Entering.{NodeJournal as TheJournal, entries_of, most_entries};
 
     ghost Value = { TheJournal };
@@ -64,7 +70,7 @@ impl Model for NodeJournal {
     } };
 
     ghost invariant = { λ j. IsLawful (entries_of (j.gone.events ++ j.entries.items)) × (vec_len j.entries ≤ j.limit) × (j.limit ≤ most_entries)
-        × (j.drained ≡ length j.gone.events) × (j.drained ≤ 2 ^ 63) };
+        × (j.drained ≡ length j.gone.events) × (j.drained ≤ 2 ^ 63) × (j.counts ≡ counts_of (j.gone.events ++ j.entries.items)) };
 }
 
 impl NodeJournal {
@@ -79,6 +85,7 @@ impl NodeJournal {
             drained: 0,
             entries: Vec::new(alloc),
             limit,
+            counts: EntryCounts::none(),
         }
     }
 
@@ -115,6 +122,14 @@ impl NodeJournal {
         ensures few { length self.now.entries ≤ 2 ^ 63 + most_entries }
     {
         self.drained + self.entries.len() as u64
+    }
+
+    /// How many entries of each kind it has, with those that have left memory.
+    #[tactic(auto, using(crate::proofs::Counts::counts_all))]
+    pub fn counts(&self) -> EntryCounts
+        ensures { result ≡ counts_of (map sent_event_of self.now.entries) }
+    {
+        self.counts
     }
 
     /// Whether it has no entries.
@@ -160,7 +175,7 @@ impl NodeJournal {
     /// with this reply in the state to which the journal leads. A `Steps` that was cut is entered with the rows that were executed.
     /// `JournalFull` where as many entries are in memory as can be; `NoMemory` only where no capacity is left. A refusal changes nothing,
     /// and the event is dropped.
-    #[tactic(auto, using(crate::proofs::Replayed::lawful_more, crate::proofs::Replayed::replay_more, crate::proofs::DrainedEntries::one_more, crate::proofs::DrainedEntries::count_in_memory))]
+    #[tactic(auto, using(crate::proofs::Replayed::lawful_more, crate::proofs::Replayed::replay_more, crate::proofs::DrainedEntries::one_more, crate::proofs::DrainedEntries::count_in_memory, crate::proofs::Counts::one_more_counted, crate::proofs::Counts::few_counted))]
     pub fn push(
         &mut self,
         event: DebugEvent<Image>,
@@ -183,6 +198,7 @@ impl NodeJournal {
         }
         self.entries.reserve(1)?;
         let event = cut_event(event, reply);
+        self.counts = self.counts.with(kind_of(&event));
         self.entries.push_reserved(Entry::new(event, seat));
         Ok(())
     }
@@ -223,6 +239,7 @@ impl NodeJournal {
             drained: _drained,
             entries,
             limit,
+            counts: _counts,
         } = self;
         Ok(Journal::of_entries(alloc, entries, limit))
     }

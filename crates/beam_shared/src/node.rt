@@ -1,5 +1,6 @@
 //! A node that threads share.
 ghost use Rattle.std.specs.Prelude.{◌≡◌, ◌+◌, ◌<◌, ◌≤◌, ◌↔◌, ℕ, [], drop, length, map, IsErrOf, OnErr, IfOk, IfErr};
+ghost use Rattle.beam_journal.specs.Counts.{counts_of};
 ghost use Rattle.beam_journal.specs.Entering.{in_memory, most_entries};
 ghost use Rattle.beam_machine.specs.Journal.{IsLawful, replay, sent_event_of};
 ghost use Rattle.beam_machine.specs.Ready.{ready_after, next_deadline};
@@ -12,6 +13,7 @@ use crate::checked_out::CheckoutEntry;
 use crate::code_context::CodeContext;
 use beam_debug::debugger::Debugger;
 use beam_journal::entry::Entry;
+use beam_journal::entry_counts::EntryCounts;
 use beam_journal::journal::MOST_ENTRIES;
 use beam_journal::node_journal::NodeJournal;
 use beam_machine::event::Refused;
@@ -174,6 +176,13 @@ impl<B: NodeBrand> Node<B> {
         ensures { result ≡ length self.now.journal }
     {
         self.journal.len()
+    }
+
+    /// How many entries of each kind the journal has.
+    pub fn entry_counts(&self) -> EntryCounts
+        ensures { result ≡ counts_of (map sent_event_of self.now.journal) }
+    {
+        self.journal.counts()
     }
 
     /// How many entries of the journal are in memory.

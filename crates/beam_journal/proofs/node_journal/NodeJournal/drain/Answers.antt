@@ -1,9 +1,10 @@
-use Rattle.std.proofs.Common.{rules, ◌≡◌, ◌+◌, ◌^◌, ◌≤◌, ◌++◌, [], List, length, sym, ap, subst, ◌∙◌, arith, length-append}
+use Rattle.std.proofs.Common.{rules, ◌≡◌, ◌+◌, ◌^◌, ◌≤◌, ◌++◌, [], List, length, sym, ap, subst, ◌∙◌, arith, append-nil, length-append}
 use Rattle.std.specs.Vec.{vec_len}
 use Rattle.std.proofs.lemmas.List.{nil_from_length}
 use Rattle.beam_machine.specs.Journal.{IsLawful, SentEvent}
 use Rattle.beam_journal.specs.Drained.{after_drain}
 use Rattle.beam_journal.specs.declared.drained_events.DrainedEvents.{DrainedEvents}
+use Rattle.beam_journal.specs.Counts.{counts_of}
 use Rattle.beam_journal.specs.Entering.{entries_of}
 use Rattle.beam_journal.proofs.DrainedEntries.{all_drained, count_all}
 use Rattle.beam_journal.proofs.node_journal.NodeJournal.drain.Goals as goal
@@ -26,4 +27,5 @@ invariant_of-self c =
       c.self.invariant.2,
       count,
       search rules,
+      c.self.invariant.5 ∙ ap counts_of (sym (append-nil (gone ++ here))) ∙ ap counts_of (sym whole),
     )
