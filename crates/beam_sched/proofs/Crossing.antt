@@ -43,6 +43,7 @@ use Rattle.beam_image.specs.contracts.image.Image as Image
 use Rattle.beam_image.specs.contracts.image.Image.TheInside as Image_inside
 use Rattle.beam_image.specs.contracts.operand_lists.OperandList as OperandList
 use Rattle.beam_image.specs.contracts.operand_lists.OperandLists as OperandLists
+use Rattle.beam_journal.proofs.entry_counts.EntryCounts.TheSendSync as EntryCounts_crossing
 use Rattle.beam_journal.specs.contracts.entry.Entry as Entry
 use Rattle.beam_journal.specs.contracts.entry.Entry.TheInside as Entry_inside
 use Rattle.beam_journal.specs.contracts.drained_events.DrainedEvents as DrainedEvents
@@ -101,6 +102,8 @@ use Rattle.beam_queue.specs.declared.brand.QueueBrand as QueueBrand
 use Rattle.beam_receipts.specs.declared.brand.NodeBrand as NodeBrand
 use Rattle.beam_sched.proofs.short_slice_token.ShortSliceToken.TheSendSync as ShortSliceToken_crossing
 use Rattle.beam_sched.proofs.journal_usage.JournalUsage.TheSendSync as JournalUsage_crossing
+use Rattle.beam_sched.proofs.worker_tally.WorkerTallies.TheSendSync as WorkerTallies_crossing
+use Rattle.beam_sched.proofs.command_tally.CommandTally.TheSendSync as CommandTally_crossing
 use Rattle.beam_sched.proofs.idle_workers.IdleWorkers.TheSendSync as IdleWorkers_crossing
 use Rattle.beam_sched.proofs.scan_state.ScanState.TheSendSync as ScanState_crossing
 use Rattle.beam_sched.proofs.queue_states.QueueStates.TheSendSync as QueueStates_crossing
@@ -373,7 +376,7 @@ DrainedEvents_send : IsSend DrainedEvents.the_row
 DrainedEvents_send = owner_send DrainedEvents.the_type tt (λ d. tt) (λ k x w. tt)
 
 pub NodeJournal_send : IsSend NodeJournal.the_row
-NodeJournal_send = view_send _ _ _ _ _ (declared_send NodeJournal_inside.the_type (Global.the_send, (DrainedEvents_send, (u64_send, ((Vec-send _ Entry_send), (u32_send, tt))))))
+NodeJournal_send = view_send _ _ _ _ _ (declared_send NodeJournal_inside.the_type (Global.the_send, (DrainedEvents_send, (u64_send, ((Vec-send _ Entry_send), (u32_send, (EntryCounts_crossing.the_send, tt)))))))
 
 pub ContextParts_send : IsSend ContextParts.the_row
 ContextParts_send = let b = declared_send ContextParts_inside.the_type (CodeTable_send, ((Vec-send _ Place_crossing.the_send), tt)) in search (view_send) depth 9
@@ -403,7 +406,7 @@ pub LockedNode_send : (B : RattleType) (g : NodeBrand.Ghosts B.Denot) → IsSend
 LockedNode_send B g = declared_send (LockedNode.the_type B g) (Node_send B g, (QueueStates_crossing.the_send, (ScanState_crossing.the_send, tt)))
 
 pub Shared_sync : (B : RattleType) (g : NodeBrand.Ghosts B.Denot) → IsSync (Shared.the_row B g)
-Shared_sync B g = let m = LockedNode_send B g in declared_sync (Shared.the_type B g) (search crosses, (ScanHint_crossing.the_sync, (IdleWorkers_crossing.the_sync, (ShortSliceToken_crossing.the_sync, (NodeClock_crossing.the_sync, (JournalUsage_crossing.the_sync, (u32_sync, tt)))))))
+Shared_sync B g = let m = LockedNode_send B g in declared_sync (Shared.the_type B g) (search crosses, (ScanHint_crossing.the_sync, (IdleWorkers_crossing.the_sync, (ShortSliceToken_crossing.the_sync, (NodeClock_crossing.the_sync, (JournalUsage_crossing.the_sync, (u32_sync, (WorkerTallies_crossing.the_sync, (CommandTally_crossing.the_sync, tt)))))))))
 
 -- the thread contexts of workers, and of senders of commands
 pub ThreadContexts_sync : (B : RattleType) (g : NodeBrand.Ghosts B.Denot) (q : QueueBrand.Ghosts B.Denot) → IsSync (Pool.the_row (ThreadContext.the_row B g q))

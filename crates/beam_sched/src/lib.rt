@@ -2,6 +2,7 @@
 #![tactic(auto)]
 
 pub mod clock;
+pub mod command_tally;
 pub mod gate;
 mod idle_workers;
 pub mod journal_threshold;
@@ -24,4 +25,5 @@ pub mod thread_contexts;
 mod turns;
 pub mod worker;
 mod worker_action;
+pub mod worker_tally;
 mod worker_times;

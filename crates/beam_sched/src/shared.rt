@@ -4,6 +4,7 @@ ghost use Rattle.beam_machine.specs.Journal.{sent_event_of};
 ghost use Rattle.beam_debug.specs.Answers.{reply_of};
 ghost use Rattle.beam_sched.specs.CommandAnswers.{CommandAnswered, answer_of, with_kept};
 
+use crate::command_tally::{CommandTally, code_change};
 use crate::idle_workers::IdleWorkers;
 use crate::journal_threshold::JournalThreshold;
 use crate::journal_usage::JournalUsage;
@@ -14,6 +15,7 @@ use crate::scan::exit_reason;
 use crate::scan_hint::ScanHint;
 use crate::short_slice_token::ShortSliceToken;
 use crate::thread_context::ThreadContext;
+use crate::worker_tally::WorkerTallies;
 use beam_debug::outcome::Outcome;
 use beam_image::Image;
 use beam_journal::entry::Entry;
@@ -42,6 +44,8 @@ pub struct Shared<B: NodeBrand> {
     pub(crate) usage: JournalUsage,
     /// How many rows a turn under the lock has at most; 0 if there are no such turns.
     pub(crate) rows_in_place: u32,
+    pub(crate) tallies: WorkerTallies,
+    pub(crate) commands: CommandTally,
 }
 
 /// The time to which an event sets the node's clock.
@@ -70,6 +74,8 @@ impl<B: NodeBrand> Shared<B> {
             node_clock,
             usage,
             rows_in_place,
+            tallies: WorkerTallies::new(alloc),
+            commands: CommandTally::new(),
         }
     }
 
@@ -82,6 +88,16 @@ impl<B: NodeBrand> Shared<B> {
     pub fn into_node(self) -> Node<B> {
         let Shared { node, .. } = self;
         node.into_inner().into_node()
+    }
+
+    /// What the workers have done. It is read without the node's lock.
+    pub fn tallies(&self) -> &WorkerTallies {
+        &self.tallies
+    }
+
+    /// What commands did, and how often memory was refused. It is read without the node's lock.
+    pub fn commands(&self) -> &CommandTally {
+        &self.commands
     }
 
     /// The reason with which a process ended, read under the lock. `None` where it hasn't ended or was never started, and where memory is
@@ -176,12 +192,14 @@ impl<B: NodeBrand + QueueBrand> Shared<B> {
     {
         let set = time_set(&event);
         let made_runnable = MadeRunnable::of(&event);
+        let change = code_change(&event);
         let mut guard = self.node.lock(rt);
         let locked = &mut *guard;
         locked.node.recall_invariant();
         let answer = locked.node.command(&mut context.seat, event);
         let must_wake = self.note_command(locked, context, set, made_runnable, &answer);
         drop(guard);
+        self.commands.note(change, &answer);
         if must_wake {
             let _ = self.idle.wake(rt);
         }

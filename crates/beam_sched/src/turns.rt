@@ -47,6 +47,10 @@ pub struct TurnsDone {
     pub ended: Option<(u32, Outcome)>,
     /// The greatest number of a process that had a turn.
     pub greatest: u32,
+    /// How many turns were had.
+    pub turns: u32,
+    /// How many rows these had.
+    pub rows: u32,
 }
 
 /// The moment at which waits begin in one hold of the lock. It is read and entered where the first wait with a timeout begins.
@@ -240,14 +244,16 @@ impl<B: NodeBrand + QueueBrand> LockedNode<B> {
             killed: None,
             ended: None,
             greatest: pid,
+            turns: 0,
+            rows: 0,
         };
         self.queue_states.put(pid, QueueState::Free);
         let mut next = pid;
-        let mut left = MOST_ROWS;
         for _ in 0..MOST_TURNS {
             let (count, end) = self.turn(context, moment, next, rows);
-            left = left.saturating_sub(count);
-            if !self.note_turn(next, end, &mut done) || left == 0 {
+            done.turns = done.turns.saturating_add(1);
+            done.rows = done.rows.saturating_add(count);
+            if !self.note_turn(next, end, &mut done) || done.rows >= MOST_ROWS {
                 break;
             }
             match self.next_runnable(next) {

@@ -11,6 +11,7 @@ use crate::steal_turns::StealTurns;
 use crate::thread_context::ThreadContext;
 use crate::turns::{TurnMoment, TurnsDone};
 use crate::worker_action::{WorkerAction, idle_action};
+use crate::worker_tally::WorkerTally;
 use crate::worker_times::WorkerTimes;
 use beam_debug::outcome::Outcome;
 use beam_machine::event::Refused;
@@ -21,8 +22,9 @@ use beam_shared::checkout::Checkout;
 use beam_shared::drop_reason::DropReason;
 use beam_shared::finished_slice::FinishedSlice;
 use beam_term::Term;
-use std::sync::{MutexGuard, Wait};
+use std::sync::{Arc, MutexGuard, Wait};
 use std::time;
+use std::time::Duration;
 
 /// How many rows a slice has at most.
 const ROWS: u32 = 4_000;
@@ -46,6 +48,8 @@ struct Worker<'a, B: NodeBrand + QueueBrand, G, C, R> {
     recent_slices: RecentSlices,
     times: WorkerTimes,
     long_runners: LongRunners,
+    /// What it has done, unless memory was refused for that.
+    tally: Option<Arc<WorkerTally>>,
 }
 
 impl<B: NodeBrand + QueueBrand, G, C, R> Worker<'_, B, G, C, R> {
@@ -59,6 +63,34 @@ impl<B: NodeBrand + QueueBrand, G: Gate, C: Clock, R: Wait + time::Clock> Worker
     /// The moment now.
     fn moment(&self) -> u64 {
         self.shared.node_clock.at(self.clock.moment())
+    }
+
+    /// The time of the runtime's clock.
+    fn time(&self) -> Duration {
+        self.rt.monotonic().unwrap_or(Duration::ZERO)
+    }
+
+    /// Notes slices that have run, and their rows.
+    fn note_slices(&self, slices: u32, rows: u32) {
+        if let Some(tally) = &self.tally {
+            tally.note(slices, rows);
+        }
+    }
+
+    /// Notes that a wait begins.
+    fn tell_wait(&self) {
+        let now = self.time();
+        if let Some(tally) = &self.tally {
+            tally.begin_wait(self.rt, now);
+        }
+    }
+
+    /// Notes that a wait ends.
+    fn tell_work(&self) {
+        let now = self.time();
+        if let Some(tally) = &self.tally {
+            tally.end_wait(self.rt, now);
+        }
     }
 
     /// Whether it is time to scan: the processes that were in its queue at the last scan were taken, and either a process may have become
@@ -134,8 +166,11 @@ impl<B: NodeBrand + QueueBrand, G: Gate, C: Clock, R: Wait + time::Clock> Worker
     /// Waits until it is woken or the node is to be scanned, after a nap at first. Its next take begins with a steal: what it was woken for may
     /// be in any queue.
     fn wait(&mut self, guard: MutexGuard<'_, bool>) {
-        let limit = self.times.wait_limit(self.until_next_time());
+        let next_time = self.until_next_time();
+        let limit = self.times.wait_limit(next_time);
+        self.tell_wait();
         let was_woken = self.shared.idle.wait(self.rt, guard, limit);
+        self.tell_work();
         self.times.note_wait(self.clock.moment(), was_woken);
         self.steal_turns = StealTurns::new();
     }
@@ -179,6 +214,7 @@ impl<B: NodeBrand + QueueBrand, G: Gate, C: Clock, R: Wait + time::Clock> Worker
 
     /// Memory was refused to a process: reports that to the gate, and notes that the node is to be scanned again after some time.
     fn retry_later(&self, pid: u32) {
+        self.shared.commands.note_memory();
         self.gate.refused(pid);
         let mut locked = self.shared.node.lock(self.rt);
         locked.scan_state.retry_later(self.moment());
@@ -239,6 +275,7 @@ impl<B: NodeBrand + QueueBrand, G: Gate, C: Clock, R: Wait + time::Clock> Worker
 
     /// Reports to the gate what turns under the lock did. Returns the process that has more to do.
     fn report_turns(&self, done: TurnsDone) -> Option<u32> {
+        self.note_slices(done.turns, done.rows);
         self.gate.ran_in_place(done.greatest);
         if let Some((pid, reason)) = &done.killed {
             self.gate.ended(*pid, reason);
@@ -291,7 +328,9 @@ impl<B: NodeBrand + QueueBrand, G: Gate, C: Clock, R: Wait + time::Clock> Worker
     /// Commits the rows of a process, and reports the node's answer to the gate.
     fn commit(&mut self, finished: FinishedSlice<B>) {
         let pid = finished.pid();
-        let is_few = finished.count() < SHORT_SLICE;
+        let count = finished.count();
+        let is_few = count < SHORT_SLICE;
+        self.note_slices(1, count);
         match self.commit_locked(finished) {
             Ok(None) => {}
             Ok(Some(outcome)) => self.gate.ran(pid, &outcome),
@@ -411,6 +450,7 @@ pub fn work<B: NodeBrand + QueueBrand, G: Gate, C: Clock, R: Wait + time::Clock>
         recent_slices: RecentSlices::new(),
         times: WorkerTimes::new(),
         long_runners: LongRunners::new(),
+        tally: shared.tallies.begin(rt),
     };
     for _ in rt.forever() {
         if !worker.act() {
