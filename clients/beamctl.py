@@ -556,13 +556,14 @@ def top_answer(seen: list[dict], lines: int) -> Answer:
     return Answer(f"{clear}{head}\n{text}\n", {"processes": len(seen), **states, "top": seen[:lines]})
 
 
-# ---- The end of a node, for which a socket beside its own is asked, by HTTP
+# ---- The end of a node, for which the socket beside its own, or the port of its page, is asked by HTTP
 
 
-def http(path: str, request: str, fields: str, timeout: float | None) -> tuple[int, str]:
-    """The status of the answer to a request over the Unix socket of that path, and the answer's text."""
-    with connect(path, timeout) as connection, connection.makefile("rb") as reply:
-        connection.sendall(f"{request} HTTP/1.1\r\nHost: localhost\r\n{fields}\r\n".encode())
+def http(address: int | str, request: str, fields: str, timeout: float | None) -> tuple[int, str]:
+    """The status of the answer to a request over the Unix socket of that path, or over that port, and the answer's text."""
+    host = f"localhost:{address}" if isinstance(address, int) else "localhost"
+    with connect(address, timeout) as connection, connection.makefile("rb") as reply:
+        connection.sendall(f"{request} HTTP/1.1\r\nHost: {host}\r\n{fields}\r\n".encode())
         head, _, body = reply.read(LONGEST_FRAME).partition(b"\r\n\r\n")
     found = re.match(rb"HTTP/1\.[01] ([0-9]{3})\b", head)
     if not found:
@@ -570,10 +571,10 @@ def http(path: str, request: str, fields: str, timeout: float | None) -> tuple[i
     return int(found[1]), body.decode(errors="replace").strip()
 
 
-def what_is_left(path: str, timeout: float) -> str | None:
+def what_is_left(address: int | str, timeout: float) -> str | None:
     """What a node that is to end still does, in its words; None if it has ended."""
     try:
-        return http(path, "GET /readyz", "", timeout)[1]
+        return http(address, "GET /readyz", "", timeout)[1]
     except (FileNotFoundError, ConnectionRefusedError):
         return None
     except (OSError, Failed):
@@ -581,21 +582,37 @@ def what_is_left(path: str, timeout: float) -> str | None:
         return ""
 
 
-def stop(client: Client, given):
+def stop_address(client: Client, given) -> int | str:
+    """Where the node is asked to stop: at the port of its page, or at the socket beside its own."""
+    if given.http is not None:
+        return given.http
     if isinstance(client.session.address, int):
-        raise WrongWords("stop needs --socket")
+        raise WrongWords("stop needs --socket, or --http")
+    return client.session.address + ".http"
+
+
+def token_field(name: str | None) -> str:
+    """The field of a request with the token of that file."""
+    if name is None:
+        return ""
+    with open(name, encoding="ascii") as file:
+        return f"Authorization: Bearer {file.read().strip()}\r\n"
+
+
+def stop(client: Client, given):
+    address = stop_address(client, given)
+    fields = "X-Kanguriwe: 1\r\nContent-Length: 0\r\n" + token_field(given.http_token)
     client.session.leave()
-    path = client.session.address + ".http"
     try:
-        status, said = http(path, "POST /stop", "X-Kanguriwe: 1\r\nContent-Length: 0\r\n", client.session.timeout)
+        status, said = http(address, "POST /stop", fields, client.session.timeout)
     except TimeoutError:
         raise client.session.no_reply() from None
     except OSError as fault:
-        raise Failed(f"{path}: {fault.strerror or fault}") from None
+        raise Failed(f"{address}: {fault.strerror or fault}") from None
     if status != 202:
-        raise Failed(f"{path}: {status} {said}")
+        raise Failed(f"{address}: {status} {said}")
     end, said = time.monotonic() + given.wait, ""
-    while (left := what_is_left(path, max(1.0, end - time.monotonic()))) is not None:
+    while (left := what_is_left(address, max(1.0, end - time.monotonic()))) is not None:
         said = left or said
         if time.monotonic() >= end:
             raise Failed(f"the node hasn't ended within {given.wait:g} seconds" + (f": {said}" if said else ""))
@@ -673,8 +690,10 @@ COMMANDS = [
     ("deliver", plain("deliver", "process"), "deliver what is on its way to a process" + NOT_HERE, [PROCESS]),
     ("clock", plain("clock", "milliseconds"), "set the clock" + NOT_HERE, [("milliseconds", {"metavar": "MS"})]),
     ("timeout", plain("timeout", "process"), "wake a process whose deadline has come" + NOT_HERE, [PROCESS]),
-    ("stop", stop, "end the node in good order, and wait until it has ended; it needs --socket",
-     [("--wait", {"type": seconds, "default": SECONDS_FOR_AN_END, "metavar": "SECONDS", "help": "how long (10 if left out)"})]),
+    ("stop", stop, "end the node in good order, and wait until it has ended; it needs --socket, or --http and --http-token",
+     [("--http", {"type": port, "metavar": "PORT", "help": "the port of its page"}),
+      ("--http-token", {"metavar": "FILE", "help": "the file of the page's token"}),
+      ("--wait", {"type": seconds, "default": SECONDS_FOR_AN_END, "metavar": "SECONDS", "help": "how long (10 if left out)"})]),
 ]
 
 

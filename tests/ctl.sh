@@ -750,7 +750,7 @@ usage: clients/install [--prefix PREFIX]
 
 # ---- The end of a node in good order
 $ ctl stop
-beamctl: stop needs --socket
+beamctl: stop needs --socket, or --http
 (status 2)
 $ by_socket stop --wait 0 2>&1 | tail -1
 beamctl: argument --wait: invalid seconds value: '0'

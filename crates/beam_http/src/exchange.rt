@@ -1,13 +1,15 @@
 //! One request and its response over a connection, in a limited time.
+ghost use Rattle.std.specs.Prelude.{IfOk};
+ghost use Rattle.beam_http.specs.Requests.{IsAsked};
 
-use crate::request::{Request, RequestRefusal, request_of};
+use crate::access::Door;
+use crate::refusal::RequestRefusal;
+use crate::request::{MOST_BYTES, Request, request_of};
+use std::alloc::Global;
 use std::io;
 use std::io::{ErrorKind, Read, Write};
 use std::net::OpenStream;
 use std::time::{Clock, Duration};
-
-/// How many bytes a request has at most before its body.
-const MOST_BYTES: usize = 8_192;
 
 /// How long a request may take to come, and a response to go, in milliseconds.
 const MOST_MS: u64 = 2_000;
@@ -38,12 +40,16 @@ impl Deadline {
     }
 }
 
-/// Reads what comes until it has the whole head of a request, which has at most 8,192 bytes and comes within 2 seconds. An error where the
-/// connection fails or ends before.
+/// Reads what comes through that door until it has the whole head of a request, which has at most 8,192 bytes and comes within 2 seconds. An
+/// error where the connection fails or ends before, or memory is short.
 pub fn read_request<R: Clock, S: OpenStream + Read>(
     rt: &R,
+    alloc: Global,
     stream: &mut S,
-) -> io::Result<Result<Request, RequestRefusal>> {
+    door: &Door,
+) -> io::Result<Result<Request, RequestRefusal>>
+    ensures { IfOk result (λ answer. IfOk answer (IsAsked door.now)) }
+{
     let deadline = Deadline::new(rt);
     let mut bytes = [0; MOST_BYTES];
     let mut length = 0usize;
@@ -58,7 +64,7 @@ pub fn read_request<R: Clock, S: OpenStream + Read>(
             return Err(ErrorKind::UnexpectedEof.into());
         }
         length += count;
-        if let Some(request) = request_of(&bytes[..length]) {
+        if let Some(request) = request_of(alloc, &bytes[..length], door)? {
             return Ok(request);
         }
     }

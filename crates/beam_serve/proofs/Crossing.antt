@@ -17,7 +17,7 @@ use Rattle.beam_serve.proofs.connection_thread.ServeOptions.TheSendSync as Serve
 use Rattle.beam_serve.proofs.acceptor.Acceptor.TheSendSync as Acceptor_crossing
 use Rattle.beam_serve.proofs.memory_reserve.MemoryReserve.TheSendSync as MemoryReserve_crossing
 use Rattle.beam_serve.proofs.readiness.Readiness.TheSendSync as Readiness_crossing
-use Rattle.beam_sockets.proofs.listener.Listener.TheSendSync as Listener_crossing
+use Rattle.beam_serve.proofs.http_state.HttpDoor.TheSendSync as HttpDoor_crossing
 use Rattle.beam_sockets.proofs.open_sockets.OpenSockets.TheSendSync as OpenSockets_crossing
 use Rattle.beam_serve.specs.contracts.connection_thread.ConnectionThread as ConnectionThread
 use Rattle.beam_serve.specs.contracts.http_thread.HttpThread as HttpThread
@@ -56,7 +56,7 @@ ConnectionThread_send l B R g q r = declared_send (ConnectionThread.the_type l B
 
 pub HttpThread_send : (l : NamedLft) (B R : RattleType) (g : NodeBrand.Ghosts B.Denot) → IsSync R → IsSend (HttpThread.the_row l B R g)
 HttpThread_send l B R g r = declared_send (HttpThread.the_type l B R g)
-    (runtime_send l R r, (Global.the_send, (Shared_send l B g, ((shr_send l.mir l.lft _ Listener_crossing.the_sync), (Acceptor_send l, ((search sendable), ((search sendable), tt)))))))
+    (runtime_send l R r, (Global.the_send, (Shared_send l B g, (Acceptor_send l, ((shr_send l.mir l.lft _ (HttpDoor_crossing.the_sync l)), ((search sendable), tt))))))
 
 pub ServeHelper_send : (l : NamedLft) (B R : RattleType) (g : NodeBrand.Ghosts B.Denot) (q : QueueBrand.Ghosts B.Denot) → IsSync R → IsSend (ServeHelper.the_row l B R g q)
 ServeHelper_send l B R g q r = variants_send (ServeHelper.enum l B R g q) ((ConnectionThread_send l B R g q r, tt), ((JournalThread_send l B R g r, tt), ((HttpThread_send l B R g r, tt), tt)))

@@ -6,7 +6,7 @@ use beam_sockets::Peer;
 use beam_tools::os_error::OsError;
 use log::Log;
 use std::net::TcpStream;
-use std::sync::atomic::{AtomicUsize, Ordering};
+use std::sync::atomic::{AtomicU64, AtomicUsize, Ordering};
 use std::sync::{Mutex, Wait};
 use std::time::Clock;
 
@@ -56,6 +56,10 @@ pub struct Acceptor<'a> {
     threads: AtomicUsize,
     /// How many of them serve no more.
     left: AtomicUsize,
+    /// How many connections were accepted.
+    accepted: AtomicU64,
+    /// How many sessions failed.
+    failed: AtomicU64,
 }
 
 impl<'a> Drop for Acceptor<'a> {
@@ -65,6 +69,8 @@ impl<'a> Drop for Acceptor<'a> {
             accepting: _accepting,
             threads: _threads,
             left: _left,
+            accepted: _accepted,
+            failed: _failed,
         } = self;
     }
 }
@@ -77,6 +83,8 @@ impl<'a> Acceptor<'a> {
             accepting: Mutex::new(Accepting::Open(count)),
             threads: AtomicUsize::new(usize::MAX),
             left: AtomicUsize::new(0),
+            accepted: AtomicU64::new(0),
+            failed: AtomicU64::new(0),
         }
     }
 
@@ -92,6 +100,7 @@ impl<'a> Acceptor<'a> {
             return false;
         }
         *accepting = accepting.after_one();
+        let _ = self.accepted.fetch_add(1, Ordering::SeqCst);
         if let Accepting::Ended(_) = *accepting {
             self.endpoint.sockets.stop_listening();
         }
@@ -133,6 +142,21 @@ impl<'a> Acceptor<'a> {
         let next = self.next_at(rt, served);
         drop(turn);
         next
+    }
+
+    /// How many connections were accepted.
+    pub fn accepted(&self) -> u64 {
+        self.accepted.load(Ordering::SeqCst)
+    }
+
+    /// Notes that a session failed.
+    pub fn note_failed(&self) {
+        let _ = self.failed.fetch_add(1, Ordering::SeqCst);
+    }
+
+    /// How many sessions failed.
+    pub fn failed(&self) -> u64 {
+        self.failed.load(Ordering::SeqCst)
     }
 
     /// Accepts no more connections, for this reason, if they still are accepted.

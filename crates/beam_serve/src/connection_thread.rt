@@ -23,8 +23,8 @@ pub struct ServeOptions {
     pub clients: usize,
     /// How many workers are wanted beside them.
     pub workers: usize,
-    /// Whether a thread answers requests beside them.
-    pub has_http: bool,
+    /// How many threads are wanted that answer requests.
+    pub http_threads: usize,
 }
 
 /// A thread that serves connections, one after another, and answers their commands by the desk of its thread context.
@@ -71,10 +71,10 @@ impl<'a, B: NodeBrand + QueueBrand, R> ConnectionThread<'a, B, R> {
 
 impl<B: NodeBrand + QueueBrand, R: Wait + Clock + Log + AllocGlobal> ConnectionThread<'_, B, R> {
     /// How many threads serve connections, where this number of helpers was started. The first helpers are those that end after them: the
-    /// thread of the journal's file, and the one that answers requests.
+    /// thread of the journal's file, and those that answer requests.
     fn count_threads(&self, helpers: usize) -> usize {
-        let others = usize::from(self.desk.journal().is_some())
-            + usize::from(self.options.has_http);
+        let journal = usize::from(self.desk.journal().is_some());
+        let others = journal.saturating_add(self.options.http_threads);
         let count = helpers.saturating_sub(others).saturating_add(1);
         if let Some(link) = self.desk.journal() {
             link.journal.expect_senders(self.rt, count);

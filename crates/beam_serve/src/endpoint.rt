@@ -1,5 +1,6 @@
 //! What a node listens on, and who serves its connections.
 
+use crate::http_state::HttpState;
 use crate::memory_reserve::MemoryReserve;
 use crate::readiness::Readiness;
 use beam_sockets::{Listener, OpenSockets};
@@ -55,15 +56,16 @@ impl Listeners {
     }
 }
 
-/// What a node listens on, the sockets by which that is shut, the port's address, the memory that is kept for sessions, and what tells
-/// whether the node serves.
+/// What a node listens on, the sockets by which that is shut, the port's address, the memory that is kept for sessions, what tells whether
+/// the node serves, and what the threads share that answer requests.
 #[derive(Clone, Copy)]
 pub struct Endpoint<'a> {
     pub listeners: &'a Listeners,
-    /// The socket of requests.
-    pub http: Option<&'a Listener>,
+    pub http: &'a HttpState<'a>,
     pub sockets: &'a OpenSockets,
     pub address: Option<SocketAddr>,
+    /// The address of the page.
+    pub page: Option<SocketAddr>,
     pub reserve: &'a MemoryReserve,
     pub readiness: &'a Readiness,
 }

@@ -100,7 +100,7 @@ fn shared(
 
 impl<'a, R: Wait + Clock + Log> IncomingConnections<'a, R> {
     /// Both ways of a connection, which take one descriptor. `None` where there is no memory for them, or the sockets are shut.
-    fn open(&self, stream: TcpStream) -> Option<Link<'a, R>> {
+    fn open(&self, stream: TcpStream, peer: Peer) -> Option<Link<'a, R>> {
         let rt = self.rt;
         // Replies are short, and a client waits for each.
         let _ = stream.set_nodelay(true);
@@ -109,7 +109,7 @@ impl<'a, R: Wait + Clock + Log> IncomingConnections<'a, R> {
             return None;
         };
         let sockets = self.acceptor.endpoint().sockets;
-        if !sockets.register(rt, self.number, served) {
+        if !sockets.register(rt, self.number, served, peer) {
             return None;
         }
         let input = ServedStream::new(input, sockets);
@@ -127,7 +127,7 @@ impl<'a, R: Wait + Clock + Log> Incoming<Link<'a, R>> for IncomingConnections<'a
             let (stream, peer) = self.acceptor.next(self.rt, self.number)?;
             info!(self.rt; "{peer}: connected");
             self.acceptor.endpoint().reserve.begin_session(self.rt);
-            if let Some(link) = self.open(stream) {
+            if let Some(link) = self.open(stream, peer) {
                 self.peer = Some(peer);
                 log_places(self.rt, self.acceptor, self.number);
                 return Some(link);
@@ -149,6 +149,7 @@ impl<'a, R: Wait + Clock + Log> Incoming<Link<'a, R>> for IncomingConnections<'a
             if error.why == SessionFailure::NoMemory {
                 self.acceptor.endpoint().reserve.note_wanted();
             }
+            self.acceptor.note_failed();
             log_failure(self.rt, peer, &error, os_error);
         }
     }

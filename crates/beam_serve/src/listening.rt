@@ -22,6 +22,8 @@ pub struct Listening {
     pub listeners: Listeners,
     /// The socket of requests.
     pub http: Option<Listener>,
+    /// The port of the page, and its address.
+    pub page: Option<(Listener, SocketAddr)>,
     /// The port's address.
     pub address: Option<SocketAddr>,
     files: [Option<SocketFile>; 2],
@@ -132,7 +134,28 @@ fn listen_at_sockets<R: Net<Listener = TcpListener, Stream = TcpStream> + rt::Fi
     }
 }
 
-/// Listens on the port and on the socket of the line, and on the one of requests beside that. A fault leaves no file of a socket.
+/// Listens on the port of the line's page, if it has one.
+fn listen_for_page<'l, R: Net<Listener = TcpListener, Stream = TcpStream>>(
+    rt: &R,
+    line: &Serve<'l>,
+) -> Result<Option<(Listener, SocketAddr)>, JobFault<'l>>
+    ensures fault { IfErr result (IsOfPort line.now.port) }
+{
+    let Some(options) = line.http else {
+        return Ok(None);
+    };
+    let listener = match TcpListener::bind(rt, ("127.0.0.1", options.port)) {
+        Ok(listener) => listener,
+        Err(error) => return Err(JobFault::Http(options.port, OsError::of(&error))),
+    };
+    match listener.local_addr() {
+        Ok(address) => Ok(Some((Listener::Port(listener), address))),
+        Err(error) => Err(JobFault::Http(options.port, OsError::of(&error))),
+    }
+}
+
+/// Listens on the port and on the socket of the line, on the one of requests beside that, and on the port of the page. A fault leaves no file
+/// of a socket.
 pub fn listen<'l, R: Net<Listener = TcpListener, Stream = TcpStream> + rt::Files<File = File>>(
     rt: &R,
     alloc: Global,
@@ -148,10 +171,12 @@ pub fn listen<'l, R: Net<Listener = TcpListener, Stream = TcpStream> + rt::Files
         ),
         None => (None, None),
     };
+    let page = listen_for_page(rt, line)?;
     let Some(options) = line.socket else {
         return Ok(Listening {
             listeners: Listeners { port, socket: None },
             http: None,
+            page,
             address,
             files: [None, None],
         });
@@ -167,12 +192,21 @@ pub fn listen<'l, R: Net<Listener = TcpListener, Stream = TcpStream> + rt::Files
             socket: Some(socket),
         },
         http: Some(Listener::Socket(http)),
+        page,
         address,
         files: [Some(file), Some(http_file)],
     })
 }
 
 impl Listening {
+    /// The address of the page.
+    pub fn page_address(&self) -> Option<SocketAddr> {
+        match &self.page {
+            Some((_listener, address)) => Some(*address),
+            None => None,
+        }
+    }
+
     /// Removes the files of its sockets.
     pub fn remove_files<R: rt::Files<File = File>>(&self, rt: &R) {
         for file in self.files.iter().flatten() {

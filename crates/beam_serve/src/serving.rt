@@ -9,6 +9,8 @@ use crate::acceptor::{Acceptor, Ended};
 use crate::closed_node::{ClosedNode, NotEnded};
 use crate::connection_thread::{ConnectionThread, ServeOptions};
 use crate::endpoint::Endpoint;
+use crate::http_listening::http_state;
+use crate::http_state::HttpDoor;
 use crate::http_thread::HttpThread;
 use crate::limits::{limit_of, most_behind_of};
 use crate::listening::{Listening, listen, place_count, port_fault, socket_fault};
@@ -34,7 +36,7 @@ use beam_sched::shared::{ROWS_IN_PLACE, Shared};
 use beam_sched::thread_context::ThreadContext;
 use beam_sched::thread_contexts::{NewContexts, SeatsAndQueues, contexts};
 use beam_shared::node::Node;
-use beam_sockets::{Listener, OpenSockets, ServedConnections};
+use beam_sockets::{OpenSockets, ServedConnections};
 use beam_tools::files::{FileSystem, Files};
 use beam_tools::job::JobFault;
 use beam_tools::line::Serve;
@@ -141,15 +143,21 @@ fn begin<'l, B: NodeBrand, R: Log, T: Eprint + Clock>(
     })
 }
 
-/// Prints on the console where the node listens. False if that can't be written.
-fn prints_addresses<C: Print>(console: &C, address: Option<SocketAddr>, line: &Serve<'_>) -> bool {
-    let is_port_told = match address {
-        Some(address) => println!(console; "listening on {address}").is_ok(),
+/// Prints on the console where the node listens, and where its page is. False if that can't be written.
+fn prints_addresses<C: Print>(console: &C, endpoint: Endpoint<'_>, line: &Serve<'_>) -> bool {
+    if let Some(address) = endpoint.address {
+        if println!(console; "listening on {address}").is_err() {
+            return false;
+        }
+    }
+    if let Some(socket) = line.socket {
+        if println!(console; "listening on {}", socket.path).is_err() {
+            return false;
+        }
+    }
+    match endpoint.page {
+        Some(address) => println!(console; "page at http://{address}/").is_ok(),
         None => true,
-    };
-    match line.socket {
-        Some(socket) if is_port_told => println!(console; "listening on {}", socket.path).is_ok(),
-        _ => is_port_told,
     }
 }
 
@@ -159,7 +167,7 @@ fn start_up<'l, F: Files, B: NodeBrand + QueueBrand, R: Wait + Log + AllocGlobal
     alloc: Global,
     files: &mut F,
     desk: &mut SeatDesk<'_, B, R>,
-    address: Option<SocketAddr>,
+    endpoint: Endpoint<'_>,
     is_new: bool,
     line: &Serve<'l>,
 ) -> Result<(), JobFault<'l>>
@@ -171,14 +179,14 @@ fn start_up<'l, F: Files, B: NodeBrand + QueueBrand, R: Wait + Log + AllocGlobal
     if let (Some(why), Some(name)) = (desk.journal_failure(), line.journal) {
         return Err(write_fault(name, why));
     }
-    if !prints_addresses(console, address, line) {
+    if !prints_addresses(console, endpoint, line) {
         return Err(JobFault::Unwritten);
     }
     Ok(())
 }
 
 /// The settings that the line asks for.
-fn options_of(line: &Serve) -> ServeOptions
+fn options_of(line: &Serve, http_threads: usize) -> ServeOptions
     ensures idle { MatchOption result.idle (line.now.idle ≡ 0) (λ limit. as_nanos limit ≡ line.now.idle * 1_000_000_000) }
     ensures workers { result.workers ≡ line.now.schedulers }
 {
@@ -189,7 +197,7 @@ fn options_of(line: &Serve) -> ServeOptions
         },
         clients: place_count(line),
         workers: usize::from(line.schedulers),
-        has_http: line.socket.is_some(),
+        http_threads,
     }
 }
 
@@ -243,23 +251,25 @@ fn helpers_of<'a, B: NodeBrand + QueueBrand, R>(
     helpers
 }
 
-/// Adds the thread that answers requests behind the helpers that serve connections, so that it is started before them.
-fn with_http_thread<'a, B: NodeBrand + QueueBrand, R>(
+/// Adds the threads of a door at which requests are answered, behind the helpers that serve connections, so that they are started before them.
+fn with_http_threads<'a, B: NodeBrand + QueueBrand, R: Wait>(
     rt: &'a R,
     alloc: Global,
     shared: &'a Shared<B>,
-    http: Option<&'a Listener>,
+    door: &'a Option<HttpDoor<'a>>,
     acceptor: &'a Acceptor<'a>,
     helpers: Vec<ServeHelper<'a, B, R>>,
 ) -> Vec<ServeHelper<'a, B, R>> {
     let mut helpers = helpers;
-    let Some(listener) = http else {
+    let Some(door) = door else {
         return helpers;
     };
-    let helper: ServeHelper<'a, B, R> = ServeHelper::Http(HttpThread::new(
-        rt, alloc, shared, listener, acceptor,
-    ));
-    let _ = helpers.push(helper);
+    for number in 0..door.places.count(rt) {
+        let helper: ServeHelper<'a, B, R> = ServeHelper::Http(HttpThread::new(
+            rt, alloc, shared, acceptor, door, number,
+        ));
+        let _ = helpers.push(helper);
+    }
     helpers
 }
 
@@ -316,7 +326,8 @@ fn serve_connections<
         schedulers,
         mut clients,
     } = contexts;
-    let options = options_of(line);
+    let http = acceptor.endpoint().http;
+    let options = options_of(line, http.thread_count(rt));
     let clock = SteadyClock::new(rt);
     let link = desk.journal();
     let gate = ServeGate::new(
@@ -329,8 +340,8 @@ fn serve_connections<
     );
     let mut first = ConnectionThread::new(rt, alloc, shared, acceptor, 0, desk, options);
     let helpers = helpers_of(rt, alloc, shared, acceptor, link, options, &mut clients);
-    let http = acceptor.endpoint().http;
-    let helpers = with_http_thread(rt, alloc, shared, http, acceptor, helpers);
+    let helpers = with_http_threads(rt, alloc, shared, &http.port, acceptor, helpers);
+    let helpers = with_http_threads(rt, alloc, shared, &http.socket, acceptor, helpers);
     let helpers = with_journal_thread(rt, shared, link, handle, helpers);
     let (schedulers, helpers) = run_with_helpers(
         rt, shared, &gate, &clock, schedulers, helpers, &mut first,
@@ -380,20 +391,16 @@ fn run<
     let Some(context) = contexts.clients.pop() else {
         return Err(JobFault::Mismatch);
     };
-    let Endpoint {
-        address,
-        reserve,
-        ..
-    } = acceptor.endpoint();
+    let endpoint = acceptor.endpoint();
     let mut desk = SeatDesk::new(rt, shared, context)
-        .with_reserve(reserve)
+        .with_reserve(endpoint.reserve)
         .with_journal(link);
-    match start_up(console, alloc, files, &mut desk, address, is_new, line) {
+    match start_up(console, alloc, files, &mut desk, endpoint, is_new, line) {
         Ok(()) => {
             serve_connections(
                 rt, alloc, shared, acceptor, line, desk, handle, contexts, parts,
             );
-            outcome(line, address, ended_of(rt, acceptor))
+            outcome(line, endpoint.address, ended_of(rt, acceptor))
         }
         Err(fault) => {
             let ThreadContexts {
@@ -596,11 +603,13 @@ fn serve_at<
     let sockets = open_sockets(rt.alloc(), listening, line)?;
     let reserve = MemoryReserve::new(rt.alloc());
     let readiness = Readiness::new();
+    let http = http_state(rt, rt.alloc(), listening, lines, line)?;
     let endpoint = Endpoint {
         listeners: &listening.listeners,
-        http: listening.http.as_ref(),
+        http: &http,
         sockets: &sockets,
         address: listening.address,
+        page: listening.page_address(),
         reserve: &reserve,
         readiness: &readiness,
     };
@@ -623,7 +632,7 @@ fn serve_at<
 }
 
 /// Listens on the port of 127.0.0.1, loads the files and starts the process of the line, prints the address on the console, and serves the
-/// connections. What it logs is added to the lines of a log, with the console's time. As many connections are served at once as the line
+/// connections. A line that names the port of a page has threads that answer requests there, as those of the socket do. What it logs is added to the lines of a log, with the console's time. As many connections are served at once as the line
 /// says, each by a thread with a thread context of its own; the next one waits to be accepted. A session that fails is logged as a warning,
 /// and the next connection is accepted. Where the listener fails, and with a full journal where the line asks for that, the connections
 /// that are served are shut once the commands that were read from them are answered, the workers end after the slice that they have, and
@@ -636,7 +645,7 @@ fn serve_at<
 ///
 /// - `Journal` where the journal's file isn't opened, read or written;
 /// - `File` where a file isn't loaded, `Start` and `LongName` where the process isn't started: no connection is accepted then;
-/// - `Net` where listening or accepting fails;
+/// - `Net` where listening or accepting fails, `Http` where listening for the page does, and `Token` where its token can't be written;
 /// - `JournalFull` where the journal is full and the line asks to end then, or has no room for what the node begins with;
 /// - `Unwritten` where the address can't be printed, and `NoMemory`.
 pub fn serve<

@@ -9,6 +9,6 @@ mod served_stream;
 mod timed_stream;
 
 pub use listener::{Listener, Peer};
-pub use open_sockets::{OpenSockets, ServedConnections};
+pub use open_sockets::{ConnectionRow, OpenSockets, ServedConnections};
 pub use served_stream::ServedStream;
 pub use timed_stream::TimedStream;

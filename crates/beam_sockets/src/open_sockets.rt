@@ -1,6 +1,6 @@
 //! The listeners and the open connections, for the thread that has to shut them.
 
-use crate::listener::Listener;
+use crate::listener::{Listener, Peer};
 use std::alloc::{AllocError, Global};
 use std::io;
 use std::net::{Shutdown, TcpStream};
@@ -12,37 +12,71 @@ use std::time::{Clock, Duration};
 /// For how many seconds a reply may be on its way once the sockets are shut.
 const PATIENCE: u64 = 2;
 
+/// A connection that a thread serves.
+#[derive(Drop)]
+struct OpenConnection {
+    stream: Arc<TcpStream>,
+    peer: Peer,
+    /// When it began, by the runtime's clock.
+    since: Duration,
+}
+
+/// What is told of a connection that is served.
+#[derive(Clone, Copy, Debug)]
+pub struct ConnectionRow {
+    /// The number of the thread that serves it, from 0 on.
+    pub number: usize,
+    pub peer: Peer,
+    /// When it began, by the runtime's clock.
+    pub since: Duration,
+}
+
 /// The connection that each thread serves, if any.
 #[derive(Drop)]
 pub struct ServedConnections {
-    streams: Vec<Option<Arc<TcpStream>>>,
+    open: Vec<Option<OpenConnection>>,
 }
 
 impl ServedConnections {
     /// The connections of `count` threads, none of which serves one.
     pub fn none(alloc: Global, count: usize) -> Result<ServedConnections, AllocError> {
-        let mut streams = Vec::with_capacity(alloc, count)?;
+        let mut open = Vec::with_capacity(alloc, count)?;
         for _ in 0..count {
-            streams.push(None)?;
+            open.push(None)?;
         }
-        Ok(ServedConnections { streams })
+        Ok(ServedConnections { open })
     }
 
-    fn put(&mut self, number: usize, stream: Option<Arc<TcpStream>>) {
-        if let Some(place) = self.streams.get_mut(number) {
-            *place = stream;
+    fn put(&mut self, number: usize, connection: Option<OpenConnection>) {
+        if let Some(place) = self.open.get_mut(number) {
+            *place = connection;
         }
     }
 
     /// How many threads serve a connection.
     fn count(&self) -> usize {
-        self.streams.iter().flatten().count()
+        self.open.iter().flatten().count()
     }
 
     fn shut(&self, how: Shutdown) {
-        for stream in self.streams.iter().flatten() {
-            let _ = stream.shutdown(how);
+        for connection in self.open.iter().flatten() {
+            let _ = connection.stream.shutdown(how);
         }
+    }
+
+    /// What is told of each of them.
+    fn rows(&self, alloc: Global) -> Result<Vec<ConnectionRow>, AllocError> {
+        let mut rows = Vec::new(alloc);
+        for (number, open) in self.open.iter().enumerate() {
+            if let Some(connection) = open {
+                rows.push(ConnectionRow {
+                    number,
+                    peer: connection.peer,
+                    since: connection.since,
+                })?;
+            }
+        }
+        Ok(rows)
     }
 }
 
@@ -76,13 +110,28 @@ impl OpenSockets {
         Ok(())
     }
 
-    /// Notes that the thread of that number serves a connection from now on. False if the sockets are shut; then nothing is noted.
-    pub fn register<R: Wait>(&self, rt: &R, number: usize, stream: Arc<TcpStream>) -> bool {
+    /// Notes that the thread of that number serves a connection from now on, and its other end. False if the sockets are shut; then nothing
+    /// is noted.
+    pub fn register<R: Wait + Clock>(
+        &self,
+        rt: &R,
+        number: usize,
+        stream: Arc<TcpStream>,
+        peer: Peer,
+    ) -> bool {
+        let since = rt.monotonic().unwrap_or(Duration::ZERO);
         let mut served = self.served.lock(rt);
         if self.are_shut() {
             return false;
         }
-        served.put(number, Some(stream));
+        served.put(
+            number,
+            Some(OpenConnection {
+                stream,
+                peer,
+                since,
+            }),
+        );
         true
     }
 
@@ -96,8 +145,8 @@ impl OpenSockets {
     /// Whether each of the threads of these numbers serves a connection now.
     pub fn are_taken<R: Wait>(&self, rt: &R, numbers: &Range<usize>) -> bool {
         let served = self.served.lock(rt);
-        match served.streams.get(numbers.start..numbers.end) {
-            Some(streams) => streams.iter().all(|stream| stream.is_some()),
+        match served.open.get(numbers.start..numbers.end) {
+            Some(open) => open.iter().all(|connection| connection.is_some()),
             None => false,
         }
     }
@@ -105,6 +154,15 @@ impl OpenSockets {
     /// How many connections are served now.
     pub fn served_count<R: Wait>(&self, rt: &R) -> usize {
         self.served.lock(rt).count()
+    }
+
+    /// What is told of each connection that is served now, in the order of the threads.
+    pub fn connections<R: Wait>(
+        &self,
+        rt: &R,
+        alloc: Global,
+    ) -> Result<Vec<ConnectionRow>, AllocError> {
+        self.served.lock(rt).rows(alloc)
     }
 
     /// Whether the sockets are shut, or are being shut.

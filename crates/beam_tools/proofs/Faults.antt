@@ -105,6 +105,7 @@ wrong_call words line wrong.StopsWithJournal is h = absurd h
 wrong_call words line (wrong.NoMode text) is h = absurd h
 wrong_call words line (wrong.LongSocket path) is h = absurd h
 wrong_call words line wrong.NoAddress is h = absurd h
+wrong_call words line wrong.TokenAlone is h = absurd h
 wrong_call words line (wrong.NoRange text) is h = absurd h
 wrong_call words line wrong.PipesAndPrints is h = absurd h
 

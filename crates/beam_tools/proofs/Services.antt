@@ -4,7 +4,7 @@ use Rattle.clap.specs.Words.{Row, Text, first_of, one_of}
 use Rattle.beam_tools.specs.declared.line.LogLevel.{LogLevel}
 use Rattle.beam_tools.specs.declared.line.SyncMode.{SyncMode}
 use Rattle.beam_tools.specs.declared.serve_options.ServeNumbers.{ServeNumbers}
-use Rattle.beam_tools.specs.Prelude.{AddressLines, SocketLine, StartLine, addresses_in, addresses_with, count_of, files_in, is_stop_set, journal_in, level_of, log_in, mode_of, numbers_in, port_in, serve_in, serve_with, socket_in, socket_with, start_in, sync_in, sync_of}
+use Rattle.beam_tools.specs.Prelude.{AddressLines, HttpLine, SocketLine, StartLine, addresses_in, addresses_with, count_of, files_in, http_in, is_stop_set, journal_in, level_of, log_in, mode_of, numbers_in, port_in, serve_in, serve_with, socket_in, socket_with, start_in, sync_in, sync_of}
 
 -- without addresses there is no service
 no_addresses : (n : Option ServeNumbers) (log : Option LogLevel) (start : Option (Option StartLine)) (journal : Option (Option Text)) (sync : Option SyncMode)
@@ -21,17 +21,32 @@ unaddressed rows missing =
 
 -- rows whose text for the port writes none make no service
 pub no_port : (rows : List Row) → port_in rows ≡ None → serve_in rows ≡ None
-no_port rows missing = unaddressed rows (ap (λ (port : Option (Option ℕ)). addresses_with port (socket_in rows)) missing)
+no_port rows missing = unaddressed rows (ap (λ (port : Option (Option ℕ)). addresses_with port (socket_in rows) (http_in rows)) missing)
 
-without_socket : (port : Option (Option ℕ)) → addresses_with port None ≡ None
-without_socket None = refl
-without_socket (Some None) = refl
-without_socket (Some (Some port)) = refl
+without_socket : (port : Option (Option ℕ)) (http : Option (Option HttpLine)) → addresses_with port None http ≡ None
+without_socket None http = refl
+without_socket (Some None) http = refl
+without_socket (Some (Some port)) http = refl
 
 -- rows that don't say whether a socket is listened on make no service
 no_socket : (rows : List Row) → socket_in rows ≡ None → serve_in rows ≡ None
 no_socket rows missing =
-    unaddressed rows (ap (λ (socket : Option (Option SocketLine)). addresses_with (port_in rows) socket) missing ∙ without_socket (port_in rows))
+    unaddressed rows (ap (λ (socket : Option (Option SocketLine)). addresses_with (port_in rows) socket (http_in rows)) missing
+    ∙ without_socket (port_in rows) (http_in rows))
+
+without_http : (port : Option (Option ℕ)) (socket : Option (Option SocketLine)) → addresses_with port socket None ≡ None
+without_http None socket = refl
+without_http (Some None) None = refl
+without_http (Some None) (Some None) = refl
+without_http (Some None) (Some (Some socket)) = refl
+without_http (Some (Some port)) None = refl
+without_http (Some (Some port)) (Some socket) = refl
+
+-- rows that don't say whether there is a page make no service
+pub no_http : (rows : List Row) → http_in rows ≡ None → serve_in rows ≡ None
+no_http rows missing =
+    unaddressed rows (ap (λ (http : Option (Option HttpLine)). addresses_with (port_in rows) (socket_in rows) http) missing
+    ∙ without_http (port_in rows) (socket_in rows))
 
 -- rows in which no mode is given make no service
 pub no_mode : (rows : List Row) → first_of (codes "socket-mode") rows ≡ None → serve_in rows ≡ None

@@ -38,6 +38,7 @@ before_word wrong.StopsWithJournal = codes "--stop-when-full and --journal exclu
 before_word (wrong.NoMode text) = codes "--socket-mode "
 before_word (wrong.LongSocket path) = codes "--socket "
 before_word wrong.NoAddress = codes "neither --port nor --socket"
+before_word wrong.TokenAlone = codes "--http-token needs --http"
 before_word (wrong.NoRange text) = codes "--print "
 before_word wrong.PipesAndPrints = codes "--pipe excludes --print and --inspect"
 
@@ -57,6 +58,7 @@ word_of wrong.StopsWithJournal = []
 word_of (wrong.NoMode text) = text.now
 word_of (wrong.LongSocket path) = path.now
 word_of wrong.NoAddress = []
+word_of wrong.TokenAlone = []
 word_of (wrong.NoRange text) = text.now
 word_of wrong.PipesAndPrints = []
 

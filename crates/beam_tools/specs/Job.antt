@@ -62,6 +62,8 @@ abbrev pub job_message : JobFault → List ℕ
 job_message (fault.Pipe why os_error) = session_message why
 job_message (fault.Net port os_error) = port_message port
 job_message (fault.Socket f) = socket_message f
+job_message (fault.Http port os_error) = port_message port
+job_message (fault.Token name) = codes "beamnode: " ++ name.now ++ codes ": WriteFailed\n"
 job_message (fault.File f) = message_of Node (File f)
 job_message (fault.Start refused) = start_message refused
 job_message fault.LongName = codes "beamnode: serve: TooLong\n"
@@ -78,6 +80,7 @@ job_message (fault.LongView name) = codes "beamnode: " ++ name.now ++ codes ": T
 abbrev pub job_place : JobFault → List ℕ
 job_place (fault.Pipe why (Some os_error)) = os_error_line os_error
 job_place (fault.Net port os_error) = os_error_line os_error
+job_place (fault.Http port os_error) = os_error_line os_error
 job_place (fault.Socket f) = socket_place f.why
 job_place (fault.File f) = file_place [] f.why
 job_place (fault.Journal f) = journal_place f.why

@@ -56,6 +56,7 @@ ServeIsWrong rows wrong.StopsWithJournal = (is_stop_set rows ≡ true) × ((name
 ServeIsWrong rows (wrong.NoMode text) = (first_of (codes "socket-mode") rows ≡ Some text.now) × (mode_of text.now ≡ None)
 ServeIsWrong rows (wrong.LongSocket path) = (first_of (codes "socket") rows ≡ Some path.now) × (102 < length path.now)
 ServeIsWrong rows wrong.NoAddress = (first_of (codes "port") rows ≡ None) × (first_of (codes "socket") rows ≡ None)
+ServeIsWrong rows wrong.TokenAlone = (first_of (codes "http") rows ≡ None) × ((name : Text) × (first_of (codes "http-token") rows ≡ Some name))
 ServeIsWrong rows wrong.NoCommand = serve_in rows ≡ None
 ServeIsWrong rows _ = ⊥
 
@@ -103,6 +104,7 @@ WrongSays app words wrong.StopsWithJournal = AskToServeWrongly words wrong.Stops
 WrongSays app words (wrong.NoMode text) = AskToServeWrongly words (wrong.NoMode text)
 WrongSays app words (wrong.LongSocket path) = AskToServeWrongly words (wrong.LongSocket path)
 WrongSays app words wrong.NoAddress = AskToServeWrongly words wrong.NoAddress
+WrongSays app words wrong.TokenAlone = AskToServeWrongly words wrong.TokenAlone
 WrongSays app words (wrong.NoRange text) = AskToReplayWrongly words (wrong.NoRange text)
 WrongSays app words wrong.PipesAndPrints = AskToReplayWrongly words wrong.PipesAndPrints
 
@@ -148,6 +150,7 @@ OptionsStop entered (stop.Wrong wrong.StopsWithJournal) = EntersWrongly entered 
 OptionsStop entered (stop.Wrong (wrong.NoMode text)) = EntersWrongly entered (wrong.NoMode text)
 OptionsStop entered (stop.Wrong (wrong.LongSocket path)) = EntersWrongly entered (wrong.LongSocket path)
 OptionsStop entered (stop.Wrong wrong.NoAddress) = EntersWrongly entered wrong.NoAddress
+OptionsStop entered (stop.Wrong wrong.TokenAlone) = EntersWrongly entered wrong.TokenAlone
 OptionsStop entered (stop.Wrong (wrong.NoRange text)) = EntersReplayWrongly entered (wrong.NoRange text)
 OptionsStop entered (stop.Wrong wrong.PipesAndPrints) = EntersReplayWrongly entered wrong.PipesAndPrints
 OptionsStop entered stop.NoMemory = ⊤

@@ -15,6 +15,7 @@ use Rattle.beam_tools.specs.declared.entry_range.EntryRange.{EntryRange}
 use Rattle.beam_tools.specs.declared.line.Call.{Call as CallOptions}
 use Rattle.beam_tools.specs.declared.line.LogLevel.{LogLevel}
 use Rattle.beam_tools.specs.declared.line.LogLevel.TheVariants.{Error, Info, Warn}
+use Rattle.beam_tools.specs.declared.line.HttpOptions.{HttpOptions}
 use Rattle.beam_tools.specs.declared.line.Options.{Options}
 use Rattle.beam_tools.specs.declared.line.Replay.{Replay as ReplayOptions}
 use Rattle.beam_tools.specs.declared.line.ReplayGoal.{ReplayGoal}
@@ -71,6 +72,14 @@ socket_clients_rule = record (option_rule (codes "socket-clients")) {
   defaults = codes "4" ∷ [];
   parser = Some (vp.Signed (pos 1) (pos 16));
 }
+
+-- `--http P`, a number of 16 bits
+abbrev pub http_rule : Rule
+http_rule = record (option_rule (codes "http")) { parser = Some (vp.Signed (pos 0) (pos 65535)) }
+
+-- `--http-token FILE`
+abbrev pub http_token_rule : Rule
+http_token_rule = option_rule (codes "http-token")
 
 -- `--connections K`, a number of 32 bits, 0 where it is left out
 abbrev pub connections_rule : Rule
@@ -149,9 +158,13 @@ address_app =
     with_rule (with_rule (with_rule (with_rule (with_rule (new_app (codes "serve")) verbose_rule) port_rule) socket_rule) socket_mode_rule)
     socket_clients_rule
 
--- then come those about its connections and its threads
+-- then come those about its page
+abbrev pub http_app : App
+http_app = with_rule (with_rule address_app http_rule) http_token_rule
+
+-- and those about its connections and its threads
 abbrev pub threads_app : App
-threads_app = with_rule (with_rule (with_rule address_app connections_rule) clients_rule) schedulers_rule
+threads_app = with_rule (with_rule (with_rule http_app connections_rule) clients_rule) schedulers_rule
 
 -- and those about its log and its journal
 abbrev pub journal_app : App
@@ -214,13 +227,19 @@ pub record SocketLine : Type 0 where
   pub mode : ℕ
   pub clients : ℕ
 
--- the arguments of `serve`: the port, if any, and the socket, if any; how many connections are served, 0 for no end, and how many of the
+-- a page: its port, and the file of its token, if it has one
+pub record HttpLine : Type 0 where
+  pub port : ℕ
+  pub token : Option Text
+
+-- the arguments of `serve`: the port, if any, the socket, if any, and the page, if any; how many connections are served, 0 for no end, and how many of the
 -- port at once; how many scheduler threads run; how much is logged; the seconds after which a silent session ends, 0 for never; whether the
 -- node ends when its journal is full; how many entries the journal may have; the files to load; the function with which a process starts
 -- then; the file that keeps the journal, and when it is put on the device
 pub record ServeLine : Type 0 where
   pub port : Option ℕ
   pub socket : Option SocketLine
+  pub http : Option HttpLine
   pub connections : ℕ
   pub clients : ℕ
   pub schedulers : ℕ
@@ -303,10 +322,11 @@ is_octal text = nat_lt 0 (length text) && nat_le (length text) 4 && list_all (λ
 abbrev pub mode_of : Text → Option ℕ
 mode_of text = if is_octal text && nat_le (digits_value 8 text) 511 then Some (digits_value 8 text) else None
 
--- where a service listens: at a port of 127.0.0.1, at a socket, or at both
+-- where a service listens: at a port of 127.0.0.1, at a socket, or at both; and for its page
 pub record AddressLines : Type 0 where
   pub port : Option ℕ
   pub socket : Option SocketLine
+  pub http : Option HttpLine
 
 -- the port, where one is given
 abbrev pub port_given : Option Text → Option ℕ → Option (Option ℕ)
@@ -332,14 +352,23 @@ socket_with _ _ _ = None
 abbrev pub socket_in : List Row → Option (Option SocketLine)
 socket_in rows = socket_with (mode_in rows) (option_and_then count_of (one_of (codes "socket-clients") rows)) (first_of (codes "socket") rows)
 
--- the addresses of a service, of which there is at least one
-abbrev pub addresses_with : Option (Option ℕ) → Option (Option SocketLine) → Option AddressLines
-addresses_with (Some (Some port)) (Some socket) = Some (record { port = Some port; socket = socket })
-addresses_with (Some None) (Some (Some socket)) = Some (record { port = None; socket = Some socket })
-addresses_with _ _ = None
+-- the page, where its port is given; no token is without it
+abbrev pub http_with : Option Text → Option ℕ → Option Text → Option (Option HttpLine)
+http_with None port None = Some None
+http_with None port (Some file) = None
+http_with (Some text) port file = option_map (λ p. Some (record { port = p; token = file })) port
+
+abbrev pub http_in : List Row → Option (Option HttpLine)
+http_in rows = http_with (first_of (codes "http") rows) (option_and_then port_of (one_of (codes "http") rows)) (first_of (codes "http-token") rows)
+
+-- the addresses of a service, of which there is at least one beside that of the page
+abbrev pub addresses_with : Option (Option ℕ) → Option (Option SocketLine) → Option (Option HttpLine) → Option AddressLines
+addresses_with (Some (Some port)) (Some socket) (Some http) = Some (record { port = Some port; socket = socket; http = http })
+addresses_with (Some None) (Some (Some socket)) (Some http) = Some (record { port = None; socket = Some socket; http = http })
+addresses_with _ _ _ = None
 
 abbrev pub addresses_in : List Row → Option AddressLines
-addresses_in rows = addresses_with (port_in rows) (socket_in rows)
+addresses_in rows = addresses_with (port_in rows) (socket_in rows) (http_in rows)
 
 -- the numbers of a service, if each of them is there
 abbrev pub numbers_with : Option ℕ → Option ℕ → Option ℕ → Option ℕ → Option ℕ → Option ServeNumbers
@@ -398,6 +427,7 @@ abbrev pub serve_with :
 serve_with (Some n) (Some addresses) (Some log) (Some start) (Some journal) (Some sync) stops files = Some (serve (record {
   port = addresses.port;
   socket = addresses.socket;
+  http = addresses.http;
   connections = n.connections;
   clients = n.clients;
   schedulers = n.schedulers;
@@ -527,13 +557,17 @@ start_line s = record { module_name = s.module.now; function_name = s.function.n
 abbrev pub socket_line : SocketOptions → SocketLine
 socket_line s = record { path = s.path.now; mode = s.mode; clients = s.clients }
 
+abbrev pub http_line : HttpOptions → HttpLine
+http_line h = record { port = h.port; token = option_map (λ s. s.now) h.token }
+
 abbrev pub address_lines : Addresses → AddressLines
-address_lines a = record { port = a.port; socket = option_map socket_line a.socket }
+address_lines a = record { port = a.port; socket = option_map socket_line a.socket; http = option_map http_line a.http }
 
 abbrev pub serve_line : ServeOptions → ServeLine
 serve_line s = record {
   port = s.port;
   socket = option_map socket_line s.socket;
+  http = option_map http_line s.http;
   connections = s.connections;
   clients = s.clients;
   schedulers = s.schedulers;

@@ -32,6 +32,8 @@ pub enum Wrong<'a> {
     LongSocket(&'a str),
     /// Neither a port nor a socket is named.
     NoAddress,
+    /// A file of a token is named, and no port of a page.
+    TokenAlone,
     /// Text that isn't two numbers with two full stops between, of which the first is at most the second.
     NoRange(&'a str),
     /// A replay that answers commands is to print entries or a process.
@@ -56,6 +58,7 @@ impl Drop for Wrong<'_> {
             | Wrong::NoMode(_)
             | Wrong::LongSocket(_)
             | Wrong::NoAddress
+            | Wrong::TokenAlone
             | Wrong::NoRange(_)
             | Wrong::PipesAndPrints => {}
         }

@@ -45,6 +45,10 @@ pub enum JobFault<'a> {
     Net(u16, OsError),
     /// The socket can't be listened on, or accepting at it fails.
     Socket(SocketFault<'a>),
+    /// Listening for the page fails at this port of 127.0.0.1: the operating system's error.
+    Http(u16, OsError),
+    /// The token of the page can't be made, or not be written to the file of this name.
+    Token(&'a str),
     /// A file can't be loaded.
     File(FileFault<'a>),
     /// The node refuses to start the process.
@@ -136,7 +140,7 @@ fn tell_fault<E: Errors>(fault: &JobFault<'_>, errors: &mut E)
 {
     match fault {
         JobFault::Pipe(why, _) => tell_session(*why, errors),
-        JobFault::Net(port, _) => tell_net(*port, errors),
+        JobFault::Net(port, _) | JobFault::Http(port, _) => tell_net(*port, errors),
         JobFault::Socket(socket) => tell_socket(socket, errors),
         JobFault::File(file) => tell_file(Program::Node, file, errors),
         JobFault::Start(refused) => tell_start(*refused, errors),
@@ -147,6 +151,7 @@ fn tell_fault<E: Errors>(fault: &JobFault<'_>, errors: &mut E)
         JobFault::Unwritten => errors.tell(b"beamnode: output: WriteFailed\n"),
         JobFault::NoMemory => errors.tell(b"beamnode: NoMemory\n"),
         JobFault::Journal(journal) => tell_journal(journal, errors),
+        JobFault::Token(name) => tell_file_end(name, b": WriteFailed\n", errors),
         JobFault::NoProcess(name) => tell_file_end(name, b": NoProcess\n", errors),
         JobFault::LongView(name) => tell_file_end(name, b": TooLong\n", errors),
     }
@@ -158,7 +163,9 @@ fn tell_cause<E: Errors>(fault: &JobFault<'_>, errors: &mut E)
 {
     match fault {
         JobFault::Pipe(_, Some(os_error)) => tell_os_error(*os_error, errors),
-        JobFault::Net(_, os_error) => tell_os_error(*os_error, errors),
+        JobFault::Net(_, os_error) | JobFault::Http(_, os_error) => tell_os_error(
+            *os_error, errors,
+        ),
         JobFault::Socket(socket) => tell_socket_place(socket.why, errors),
         JobFault::File(file) => tell_file_place(file.why, &[], errors),
         JobFault::Journal(journal) => tell_journal_place(journal.why, errors),

@@ -83,12 +83,23 @@ pub struct SocketOptions<'a> {
     pub clients: u8,
 }
 
+/// A page over a node, and its looks and its stop, by HTTP.
+#[derive(Clone, Copy)]
+pub struct HttpOptions<'a> {
+    /// The port of 127.0.0.1; 0 for one that is free.
+    pub port: u16,
+    /// The name of the file to which a token is written, if one is asked for.
+    pub token: Option<&'a str>,
+}
+
 /// The options of `beamnode serve`.
 pub struct Serve<'a> {
     /// The port of 127.0.0.1; 0 for one that is free; none where there is a socket alone.
     pub port: Option<u16>,
     /// The socket, if any. There is a port, a socket or both.
     pub socket: Option<SocketOptions<'a>>,
+    /// The page, if any.
+    pub http: Option<HttpOptions<'a>>,
     /// How many connections are served; 0 for no end.
     pub connections: u32,
     /// How many connections to the port are served at once, from 1 to 16.
@@ -118,6 +129,7 @@ impl Drop for Serve<'_> {
         let Serve {
             port: _port,
             socket: _socket,
+            http: _http,
             connections: _connections,
             clients: _clients,
             schedulers: _schedulers,

@@ -42,8 +42,9 @@ const NODE_HELP: &str = "Runs compiled Erlang modules.
 usage: beamnode [-v] call --module M --function F [--args LIST] [--steps N] FILE..
        beamnode [-v] pipe
        beamnode [-v] serve [--port P] [--socket PATH] [--socket-mode MODE]
-                [--socket-clients S] [--connections K] [--clients C]
-                [--schedulers N] [--log LEVEL] [--idle SECONDS]
+                [--socket-clients S] [--http P] [--http-token FILE]
+                [--connections K] [--clients C] [--schedulers N]
+                [--log LEVEL] [--idle SECONDS]
                 [--stop-when-full] [--journal-limit N] [--journal FILE]
                 [--sync WHEN] [--start M:F] [FILE..]
        beamnode [-v] replay [--upto N] [--print FROM..TO] [--inspect PID] FILE
@@ -64,6 +65,8 @@ replay runs the entries of a journal's file again, and says what they are.
   --socket-mode MODE  who may connect to it, as chmod has it (default: 600)
   --socket-clients S  how many of its connections are served at once, 1 to 16
                       (default: 4)
+  --http P            the port of a page over the node, and of its metrics
+  --http-token FILE   asks for a token there, which is written to FILE
   --connections K     how many connections are served (default: 0, no end)
   --clients C         how many of the port's at once, 1 to 16 (default: 1)
   --schedulers N      the threads that run processes, 1 to 64 (default: 2)
@@ -92,8 +95,9 @@ const NODE_USAGE: &str =
     "usage: beamnode [-v] call --module M --function F [--args LIST] [--steps N] FILE..
        beamnode [-v] pipe
        beamnode [-v] serve [--port P] [--socket PATH] [--socket-mode MODE]
-                [--socket-clients S] [--connections K] [--clients C]
-                [--schedulers N] [--log LEVEL] [--idle SECONDS]
+                [--socket-clients S] [--http P] [--http-token FILE]
+                [--connections K] [--clients C] [--schedulers N]
+                [--log LEVEL] [--idle SECONDS]
                 [--stop-when-full] [--journal-limit N] [--journal FILE]
                 [--sync WHEN] [--start M:F] [FILE..]
        beamnode [-v] replay [--upto N] [--print FROM..TO] [--inspect PID] FILE

@@ -32,6 +32,7 @@ impl Wrong<'_> {
             Wrong::NoMode(_) => "--socket-mode ",
             Wrong::LongSocket(_) => "--socket ",
             Wrong::NoAddress => "neither --port nor --socket",
+            Wrong::TokenAlone => "--http-token needs --http",
             Wrong::NoRange(_) => "--print ",
             Wrong::PipesAndPrints => "--pipe excludes --print and --inspect",
         }
@@ -48,6 +49,7 @@ impl Wrong<'_> {
             | Wrong::NoFile
             | Wrong::StopsWithJournal
             | Wrong::NoAddress
+            | Wrong::TokenAlone
             | Wrong::PipesAndPrints => &[],
             Wrong::Same(word)
             | Wrong::LongModule(word)

@@ -2,13 +2,13 @@
 ghost use Rattle.std.specs.Prelude.{◌≡◌, IfErr, IfOk, None, Some, codes, map, option_map};
 ghost use Rattle.clap.specs.Words.{first_of, found_of, rows_of};
 ghost use Rattle.beam_tools.specs.Lines.{ServeStops};
-ghost use Rattle.beam_tools.specs.Options.{address_lines, addresses_in, as_line, files_in, is_stop_set, journal_in, level_of, log_in};
+ghost use Rattle.beam_tools.specs.Options.{address_lines, addresses_in, as_line, files_in, http_in, http_line, is_stop_set, journal_in, level_of, log_in};
 ghost use Rattle.beam_tools.specs.Options.{mode_in, mode_of, numbers_in, port_in, serve_in, socket_in, socket_line, start_in};
 ghost use Rattle.beam_tools.specs.Options.{start_line, start_of, sync_in, sync_of};
 
 use crate::command::text_of;
 use crate::early_exit::{EarlyExit, Wrong};
-use crate::line::{LogLevel, Options, Serve, SocketOptions, Start, SyncMode};
+use crate::line::{HttpOptions, LogLevel, Options, Serve, SocketOptions, Start, SyncMode};
 use crate::table::{ArgumentForm, ArgumentRow, FLAG, OPTION, POSITIONAL, VERBOSE};
 use crate::values::{count_of, number_of, port_of, texts_of};
 use clap::{ArgAction, ArgMatches};
@@ -21,7 +21,7 @@ const MOST_PATH_BYTES: usize = 102;
 const MOST_MODE: u32 = 0o777;
 
 /// The arguments of `serve`.
-pub const SERVE: [ArgumentRow; 16] = [
+pub const SERVE: [ArgumentRow; 18] = [
     VERBOSE,
     ArgumentRow {
         id: "port",
@@ -45,6 +45,17 @@ pub const SERVE: [ArgumentRow; 16] = [
         form: ArgumentForm::Number(1, 16),
         value_names: &["S"],
         defaults: &["4"],
+        ..OPTION
+    },
+    ArgumentRow {
+        id: "http",
+        form: ArgumentForm::Number(0, 65_535),
+        value_names: &["P"],
+        ..OPTION
+    },
+    ArgumentRow {
+        id: "http-token",
+        value_names: &["FILE"],
         ..OPTION
     },
     ArgumentRow {
@@ -187,11 +198,12 @@ fn numbers_in(matches: &ArgMatches<'_>) -> Option<ServeNumbers>
     })
 }
 
-// Where a service listens: at a port of 127.0.0.1, at a socket, or at both.
+// Where a service listens: at a port of 127.0.0.1, at a socket, or at both; and for its page, if it has one.
 #[derive(Clone, Copy)]
 struct Addresses<'a> {
     port: Option<u16>,
     socket: Option<SocketOptions<'a>>,
+    http: Option<HttpOptions<'a>>,
 }
 
 // The port that is listened on, if one is named.
@@ -248,17 +260,37 @@ fn socket_in<'a>(matches: &ArgMatches<'a>) -> Result<Option<SocketOptions<'a>>, 
     }))
 }
 
-// The addresses of a service, of which there is at least one.
+// The page, if its port is named. Without that no file of a token may be.
+#[tactic(auto, using(crate::proofs::Services::no_http))]
+fn http_in<'a>(matches: &ArgMatches<'a>) -> Result<Option<HttpOptions<'a>>, EarlyExit<'a>>
+    ensures http { IfOk result (λ http. http_in (rows_of (found_of matches.now)) ≡ Some (option_map http_line http)) }
+    ensures stop { IfErr result (ServeStops (rows_of (found_of matches.now))) }
+{
+    let token = text_of(matches, "http-token");
+    if text_of(matches, "http").is_none() {
+        return match token {
+            Some(_) => Err(EarlyExit::Wrong(Wrong::TokenAlone)),
+            None => Ok(None),
+        };
+    }
+    match port_of(matches, "http") {
+        Some(port) => Ok(Some(HttpOptions { port, token })),
+        None => Err(EarlyExit::Wrong(Wrong::NoCommand)),
+    }
+}
+
+// The addresses of a service, of which there is at least one beside that of the page.
 fn addresses_in<'a>(matches: &ArgMatches<'a>) -> Result<Addresses<'a>, EarlyExit<'a>>
     ensures addresses { IfOk result (λ a. addresses_in (rows_of (found_of matches.now)) ≡ Some (address_lines a)) }
     ensures stop { IfErr result (ServeStops (rows_of (found_of matches.now))) }
 {
     let port = port_in(matches)?;
     let socket = socket_in(matches)?;
+    let http = http_in(matches)?;
     if port.is_none() && socket.is_none() {
         return Err(EarlyExit::Wrong(Wrong::NoAddress));
     }
-    Ok(Addresses { port, socket })
+    Ok(Addresses { port, socket, http })
 }
 
 #[tactic(auto, using(crate::proofs::Services::no_log))]
@@ -341,7 +373,7 @@ fn files_in<'a>(alloc: Global, matches: &ArgMatches<'a>) -> Result<Vec<&'a str>,
 /// The service in the matches of `serve`.
 ///
 /// `Wrong` where the mode of the socket's file isn't one to four octal digits up to 777, where the socket's path has more than 102 bytes,
-/// where there is neither a port nor a socket, where the level of the log is unknown, where the function to start has no name or no module,
+/// where there is neither a port nor a socket, where a file of a token is named and no port of a page, where the level of the log is unknown, where the function to start has no name or no module,
 /// where a journal's file is named and the node is to end when its journal is full, and where the time is unknown at which that file is put
 /// on the device; `NoMemory`.
 pub fn serve_in<'a>(alloc: Global, matches: &ArgMatches<'a>) -> Result<Options<'a>, EarlyExit<'a>>
@@ -360,6 +392,7 @@ pub fn serve_in<'a>(alloc: Global, matches: &ArgMatches<'a>) -> Result<Options<'
     Ok(Options::Serve(Serve {
         port: addresses.port,
         socket: addresses.socket,
+        http: addresses.http,
         connections: numbers.connections,
         clients: numbers.clients,
         schedulers: numbers.schedulers,

@@ -13,6 +13,9 @@ const LISTENING_AT_PORT: &str = "listening on 127.0.0.1:";
 /// Before the path of a socket in such a line.
 const LISTENING_AT_SOCKET: &str = "listening on /";
 
+/// Before the port of the page in such a line.
+const PAGE_AT_PORT: &str = "page at http://127.0.0.1:";
+
 /// A console whose output and error output a test reads, while the node runs and afterwards. Its time is always the beginning of 1970.
 #[derive(Drop)]
 pub struct TestConsole<'a, R> {
@@ -44,6 +47,14 @@ impl<'a, R: Wait + AllocGlobal> TestConsole<'a, R> {
             .as_str()
             .strip_prefix(LISTENING_AT_PORT)?
             .split_once('\n')?;
+        port.parse::<u16>().ok()
+    }
+
+    /// The port of the page in the line that the node printed, if it printed that.
+    pub fn page(&self) -> Option<u16> {
+        let printed = self.printed.lock(self.rt);
+        let (_, after) = printed.as_str().split_once(PAGE_AT_PORT)?;
+        let (port, _) = after.split_once('/')?;
         port.parse::<u16>().ok()
     }
 

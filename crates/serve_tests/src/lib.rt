@@ -10,7 +10,13 @@ mod journal_tests;
 #[cfg(test)]
 mod node_client;
 #[cfg(test)]
+mod page_rows;
+#[cfg(test)]
+mod page_tests;
+#[cfg(test)]
 mod progress;
+#[cfg(test)]
+mod responses;
 #[cfg(test)]
 mod serving;
 #[cfg(test)]

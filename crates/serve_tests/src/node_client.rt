@@ -1,6 +1,8 @@
 //! A client of a node that serves a port: what it does with its connections, step by step.
 
 use crate::console::TestConsole;
+use crate::responses::{is_exact, is_response};
+use beam_page::PAGE;
 use hex;
 use node_testing::frames::frames;
 use node_testing::test_deadline::TestDeadline;
@@ -27,8 +29,14 @@ pub enum Step {
     Connect,
     /// Makes the next connection, to the socket.
     ConnectToSocket,
-    /// The response to this request, over the socket of requests.
+    /// The status and the body of the response to this request, over the socket of requests.
     Ask(&'static str, &'static str),
+    /// Those of the response to this request, in which `PORT` stands for the number of the page's port, over that.
+    AskPage(&'static str, &'static str),
+    /// The page itself.
+    SeePage,
+    /// Makes the next connection, to the page's port.
+    ConnectToPage,
     /// Sends these frames.
     Send(usize, &'static str),
     /// The next bytes are these frames.
@@ -73,6 +81,9 @@ fn next_frame(alloc: Global, stream: &TcpStream) -> Vec<u8> {
     }
     frame
 }
+
+/// A request for the page.
+const SEE_PAGE: &str = "GET / HTTP/1.1\r\nHost: localhost:PORT\r\n\r\n";
 
 /// A request that stops a node.
 const STOP: &str = "POST /stop HTTP/1.1\r\nX-Kanguriwe: 1\r\n\r\n";
@@ -178,15 +189,86 @@ impl<'a, R: Net<Stream = TcpStream> + Wait + Clock + AllocGlobal> NodeClient<'a,
     }
 
     fn ask(&mut self, request: &str, response: &str) -> Result<(), &'static str> {
-        let mut stream = self.to_socket(".http")?;
-        if stream.write_all(request.as_bytes()).is_err() {
-            return Err("not sent");
+        let stream = self.to_socket(".http")?;
+        self.exchange(stream, request, 0)?;
+        self.has_response(response)
+    }
+
+    /// Waits until the node has printed where its page is. `None` if it ended before, or didn't in time.
+    fn wait_for_page(&self) -> Option<u16> {
+        for _ in 0..u32::MAX {
+            if let Some(port) = self.console.page() {
+                return Some(port);
+            }
+            if self.console.has_ended() || !self.deadline.lasts(self.rt) {
+                break;
+            }
         }
-        let mut came = Vec::new(self.rt.alloc());
+        None
+    }
+
+    /// A connection to the page's port, and its number.
+    fn to_page(&self) -> Result<(TcpStream, u16), &'static str> {
+        let Some(port) = self.wait_for_page() else {
+            return Err("it has no page");
+        };
+        match TcpStream::connect(self.rt, ("127.0.0.1", port)) {
+            Ok(stream) => Ok((limited(stream)?, port)),
+            Err(_) => Err("no connection"),
+        }
+    }
+
+    fn connect_to_page(&mut self) -> Result<(), &'static str> {
+        let (stream, _port) = self.to_page()?;
+        self.keep(stream)
+    }
+
+    fn see_page(&mut self) -> Result<(), &'static str> {
+        let (stream, port) = self.to_page()?;
+        self.exchange(stream, SEE_PAGE, port)?;
+        if is_exact(&self.came, "200 OK", PAGE) {
+            Ok(())
+        } else {
+            Err("another page")
+        }
+    }
+
+    fn ask_page(&mut self, request: &str, response: &str) -> Result<(), &'static str> {
+        let (stream, port) = self.to_page()?;
+        self.exchange(stream, request, port)?;
+        self.has_response(response)
+    }
+
+    /// Sends a request, in which `PORT` stands for a number, and keeps all that comes then.
+    fn exchange(
+        &mut self,
+        stream: TcpStream,
+        request: &str,
+        port: u16,
+    ) -> Result<(), &'static str> {
+        let alloc = self.rt.alloc();
+        let own = match request.split_once("PORT") {
+            Some((before, after)) => format!(in alloc; "{before}{port}{after}"),
+            None => format!(in alloc; "{request}"),
+        };
+        let mut stream = stream;
+        match own {
+            Ok(own) if stream.write_all(own.as_bytes()).is_ok() => {}
+            _ => return Err("not sent"),
+        }
+        let mut came = Vec::new(alloc);
         let is_whole = stream.read_to_end(&mut came).is_ok();
-        let is_wanted = is_whole && came.as_slice() == response.as_bytes();
         self.came = came;
-        if is_wanted {
+        if is_whole {
+            Ok(())
+        } else {
+            Err("no whole response")
+        }
+    }
+
+    /// Whether what came is the wanted response.
+    fn has_response(&self, response: &str) -> Result<(), &'static str> {
+        if is_response(&self.came, response) {
             Ok(())
         } else {
             Err("another response")
@@ -292,6 +374,9 @@ impl<'a, R: Net<Stream = TcpStream> + Wait + Clock + AllocGlobal> NodeClient<'a,
             Step::Connect => self.connect(),
             Step::ConnectToSocket => self.connect_to_socket(),
             Step::Ask(request, response) => self.ask(request, response),
+            Step::AskPage(request, response) => self.ask_page(request, response),
+            Step::SeePage => self.see_page(),
+            Step::ConnectToPage => self.connect_to_page(),
             Step::Send(number, text) => self.send(number, text),
             Step::Receive(number, text) => self.receive(number, text),
             Step::Poll(number, command, reply) => self.poll(number, command, reply),

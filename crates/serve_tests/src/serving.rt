@@ -26,7 +26,8 @@ const PROCESS_STATUS: &str = "/proc/self/status";
 
 /// A word of a command line, which is put into the folder if it is the name of a file.
 fn word_in(alloc: Global, folder: &str, word: &str) -> Result<String, AllocError> {
-    if word.ends_with(".beam") || word.ends_with(".journal") || word.ends_with(".socket") {
+    let ends = [".beam", ".journal", ".socket", ".token"];
+    if ends.iter().any(|end| word.ends_with(*end)) {
         format!(in alloc; "{folder}/{word}")
     } else {
         format!(in alloc; "{word}")
@@ -99,6 +100,18 @@ fn log_text(alloc: Global, log: &str) -> Result<String, AllocError> {
         text.push_str(&log_line(alloc, line)?)?;
     }
     Ok(text)
+}
+
+/// What was printed, with `has a page` in the place of the line about that.
+fn without_page(alloc: Global, page: Option<u16>, printed: &str) -> Result<String, AllocError> {
+    let Some(page) = page else {
+        return format!(in alloc; "{printed}");
+    };
+    let wanted = format!(in alloc; "page at http://127.0.0.1:{page}/\n")?;
+    match printed.split_once(wanted.as_str()) {
+        Some((before, after)) => format!(in alloc; "{before}has a page\n{after}"),
+        None => format!(in alloc; "{printed}"),
+    }
 }
 
 /// What was printed, with `listens` in the place of the line about the port.
@@ -187,9 +200,10 @@ pub fn outcome<
     let lines = LogLines::new(alloc)?;
     let process_status = File::open(rt, PROCESS_STATUS)?;
     let (miss, (status, errors)) = run(rt, words, steps, &console, &lines, process_status)?;
-    let port = console.port();
+    let (port, page) = (console.port(), console.page());
     let (printed, logged) = console.into_texts();
-    let printed = printed_text(alloc, port, &printed)?;
+    let printed = without_page(alloc, page, &printed)?;
+    let printed = printed_text(alloc, port, printed.as_str())?;
     let logged = log_text(alloc, &logged)?;
     let errors = String::from_utf8(errors)?;
     Ok(format!(in alloc; "{miss}{printed}{logged}{errors}status {status}\n")?)

@@ -10,23 +10,17 @@ const NONE: &str = "00000009050000000000000000";
 const STOP: &str =
     "POST /stop HTTP/1.1\r\nHost: localhost\r\nX-Kanguriwe: 1\r\nContent-Length: 0\r\n\r\n";
 
-const STOPPING: &str =
-    "HTTP/1.1 202 Accepted\r\nContent-Type: text/plain; charset=utf-8\r\nCache-Control: no-store\r\nConnection: close\r\nContent-Length: 18\r\n\r\n{\"stopping\":true}\n";
+const STOPPING: &str = "202 Accepted\n{\"stopping\":true}\n";
 
-const OK: &str =
-    "HTTP/1.1 200 OK\r\nContent-Type: text/plain; charset=utf-8\r\nCache-Control: no-store\r\nConnection: close\r\nContent-Length: 3\r\n\r\nok\n";
+const OK: &str = "200 OK\nok\n";
 
-const FORBIDDEN: &str =
-    "HTTP/1.1 403 Forbidden\r\nContent-Type: text/plain; charset=utf-8\r\nCache-Control: no-store\r\nConnection: close\r\nContent-Length: 23\r\n\r\nX-Kanguriwe is missing\n";
+const FORBIDDEN: &str = "403 Forbidden\nnot from here\n";
 
-const NOT_ALLOWED: &str =
-    "HTTP/1.1 405 Method Not Allowed\r\nContent-Type: text/plain; charset=utf-8\r\nCache-Control: no-store\r\nConnection: close\r\nContent-Length: 19\r\n\r\nnot by this method\n";
+const NOT_ALLOWED: &str = "405 Method Not Allowed\nnot by this method\n";
 
-const NOT_FOUND: &str =
-    "HTTP/1.1 404 Not Found\r\nContent-Type: text/plain; charset=utf-8\r\nCache-Control: no-store\r\nConnection: close\r\nContent-Length: 17\r\n\r\nnothing is there\n";
+const NOT_FOUND: &str = "404 Not Found\nnothing is there\n";
 
-const BAD_REQUEST: &str =
-    "HTTP/1.1 400 Bad Request\r\nContent-Type: text/plain; charset=utf-8\r\nCache-Control: no-store\r\nConnection: close\r\nContent-Length: 11\r\n\r\nno request\n";
+const BAD_REQUEST: &str = "400 Bad Request\nno request\n";
 
 const SOCKETS: [NodeRow; 6] = [
     NodeRow {

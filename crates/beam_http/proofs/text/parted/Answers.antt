@@ -1,0 +1,15 @@
+use Rattle.std.proofs.Common.{ℕ, ◌==◌, length, take, sym, ap, ◌∙◌, arith, rules, take_all}
+use Rattle.std.proofs.lemmas.List.Sums.{position_or_len_is}
+use Rattle.beam_http.proofs.text.parted.Goals as goal
+
+pub returns-in-Some : goal.returns-in-Some
+returns-in-Some c =
+    let target = c.args.target.now in
+    let found = position_or_len_is (λ (b : ℕ). b == 63) target c.in-Some.place 0 (search rules) (search rules) (search rules) in
+    ap (λ n. take n target) (sym found)
+
+pub returns-in-None : goal.returns-in-None
+returns-in-None c =
+    let target = c.args.target.now in
+    let none = position_or_len_is (λ (b : ℕ). b == 63) target (length target) 0 (omega arith) (search rules) (search rules) in
+    sym (ap (λ n. take n target) none ∙ take_all (length target) target (omega arith))

@@ -1,0 +1,4 @@
+pub mod After
+pub mod Away
+pub mod Counts
+pub mod Modules

@@ -1,0 +1,11 @@
+pub mod Connections
+pub mod Journals
+pub mod Json
+pub mod Logs
+pub mod MetricNames
+pub mod MetricText
+pub mod Metrics
+pub mod Modules
+pub mod Nodes
+pub mod ProcessDetails
+pub mod Processes
